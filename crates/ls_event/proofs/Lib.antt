@@ -1,0 +1,4 @@
+pub mod Merged
+pub mod Cuts
+pub mod Histories
+pub mod Rows

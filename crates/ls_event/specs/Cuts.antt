@@ -1,0 +1,90 @@
+-- The cuts of a slot: what the next line is made of, over numbers and the whole history (General Concepts, buffers).
+use Rattle.std.specs.Prelude.{◌≡◌, ℕ, ◌+◌, ◌-◌, List, [], ◌∷◌, length, replicate, Bool, true, false, not, ◌||◌, Option, None, Some, nat_lt, max, if◌then◌else◌}
+use Rattle.ls_value.specs.declared.row.Value.{Value}
+use Rattle.ls_value.specs.declared.row.Value.TheVariants as value
+use Rattle.ls_value.specs.declared.row.Cell.{Cell}
+use Rattle.ls_value.specs.declared.row.Cell.TheVariants as cell
+use Rattle.ls_event.specs.declared.event.Event.{Event}
+use Rattle.ls_event.specs.declared.event.Event.TheVariants.{Update, Clear}
+use Rattle.ls_event.specs.declared.event.Entry.{Entry}
+use Rattle.ls_event.specs.declared.event.Mode.{Mode}
+use Rattle.ls_event.specs.declared.event.Mode.TheVariants as mode
+use Rattle.ls_event.specs.declared.event.Taken.{Taken}
+use Rattle.ls_event.specs.declared.event.Taken.TheVariants as taken
+use Rattle.ls_event.specs.History.{between, merged}
+use Rattle.ls_event.specs.Slots.{Slot}
+
+-- whether a cell says a value
+abbrev pub says : Cell → Bool
+says cell.Same = false
+says cell.Null = true
+says (cell.Text t) = true
+
+-- which fields were touched, after one more update
+abbrev pub touched_cells : List Bool → List Cell → List Bool
+touched_cells [] cells = []
+touched_cells (t ∷ ts) [] = t ∷ ts
+touched_cells (t ∷ ts) (c ∷ cs) = (t || says c) ∷ touched_cells ts cs
+
+-- which fields were touched, after one more event; a Clear touches all
+abbrev pub touched_after : List Bool → Event → List Bool
+touched_after ts (Update cells) = touched_cells ts cells
+touched_after ts Clear = replicate (length ts) true
+
+-- which fields were touched, after these entries
+abbrev pub touched_after_all : List Bool → List Entry → List Bool
+touched_after_all ts [] = ts
+touched_after_all ts (e ∷ es) = touched_after_all (touched_after ts e.event) es
+
+-- the cell that says a value
+abbrev pub told : Value → Cell
+told value.Null = cell.Null
+told (value.Text t) = cell.Text t
+
+-- cells that say the values of the fields that are set, and Same elsewhere
+abbrev pub told_cells : List Bool → List Value → List Cell
+told_cells [] row = []
+told_cells (t ∷ ts) [] = []
+told_cells (t ∷ ts) (v ∷ row) = (if t then told v else cell.Same) ∷ told_cells ts row
+
+-- the fields that a cut up to a number tells: those touched since the slot's place, and every one before the first line
+abbrev pub flags_to : List Entry → Slot → ℕ → List Bool
+flags_to h s to = touched_after_all (replicate s.plan.fields (not s.given)) (between h s.place to)
+
+-- the cut up to a number
+abbrev pub change_to : List Entry → Slot → ℕ → Taken
+change_to h s to = taken.Change (told_cells (flags_to h s to) (merged s.plan.fields h to)) to
+
+-- the place that the next cut of mode MERGE moves to: at most the last n events are told of one by one
+abbrev pub next_place : Slot → ℕ
+next_place s = max s.place (s.last - s.plan.size) + 1
+
+-- the next cut of mode MERGE
+abbrev pub merge_cut : List Entry → Slot → Option Taken
+merge_cut h s = if nat_lt s.place s.last then Some (change_to h s (next_place s)) else None
+
+-- the next cut of a mode; slots of the modes RAW, DISTINCT and COMMAND aren't built yet, and have none
+abbrev pub cut_of : Mode → List Entry → Slot → Option Taken
+cut_of mode.Merge h s = merge_cut h s
+cut_of mode.Raw h s = None
+cut_of mode.Distinct h s = None
+cut_of mode.Command h s = None
+
+-- the next cut of a slot
+abbrev pub cut : List Entry → Slot → Option Taken
+cut h s = cut_of s.plan.mode h s
+
+-- whether a slot is pending: a row of the snapshot, its end or an event isn't told yet
+abbrev pub pending : Slot → Bool
+pending s = nat_lt 0 s.owed || s.ends || nat_lt s.place s.last
+
+-- what a cut tells of fields has a value or a cell for each
+abbrev pub Fits : ℕ → Option Taken → Type 0
+Fits fields (Some (taken.Row row upto)) = length row ≡ fields
+Fits fields (Some (taken.Change cells upto)) = length cells ≡ fields
+Fits fields (Some (taken.Key key (Some row) upto)) = length row ≡ fields
+Fits fields (Some (taken.Key key None upto)) = Unit {0}
+Fits fields (Some (taken.Lost count upto)) = Unit {0}
+Fits fields (Some (taken.Cleared upto)) = Unit {0}
+Fits fields (Some taken.EndOfSnapshot) = Unit {0}
+Fits fields None = Unit {0}

@@ -1,0 +1,85 @@
+//! What a slot still has to tell, in any mode.
+ghost use Rattle.std.specs.Prelude.{◌≡◌, ◌+◌, ◌<◌, ◌^◌, ℕ, List, ◌++◌, Bool, Option, Some, IfOk, OnOk, OnErr, IsSome};
+ghost use Rattle.ls_event.specs.Slots.{Slot, IsNext, enqueued, passed};
+ghost use Rattle.ls_event.specs.Cuts.{cut, pending as is_pending, Fits};
+ghost use Rattle.ls_event.specs.declared.event.Entry.{Entry};
+ghost use Rattle.ls_event.specs.declared.event.Event.{Event as AnEvent};
+ghost use Rattle.ls_event.specs.declared.event.Taken.{Taken};
+
+use crate::event::{Stored, Taken};
+use ls_value::NoMemory;
+use std::alloc::Global;
+
+/// The buffer of a slot: the events that were enqueued and are not told yet, as far as the slot's mode keeps them.
+pub trait Buffer {
+    /// The slots and histories that it stands for.
+    ghost stands: { Self → Slot → List Entry → Type 0 };
+
+    /// The number that was enqueued last.
+    ghost last: { Self → ℕ };
+
+    /// How many fields the item has.
+    ghost fields: { Self → ℕ };
+
+    /// What an event must be to be enqueued.
+    ghost admits: { Self → AnEvent → Type 0 };
+
+    /// What it tells next.
+    ghost head: { Self → Option Taken };
+
+    /// Whether it is pending.
+    ghost left: { Self → Bool };
+
+    /// Takes the event of the next number. After `NoMemory` it is as before.
+    fn enqueue(&mut self, alloc: Global, event: &Stored) -> Result<(), NoMemory>
+        requires next { event.now.no ≡ last self.old + 1 }
+        requires few { last self.old < 2 ^ 60 }
+        requires event { admits self.old event.now.event }
+        ensures last { OnOk result (last self.new ≡ last self.old + 1) }
+        ensures fields { OnOk result (fields self.new ≡ fields self.old) }
+        ensures admits { OnOk result ((e : AnEvent) → admits self.old e → admits self.new e) }
+        ensures stands { OnOk result ((s : Slot) (h : List Entry) → stands self.old s h → IsNext s h event.now → stands self.new (enqueued s) h) }
+        ensures err { OnErr result (self.new ≡ self.old) };
+
+    /// The next cut by the slot's mode, where cuts that make no line aren't told apart; `None` where there is none.
+    fn look(&self, alloc: Global) -> Result<Option<Taken>, NoMemory>
+        ensures head { IfOk result (λ t. t ≡ head self.now) }
+        ensures fits { IfOk result (Fits (fields self.now)) };
+
+    /// Moves past the next cut. It takes no memory.
+    fn pass(&mut self)
+        requires { IsSome (head self.old) }
+        ensures last { last self.new ≡ last self.old }
+        ensures fields { fields self.new ≡ fields self.old }
+        ensures admits { (e : AnEvent) → admits self.old e → admits self.new e }
+        ensures stands { (s : Slot) (h : List Entry) (t : Taken) → stands self.old s h → head self.old ≡ Some t → stands self.new (passed s t) h };
+
+    /// Whether the slot is pending: something is enqueued that no cut told. It takes no memory.
+    fn pending(&self) -> bool
+        ensures { result ≡ left self.now };
+
+    /// What it tells next is the next cut of each slot that it stands for.
+    ghost head_is_cut: { (b : Self) (s : Slot) (h : List Entry) → stands b s h → head b ≡ cut h s };
+
+    /// It is pending where each such slot is.
+    ghost left_is_pending: { (b : Self) (s : Slot) (h : List Entry) → stands b s h → left b ≡ is_pending s };
+
+    /// Each such slot has its last number.
+    ghost last_is: { (b : Self) (s : Slot) (h : List Entry) → stands b s h → last b ≡ s.last };
+
+    /// It goes on standing as the history grows.
+    ghost longer: { (b : Self) (s : Slot) (h more : List Entry) → stands b s h → stands b s (h ++ more) };
+}
+
+/// The next cut, past which the buffer has moved; `None` where there is none. After `NoMemory` the buffer is as before.
+pub fn take_one<B: Buffer>(alloc: Global, buffer: &mut B) -> Result<Option<Taken>, NoMemory>
+    ensures cut { IfOk result (λ t. (s : Slot) (h : List Entry) → B.stands buffer.old s h → t ≡ cut h s) }
+    ensures after { IfOk result (λ t. (u : Taken) → t ≡ Some u → (s : Slot) (h : List Entry) → B.stands buffer.old s h → B.stands buffer.new (passed s u) h) }
+    ensures err { OnErr result (buffer.new ≡ buffer.old) }
+{
+    let taken = buffer.look(alloc)?;
+    if taken.is_some() {
+        buffer.pass();
+    }
+    Ok(taken)
+}

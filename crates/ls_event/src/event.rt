@@ -1,0 +1,120 @@
+//! Events, entries of a history, and cuts.
+ghost use Rattle.std.specs.Prelude.{◌≡◌, IfOk};
+
+use ls_value::{Cells, NoMemory, Row, Text};
+use std::alloc::Global;
+
+/// How a slot tells of its item (TLCP 2.1, LS_mode).
+#[derive(Clone, Copy, Debug, PartialEq, Eq)]
+pub enum Mode {
+    Raw,
+    Merge,
+    Distinct,
+    Command,
+}
+
+/// The snapshot that a subscription asks for (TLCP 2.1, LS_snapshot).
+#[derive(Clone, Copy, Debug, PartialEq, Eq)]
+pub enum Snap {
+    /// None.
+    No,
+    /// The whole one.
+    All,
+    /// So many of its last rows.
+    Last(u32),
+}
+
+/// What happens to an item.
+#[derive(Drop)]
+pub enum Event {
+    /// A cell for each of the item's fields.
+    Update(Cells),
+    /// All that came before counts no longer.
+    Clear,
+}
+
+/// An entry of an item's history: an event, the adapter that published it (1 to 64), and the seq that the adapter gave it.
+#[derive(Drop)]
+pub struct Entry {
+    pub adapter: u8,
+    pub seq: u64,
+    pub event: Event,
+}
+
+/// An event with its number in the history. In a COMMAND item `after` is the key's row after the event, where it has one; in other items it is `None`.
+#[derive(Drop)]
+pub struct Stored {
+    pub no: u64,
+    pub event: Event,
+    pub after: Option<Row>,
+}
+
+/// A cut: what a buffer tells at once. `upto` is the number of the last event that it tells of.
+#[derive(Drop)]
+pub enum Taken {
+    /// An update's own row, or a row of the snapshot.
+    Row {
+        row: Row,
+        upto: u64,
+    },
+    /// So many updates were lost.
+    Lost {
+        count: u64,
+        upto: u64,
+    },
+    /// The values of the fields that changed.
+    Change {
+        cells: Cells,
+        upto: u64,
+    },
+    /// A key's row, or none where the key is gone.
+    Key {
+        key: Text,
+        row: Option<Row>,
+        upto: u64,
+    },
+    /// The item was cleared.
+    Cleared {
+        upto: u64,
+    },
+    /// The snapshot is whole.
+    EndOfSnapshot,
+}
+
+/// Why an event isn't published, in the order in which the causes are looked at.
+#[derive(Clone, Copy, Debug, PartialEq, Eq)]
+pub enum PublishRefused {
+    /// The seq isn't above the adapter's last one, which it carries.
+    Repeated { last: u64 },
+    /// The event's texts or the row that it makes weigh more than 4,096 bytes; it carries the greater weight, or 2^64 - 1 where that is less.
+    TooLong { bytes: u64 },
+    /// A slot lags by 64 events; it carries the least such.
+    Backlog { slot: u32 },
+    /// The history has 2^60 events.
+    Spent,
+    /// A growth was refused.
+    NoMemory,
+}
+
+impl From<NoMemory> for PublishRefused {
+    ghost use Rattle.std.specs.Prelude.{◌≡◌};
+    ghost use Rattle.ls_event.specs.declared.event.PublishRefused.TheVariants as refused;
+
+    ghost from_gives = { λ _ e. e ≡ refused.NoMemory };
+
+    fn from(_: NoMemory) -> PublishRefused {
+        PublishRefused::NoMemory
+    }
+}
+
+impl Event {
+    /// An equal event.
+    pub fn copy(&self, alloc: Global) -> Result<Event, NoMemory>
+        ensures { IfOk result (λ e. e ≡ self.now) }
+    {
+        match self {
+            Event::Update(cells) => Ok(Event::Update(cells.copy(alloc)?)),
+            Event::Clear => Ok(Event::Clear),
+        }
+    }
+}
