@@ -1,0 +1,16 @@
+pub mod Examples
+pub mod MergeCut
+pub mod SizeOne
+pub mod Agrees
+pub mod Keeps
+pub mod MergeLaws
+pub mod Modes
+pub mod Each
+pub mod Frame
+pub mod Sessions
+pub mod Laws
+pub mod Knowing
+pub mod Told
+pub mod Turns
+pub mod Touched
+pub mod Reading

@@ -1,0 +1,82 @@
+-- What is true of each world: each client is at a state of its item that the item had, and never goes back (the headline).
+use Rattle.std.specs.Prelude.{◌≡◌, ◌+◌, ◌-◌, ◌<◌, ◌≤◌, length, ℕ, List, [], ◌∷◌, true, false}
+use Rattle.ls_value.specs.Values.{projected}
+use Rattle.ls_event.specs.declared.event.Entry.{Entry}
+use Rattle.ls_event.specs.declared.event.Mode.{Mode}
+use Rattle.ls_event.specs.declared.event.Mode.TheVariants as mode
+use Rattle.ls_event.specs.History.{merged, IsHistory}
+use Rattle.ls_event.specs.Slots.{Plan, Slot, Row, Came}
+use Rattle.ls_spec.specs.Lines.{Line, came}
+use Rattle.ls_spec.specs.Cutting.{Wanted, client_row}
+use Rattle.ls_spec.specs.World.{World, Session, Board, Stream, Item, Live, history_of, fields_of, is_at}
+
+-- it is true of each
+abbrev pub Each : {A : Type 0} → (A → Type 0) → List A → Type 0
+Each P [] = Unit {0}
+Each P (x ∷ xs) = P x × Each P xs
+
+-- a line of mode MERGE: the item's state at a number among the last of the slot's size then
+pub record IsMergeLine (p : Plan) (w : Wanted) (h : List Entry) (c : Came) : Type 0 where
+  pub row : c.what ≡ Row (projected (merged p.fields h c.upto) w.places)
+  pub reached : c.upto ≤ c.at
+  pub recent : c.at - p.size < c.upto
+  pub within : c.at ≤ length h
+
+-- each is such a line, and their numbers rise, all below a top
+abbrev pub MergeLines : Plan → Wanted → List Entry → ℕ → List Came → Type 0
+MergeLines p w h top [] = Unit {0}
+MergeLines p w h top (c ∷ cs) = (c.upto < top) × IsMergeLine p w h c × MergeLines p w h c.upto cs
+
+-- a slot of mode MERGE: before its first line the client has nothing of it, and from then on the item's state at the slot's place
+pub record LawfulMerge (h : List Entry) (w : Wanted) (s : Slot) (cs : List Came) : Type 0 where
+  pub some : 0 < s.plan.size
+  pub behind : s.place ≤ s.last
+  pub within : s.last ≤ length h
+  pub before : s.given ≡ false → cs ≡ []
+  pub row : s.given ≡ true → client_row (length w.places) cs ≡ projected (merged s.plan.fields h s.place) w.places
+  pub lines : MergeLines s.plan w h (s.place + 1) cs
+
+-- slots of the other modes aren't built yet, so there is none
+abbrev pub LawfulOf : Mode → List Entry → Wanted → Slot → List Came → Type 0
+LawfulOf mode.Merge h w s cs = LawfulMerge h w s cs
+LawfulOf mode.Raw h w s cs = ⊥
+LawfulOf mode.Distinct h w s cs = ⊥
+LawfulOf mode.Command h w s cs = ⊥
+
+abbrev pub LawfulSlot : List Entry → Wanted → Slot → List Came → Type 0
+LawfulSlot h w s cs = LawfulOf s.plan.mode h w s cs
+
+-- no two slots of a session are of one place in one subscription
+abbrev pub Apart : List Live → Type 0
+Apart [] = Unit {0}
+Apart (v ∷ vs) = Each (λ u. is_at v.sub v.place u ≡ false) vs × Apart vs
+
+-- a slot is of a declared item and has its number of fields, and what came to the slot's client, by all lines of the session, is lawful on the item's whole history
+pub record LawfulLive (items : List Item) (lines : List Line) (v : Live) : Type 0 where
+  pub declared : v.item < length items
+  pub fields : v.slot.plan.fields ≡ fields_of items v.item
+  pub told : LawfulSlot (history_of items v.item) v.wanted v.slot (came v.sub v.place lines)
+
+pub record LawfulBoard (items : List Item) (b : Board) : Type 0 where
+  pub apart : Apart b.round
+  pub slots : Each (LawfulLive items b.lines) b.round
+
+-- the numbers given on a stream follow its beginning without a gap
+abbrev pub Follows : ℕ → List ℕ → Type 0
+Follows from [] = Unit {0}
+Follows from (n ∷ ns) = (n ≡ from + length ns + 1) × Follows from ns
+
+-- those of each stream do, and the last number given is that of the newest
+abbrev pub LawfulStreams : ℕ → List Stream → Type 0
+LawfulStreams sent [] = ⊥
+LawfulStreams sent (t ∷ ts) = (sent ≡ t.from + length t.given) × Each (λ u. Follows u.from u.given) (t ∷ ts)
+
+pub record LawfulSession (items : List Item) (s : Session) : Type 0 where
+  pub board : LawfulBoard items s.board
+  pub sent : s.sent ≤ length s.board.lines
+  pub streams : LawfulStreams s.sent s.streams
+
+-- each item's events are a history, and each session is lawful on them
+pub record Lawful (w : World) : Type 0 where
+  pub items : Each (λ i. IsHistory (length i.fields) i.history) w.items
+  pub sessions : Each (LawfulSession w.items) w.sessions

@@ -1,0 +1,12 @@
+pub mod Fields
+pub mod Lines
+pub mod Cutting
+pub mod World
+pub mod Steps
+pub mod Forms
+pub mod Script
+pub mod Lawful
+pub mod Single
+pub mod Ready
+pub mod Told
+pub mod Plain

@@ -1,0 +1,217 @@
+-- The world: all items with their whole histories, all sessions with all their numbered lines, and the connections (this project's profile).
+use Rattle.std.specs.Prelude.{◌==◌, ℕ, zero, suc, ◌+◌, List, [], ◌∷◌, ◌++◌, length, map, min, Bool, true, false, ◌&&◌, ◌||◌, Option, None, Some, nat_lt, codes, if◌then◌else◌}
+use Rattle.std.specs.Option.{option_map_or}
+use Rattle.std.specs.List.{flat_map}
+use Rattle.std.specs.Fmt.{decimal}
+use Rattle.ls_event.specs.declared.event.Entry.{Entry}
+use Rattle.ls_event.specs.Slots.{Slot, Came, enqueued, is_far}
+use Rattle.ls_spec.specs.Lines.{Line, Begins, Configures, Tells, came}
+use Rattle.ls_spec.specs.Cutting.{Wanted, Ask, Turn, joined, is_built, turn}
+
+-- an item: its name, the names of its fields, and its history
+pub record Item : Type 0 where
+  pub name : List ℕ
+  pub fields : List (List ℕ)
+  pub history : List Entry
+
+-- a slot of a session: the subscription, the place of the item in it, the item, the slot's number on the item, and what the subscription wants
+pub record Live : Type 0 where
+  pub sub : ℕ
+  pub place : ℕ
+  pub item : ℕ
+  pub number : ℕ
+  pub wanted : Wanted
+  pub slot : Slot
+
+-- all numbered lines, the newest first, and the round of slots
+pub record Board : Type 0 where
+  pub lines : List Line
+  pub round : List Live
+
+-- a stream: the number after which it was bound, and the numbers given on it, the newest first
+pub record Stream : Type 0 where
+  pub from : ℕ
+  pub given : List ℕ
+
+-- a session: its board, the number sent last, the lines owed to its stream, and its streams, the newest first
+pub record Session : Type 0 where
+  pub board : Board
+  pub sent : ℕ
+  pub owed : List (List ℕ)
+  pub streams : List Stream
+
+-- a connection: its name and its session, if it ever had one
+pub record Connection : Type 0 where
+  pub name : List ℕ
+  pub session : Option ℕ
+
+-- the number of script lines so far, the items, the sessions and the connections, each in the order in which they came
+pub record World : Type 0 where
+  pub line : ℕ
+  pub items : List Item
+  pub sessions : List Session
+  pub connections : List Connection
+
+abbrev pub empty : World
+empty = record { line = 0; items = []; sessions = []; connections = [] }
+
+-- an item's history and its number of fields; none is past the last
+abbrev pub history_of : List Item → ℕ → List Entry
+history_of [] n = []
+history_of (i ∷ items) zero = i.history
+history_of (i ∷ items) (suc n) = history_of items n
+
+abbrev pub fields_of : List Item → ℕ → ℕ
+fields_of [] n = 0
+fields_of (i ∷ items) zero = length i.fields
+fields_of (i ∷ items) (suc n) = fields_of items n
+
+-- the list with the n-th changed
+abbrev pub change : {A : Type 0} → ℕ → (A → A) → List A → List A
+change n f [] = []
+change zero f (x ∷ xs) = f x ∷ xs
+change (suc n) f (x ∷ xs) = x ∷ change n f xs
+
+abbrev pub is_at : ℕ → ℕ → Live → Bool
+is_at sub place v = (sub == v.sub) && (place == v.place)
+
+abbrev pub is_of : ℕ → Live → Bool
+is_of sub v = sub == v.sub
+
+abbrev pub is_used : ℕ → List Live → Bool
+is_used sub [] = false
+is_used sub (v ∷ vs) = is_of sub v || is_used sub vs
+
+-- the slot of a place in a subscription
+abbrev pub live_at : ℕ → ℕ → List Live → Option Live
+live_at sub place [] = None
+live_at sub place (v ∷ vs) = if is_at sub place v then Some v else live_at sub place vs
+
+-- the slots of all sessions
+abbrev pub all_live : List Session → List Live
+all_live sessions = flat_map (λ s. s.board.round) sessions
+
+-- the numbers of the slots on an item
+abbrev pub numbers_of : ℕ → List Live → List ℕ
+numbers_of item [] = []
+numbers_of item (v ∷ vs) = if item == v.item then v.number ∷ numbers_of item vs else numbers_of item vs
+
+-- those that lag by 64 behind so many events
+abbrev pub far_numbers : ℕ → ℕ → List Live → List ℕ
+far_numbers item events [] = []
+far_numbers item events (v ∷ vs) = if (item == v.item) && is_far events v.slot then v.number ∷ far_numbers item events vs else far_numbers item events vs
+
+abbrev pub least_of : List ℕ → Option ℕ
+least_of [] = None
+least_of (n ∷ ns) = Some (option_map_or (min n) (least_of ns) n)
+
+-- the least slot on an item that lags by 64
+abbrev pub least_far : ℕ → ℕ → List Session → Option ℕ
+least_far item events sessions = least_of (far_numbers item events (all_live sessions))
+
+abbrev pub holds : ℕ → List ℕ → Bool
+holds n [] = false
+holds n (m ∷ ms) = (n == m) || holds n ms
+
+-- the least number from n on that isn't used, among the next k
+abbrev pub least_free_from : ℕ → ℕ → List ℕ → ℕ
+least_free_from zero n used = n
+least_free_from (suc k) n used = if holds n used then least_free_from k (n + 1) used else n
+
+-- the least number from 1 that no slot on the item has
+abbrev pub free_number : List Session → ℕ → ℕ
+free_number sessions item = let used = numbers_of item (all_live sessions) in least_free_from (length used) 1 used
+
+-- the slots of a new subscription, from this place on, where an item's next slot gets this number
+abbrev pub joined_all : List Item → (ℕ → ℕ) → ℕ → ℕ → List Ask → List Live
+joined_all items free sub place [] = []
+joined_all items free sub place (a ∷ asks) =
+    record { sub = sub; place = place; item = a.item; number = free a.item; wanted = a.wanted; slot = joined (fields_of items a.item) (history_of items a.item) a }
+    ∷ joined_all items free sub (place + 1) asks
+
+-- whether each asked item is one of so many
+abbrev pub all_declared : ℕ → List Ask → Bool
+all_declared many [] = true
+all_declared many (a ∷ asks) = nat_lt a.item many && all_declared many asks
+
+-- whether slots of each asked mode are built
+abbrev pub all_built : List Ask → Bool
+all_built [] = true
+all_built (a ∷ asks) = is_built a.mode && all_built asks
+
+-- a new subscription numbers SUBOK and CONF, and its slots join the round's end
+abbrev pub added : List Item → (ℕ → ℕ) → ℕ → ℕ → List Ask → Board → Board
+added items free sub fields asks b =
+    record b { lines = Configures sub ∷ Begins sub (length asks) fields ∷ b.lines; round = b.round ++ joined_all items free sub 1 asks }
+
+-- a slot takes its item's next event, if there is one
+abbrev pub enqueue_slot : List Entry → Live → Live
+enqueue_slot h v = if nat_lt v.slot.last (length h) then record v { slot = enqueued v.slot } else v
+
+abbrev pub enqueue_at : List Item → ℕ → ℕ → Live → Live
+enqueue_at items sub place v = if is_at sub place v then enqueue_slot (history_of items v.item) v else v
+
+abbrev pub enqueued_in : List Item → ℕ → ℕ → Board → Board
+enqueued_in items sub place b = record b { round = map (enqueue_at items sub place) b.round }
+
+-- the slot of a round that gives a line, and what comes by it
+pub record Told : Type 0 where
+  pub live : Live
+  pub came : Came
+
+-- a round that was asked: the first slot that gave a line, and the others in their order
+pub record Round : Type 0 where
+  pub kept : List Live
+  pub told : Option Told
+
+-- a slot that isn't due has no turn
+abbrev pub turn_if : Bool → Slot → Turn → Turn
+turn_if true s t = t
+turn_if false s t = record { slot = s; told = None }
+
+abbrev pub live_turn : (Live → Bool) → List Item → List Line → Live → Turn
+live_turn due items lines v = turn_if (due v) v.slot (turn (history_of items v.item) v.wanted v.slot (came v.sub v.place lines))
+
+abbrev pub met_by : Live → Option Came → List Live → Round → Round
+met_by v (Some c) vs rest = record { kept = vs; told = Some (record { live = v; came = c }) }
+met_by v None vs rest = record rest { kept = v ∷ rest.kept }
+
+abbrev pub met : Live → Turn → List Live → Round → Round
+met v t vs rest = met_by (record v { slot = t.slot }) t.told vs rest
+
+-- the round is asked in its order, up to the first line
+abbrev pub asked : (Live → Bool) → List Item → List Line → List Live → Round
+asked due items lines [] = record { kept = []; told = None }
+asked due items lines (v ∷ vs) = met v (live_turn due items lines v) vs (asked due items lines vs)
+
+-- the line is numbered, and its slot goes to the round's end
+abbrev pub given_by : Board → List Live → Option Told → Board
+given_by b kept None = record b { round = kept }
+given_by b kept (Some t) = record b { lines = Tells t.live.sub t.live.place t.came ∷ b.lines; round = kept ++ t.live ∷ [] }
+
+abbrev pub taken_in : (Live → Bool) → List Item → Board → Board
+taken_in due items b = given_by b (asked due items b.lines b.round).kept (asked due items b.lines b.round).told
+
+-- a step of the board
+abbrev pub on_board : (Board → Board) → Session → Session
+on_board f s = record s { board = f s.board }
+
+abbrev pub noted_in : ℕ → List Stream → List Stream
+noted_in n [] = []
+noted_in n (t ∷ ts) = record t { given = n ∷ t.given } ∷ ts
+
+-- whether a numbered line isn't given yet
+abbrev pub is_unsent : Session → Bool
+is_unsent s = nat_lt s.sent (length s.board.lines)
+
+-- the next unsent line is given, if there is one
+abbrev pub given_next : Session → Session
+given_next s = if is_unsent s then record s { sent = s.sent + 1; streams = noted_in (s.sent + 1) s.streams } else s
+
+-- what a new stream begins with: the session's name, the longest request, the keep-alive in ms and no control link; the server's name; the bandwidth (TLCP 2.1, CONOK, SERVNAME, CONS)
+abbrev pub opening_lines : ℕ → List (List ℕ)
+opening_lines number = (codes "CONOK,S" ++ decimal number ++ codes ",50000,5000,*") ∷ codes "SERVNAME,tlcpd" ∷ codes "CONS,unlimited" ∷ []
+
+-- a session that begins, by its number from 1
+abbrev pub opened : ℕ → Session
+opened number = record { board = record { lines = []; round = [] }; sent = 0; owed = opening_lines number; streams = record { from = 0; given = [] } ∷ [] }
