@@ -1,0 +1,4 @@
+pub mod Sound
+pub mod Tails
+pub mod Refusals
+pub mod CellStands
