@@ -1,0 +1,17 @@
+pub mod Queues
+pub mod Subscriptions
+pub mod Sessions
+pub mod Hubs
+pub mod Publishing
+pub mod Repeats
+pub mod Acting
+pub mod Sets
+pub mod Tokens
+pub mod Named
+pub mod Worded
+pub mod Ranges
+pub mod ScriptLines
+pub mod RunWords
+pub mod PieceLines
+pub mod Feeding
+pub mod Runs

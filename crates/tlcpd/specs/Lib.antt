@@ -1,0 +1,10 @@
+pub mod Subscription
+pub mod Session
+pub mod Writing
+pub mod Seen
+pub mod Reading
+pub mod Hub
+pub mod Repeats
+pub mod Engine
+pub mod Replay
+pub mod Ran

@@ -1,0 +1,83 @@
+//! A push server for the protocol TLCP 2.1: the program.
+#![tactic(auto)]
+
+pub mod engine;
+pub mod fields;
+pub mod forms;
+pub mod hub;
+pub mod lines;
+pub mod replay;
+pub mod running;
+pub mod script;
+pub mod session;
+pub mod subscription;
+#[cfg(test)]
+mod tests;
+pub mod words;
+
+use ls_outside::{Put, StdSink, StdSource, write_all};
+use running::{Status, run};
+use std::env;
+use std::io::{self, ErrorKind};
+use std::process::ExitCode;
+use std::rt::Runtime;
+use std::sync::Wait;
+
+/// What `--help` shows.
+const HELP: &str = "\
+tlcpd: a push server for the protocol TLCP 2.1
+
+Usage: tlcpd replay
+       tlcpd --help | --version
+
+replay   reads a script from standard input, does its lines one by one,
+         and writes what they print to standard output
+
+Example: tlcpd replay <script
+";
+
+/// What `--version` shows.
+const VERSION: &str = "tlcpd 0.1.0\n";
+
+/// The text that the words ask for, if they ask for nothing else.
+fn shown(words: &[String]) -> Option<&'static str> {
+    match words {
+        [word] if word.as_str() == "--help" => Some(HELP),
+        [word] if word.as_str() == "--version" => Some(VERSION),
+        _ => None,
+    }
+}
+
+/// The words of the command line behind the program's name.
+fn given<R: Runtime + AllocGlobal>(rt: &R) -> io::Result<Vec<String>> {
+    let mut args = env::args(rt)?;
+    let _name = args.next();
+    let words = args.collect(rt.alloc())?;
+    Ok(words)
+}
+
+/// Runs the program by the words of the command line. Words that aren't text are none of a command.
+fn started<R: Runtime + AllocGlobal + Wait>(rt: &R) -> Status {
+    let words = match given(rt) {
+        Ok(words) => words,
+        Err(error) if error.kind() == ErrorKind::OutOfMemory => return Status::NoMemory,
+        Err(_) => return Status::Usage,
+    };
+    let mut sink = StdSink::new(io::writer(rt));
+    if let Some(text) = shown(&words) {
+        return match write_all(&mut sink, text.as_bytes()) {
+            Put::Taken(_) => Status::Ok,
+            Put::Failed => Status::WriteFault,
+        };
+    }
+    let mut source = StdSource::new(rt.reader());
+    run(rt, rt.alloc(), &words, &mut source, &mut sink)
+}
+
+fn main(rt: HostRuntime) -> ExitCode {
+    let status = started(&rt);
+    if status != Status::Ok {
+        let _unwritten = eprintln!(rt; "tlcpd: {status}");
+    }
+    ExitCode::from(status.number())
+}
