@@ -1,0 +1,6 @@
+pub mod Utf8
+pub mod Decimals
+pub mod Commas
+pub mod Backward
+pub mod Rows
+pub mod Laws
