@@ -3,7 +3,7 @@ use Rattle.std.specs.Prelude.{◌==◌, ℕ, ◌+◌, List, [], ◌∷◌, ◌++
 use Rattle.std.specs.Fmt.{decimal}
 use Rattle.ls_value.specs.declared.row.Value.{Value}
 use Rattle.ls_event.specs.Slots.{What, Row, Lost, Cleared, End, Came}
-use Rattle.ls_spec.specs.Fields.{spelled}
+use Rattle.ls_update.specs.Fields.{spelled}
 
 -- SUBOK with its numbers of items and fields, UNSUB, CONF, and a line that tells of an item of a subscription: U, OV, CS or EOS
 pub data Line : Type 0 where

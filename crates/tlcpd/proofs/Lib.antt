@@ -5,8 +5,6 @@ pub mod Hubs
 pub mod Publishing
 pub mod Repeats
 pub mod Acting
-pub mod Sets
-pub mod Tokens
 pub mod Named
 pub mod Worded
 pub mod Ranges

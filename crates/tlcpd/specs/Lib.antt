@@ -1,6 +1,5 @@
 pub mod Subscription
 pub mod Session
-pub mod Writing
 pub mod Seen
 pub mod Reading
 pub mod Hub

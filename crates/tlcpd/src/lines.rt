@@ -4,10 +4,10 @@ ghost use Rattle.ls_event.specs.Slots.{Row as RowWhat};
 ghost use Rattle.ls_spec.specs.Lines.{Begins, Configures, line_text, tells_text};
 ghost use Rattle.ls_spec.specs.World.{opening_lines};
 ghost use Rattle.ls_spec.specs.Steps.{note, number_note, on_connection, request_accepted, request_refused, refused_note};
-ghost use Rattle.tlcpd.specs.Writing.{row_behind};
+ghost use Rattle.ls_update.specs.Writing.{row_behind};
 
-use crate::fields::write_fields;
 use ls_event::PublishRefused;
+use ls_update::write;
 use ls_value::{Bytes, NoMemory, Row};
 use std::alloc::Global;
 
@@ -21,7 +21,7 @@ pub fn update_text(
 ) -> Result<Bytes, NoMemory>
     ensures { IfOk result (λ text. text ≡ tells_text (row_behind prev.entry) sub place (RowWhat row.now)) }
 {
-    let fields = write_fields(alloc, prev, row)?;
+    let fields = write(alloc, prev, row)?;
     let head = format!(in alloc; "U,{sub},{place},")?;
     let mut text = head.into_bytes();
     text.extend_from_slice(fields.as_slice())?;

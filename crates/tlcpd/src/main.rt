@@ -2,7 +2,6 @@
 #![tactic(auto)]
 
 pub mod engine;
-pub mod fields;
 pub mod forms;
 pub mod hub;
 pub mod lines;

@@ -1,0 +1,11 @@
+pub mod Sets
+pub mod Tokens
+pub mod Divided
+pub mod Said
+pub mod Numbers
+pub mod Growing
+pub mod Exact
+pub mod First
+pub mod Bytes
+pub mod ReadBack
+pub mod Rows
