@@ -1,5 +1,5 @@
 -- What a buffer of mode MERGE and size 1 holds, and the slots that it stands for.
-use Rattle.std.specs.Prelude.{◌≡◌, ℕ, ◌+◌, ◌≤◌, List, length, replicate, Bool, true, false, Option, None, Some, nat_lt, if◌then◌else◌}
+use Rattle.std.specs.Prelude.{◌≡◌, ℕ, ◌+◌, ◌-◌, ◌≤◌, min, max, List, length, replicate, Bool, true, false, Option, None, Some, nat_lt, if◌then◌else◌}
 use Rattle.ls_value.specs.declared.row.Value.{Value}
 use Rattle.ls_event.specs.declared.event.Event.{Event}
 use Rattle.ls_event.specs.declared.event.Entry.{Entry}
@@ -43,6 +43,10 @@ pub record StandsMerge (b : Pending) (s : Slot) (h : List Entry) : Type 0 where
 -- whether it is pending
 abbrev pub left_of : Pending → Bool
 left_of b = nat_lt b.place b.last
+
+-- how many updates its cuts will still tell
+abbrev pub waits_of : Pending → ℕ
+waits_of b = min 1 (b.last - max b.place b.base)
 
 -- what the buffer tells next
 abbrev pub head_of : Pending → Option Taken

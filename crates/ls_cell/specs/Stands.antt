@@ -6,14 +6,15 @@ use Rattle.ls_value.specs.declared.row.Value.{Value}
 use Rattle.ls_event.specs.declared.event.Entry.{Entry}
 use Rattle.ls_event.specs.declared.event.Stored.{Stored}
 use Rattle.ls_event.specs.declared.event.Mode.{Mode}
+use Rattle.ls_event.specs.declared.event.Mode.TheVariants as mode
 use Rattle.ls_event.specs.declared.event.Taken.{Taken}
 use Rattle.ls_event.specs.declared.event.Taken.TheVariants as taken
 use Rattle.ls_event.specs.History.{merged, row_after, between}
 use Rattle.ls_event.specs.Slots.{Slot, IsNext, fresh, enqueued, passed}
-use Rattle.ls_event.specs.Cuts.{cut, cut_of, merge_cut, change_to, flags_to, next_place, pending, touched_after, touched_after_all, told_cells}
+use Rattle.ls_event.specs.Cuts.{cut, cut_of, merge_cut, change_to, flags_to, next_place, untold, pending, pending_of, waiting, waiting_of, touched_after, touched_after_all, told_cells}
 use Rattle.ls_event.proofs.Merged.{merged-next, merged-append, row_after_length}
 use Rattle.ls_event.proofs.Cuts.{touched-next, between-append, touched_after_all_length}
-use Rattle.ls_cell.specs.Merge.{Pending, StandsMerge, plan_of, pending_after, pending_passed, head_of, left_of}
+use Rattle.ls_cell.specs.Merge.{Pending, StandsMerge, plan_of, pending_after, pending_passed, head_of, left_of, waits_of}
 
 -- nothing lies behind the last number
 between_none : (h : List Entry) (l : ℕ) → l ≤ length h → between h l l ≡ []
@@ -101,8 +102,16 @@ pub head_is_cut : (b : Pending) (s : Slot) (h : List Entry) → StandsMerge b s 
 head_is_cut b s h st = head_is_merge_cut b s h st ∙ sym (ap (λ (m : Mode). cut_of m h s) st.mode)
 
 -- it is pending where the slot is
-pub left_is_pending : (b : Pending) (s : Slot) (h : List Entry) → StandsMerge b s h → left_of b ≡ pending s
-left_is_pending b s h st = rw (st.place, st.last, st.owed, st.ends) refl
+pub left_is_pending : (b : Pending) (s : Slot) (h : List Entry) → StandsMerge b s h → left_of b ≡ pending h s
+left_is_pending b s h st =
+    let left : left_of b ≡ untold s = rw (st.place, st.last, st.owed, st.ends) refl in
+    left ∙ sym (ap (λ (m : Mode). pending_of m h s) st.mode)
+
+-- it waits for as many updates as the slot
+pub waits_is_waiting : (b : Pending) (s : Slot) (h : List Entry) → StandsMerge b s h → waits_of b ≡ waiting h s
+waits_is_waiting b s h st =
+    let waits : waits_of b ≡ waiting_of mode.Merge h s = rw (st.place, st.last, st.base, st.size) refl in
+    waits ∙ sym (ap (λ (m : Mode). waiting_of m h s) st.mode)
 
 -- what it tells next, where it tells something
 record Tells (b : Pending) (t : Taken) : Type 0 where

@@ -6,16 +6,16 @@ use ls_value::NoMemory;
 use std::alloc::Global;
 
 impl Buffer for MergeBuffer {
-    ghost use Rattle.std.specs.Prelude.{length};
+    ghost use Rattle.std.specs.Prelude.{◌≡◌, length};
     ghost use Rattle.ls_event.specs.History.{HasFields};
-    ghost use Rattle.ls_cell.specs.Merge.{StandsMerge, head_of, left_of};
-    ghost use Rattle.ls_cell.specs.Stands.{head_is_cut as merge_head_is_cut, left_is_pending as merge_left_is_pending, stands_longer};
+    ghost use Rattle.ls_cell.specs.Merge.{StandsMerge, head_of, left_of, waits_of};
+    ghost use Rattle.ls_cell.specs.Stands.{head_is_cut as merge_head_is_cut, left_is_pending as merge_left_is_pending, waits_is_waiting as merge_waits_is_waiting, stands_longer};
 
     ghost stands = { StandsMerge };
 
     ghost last = { λ b. b.last };
 
-    ghost fields = { λ b. length b.state };
+    ghost has_fields = { λ b n. length b.state ≡ n };
 
     ghost admits = { λ b e. HasFields (length b.state) e };
 
@@ -23,9 +23,13 @@ impl Buffer for MergeBuffer {
 
     ghost left = { left_of };
 
+    ghost waits = { waits_of };
+
     ghost head_is_cut = { λ b s h st. merge_head_is_cut b s h st };
 
     ghost left_is_pending = { λ b s h st. merge_left_is_pending b s h st };
+
+    ghost waits_is_waiting = { λ b s h st. merge_waits_is_waiting b s h st };
 
     ghost last_is = { λ b s h st. st.last };
 
@@ -46,5 +50,9 @@ impl Buffer for MergeBuffer {
 
     fn pending(&self) -> bool {
         MergeBuffer::pending(self)
+    }
+
+    fn waiting(&self) -> u64 {
+        MergeBuffer::waiting(self)
     }
 }

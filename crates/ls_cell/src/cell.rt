@@ -209,7 +209,7 @@ impl ItemCell {
     pub fn pending(&self, slot: u32) -> bool
         requires { HasSlot self.now slot }
         ensures left { result ≡ left_at self.now }
-        ensures pending { (s : Slot) (h : List Entry) → StandsCell self.now (Some s) h → result ≡ is_pending s }
+        ensures pending { (s : Slot) (h : List Entry) → StandsCell self.now (Some s) h → result ≡ is_pending h s }
     {
         match &self.slot {
             None => false,

@@ -4,7 +4,7 @@ ghost use Rattle.ls_event.specs.History.{HasFields, merged};
 ghost use Rattle.ls_event.specs.Slots.{fresh};
 ghost use Rattle.ls_event.specs.Cuts.{Fits, touched_cells, told_cells, says, told};
 ghost use Rattle.ls_event.specs.declared.event.Entry.{Entry};
-ghost use Rattle.ls_cell.specs.Merge.{StandsMerge, plan_of, head_of, left_of, pending_after, pending_passed};
+ghost use Rattle.ls_cell.specs.Merge.{StandsMerge, plan_of, head_of, left_of, waits_of, pending_after, pending_passed};
 
 use ls_event::{Event, Taken};
 use ls_value::{Cell, Cells, NoMemory, Row, Value, apply};
@@ -67,6 +67,13 @@ impl MergeBuffer {
         ensures { result ≡ left_of self.now }
     {
         self.place < self.last
+    }
+
+    /// How many updates its cuts will still tell: one at most.
+    pub fn waiting(&self) -> u64
+        ensures { result ≡ waits_of self.now }
+    {
+        self.last.saturating_sub(self.place.max(self.base)).min(1)
     }
 
     /// Takes the event of the next number, which has a cell for each field. After `NoMemory` it is as before.

@@ -137,10 +137,10 @@ said_again = refl
 pub fits_three : Fits 3 (cut letters (joined 2))
 fits_three = refl
 
-pub pending_before : pending (told_to 1 2 3) ≡ true
+pub pending_before : pending letters (told_to 1 2 3) ≡ true
 pending_before = refl
 
-pub pending_after : pending (told_to 1 3 3) ≡ false
+pub pending_after : pending letters (told_to 1 3 3) ≡ false
 pending_after = refl
 
 pub far_by_64 : is_far 67 (told_to 1 0 3) ≡ true

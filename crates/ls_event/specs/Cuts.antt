@@ -1,5 +1,5 @@
--- The cuts of a slot: what the next line is made of, over numbers and the whole history (General Concepts, buffers).
-use Rattle.std.specs.Prelude.{◌≡◌, ℕ, ◌+◌, ◌-◌, List, [], ◌∷◌, length, replicate, Bool, true, false, not, ◌||◌, Option, None, Some, nat_lt, max, if◌then◌else◌}
+-- The cuts of a slot: what the next line is made of, over numbers and the whole history (General Concepts, modes and buffers).
+use Rattle.std.specs.Prelude.{◌≡◌, ℕ, ◌+◌, ◌-◌, List, [], ◌∷◌, length, replicate, Bool, true, false, not, ◌||◌, Option, None, Some, is_some, nat_lt, max, min, if◌then◌else◌}
 use Rattle.ls_value.specs.declared.row.Value.{Value}
 use Rattle.ls_value.specs.declared.row.Value.TheVariants as value
 use Rattle.ls_value.specs.declared.row.Cell.{Cell}
@@ -13,6 +13,9 @@ use Rattle.ls_event.specs.declared.event.Taken.{Taken}
 use Rattle.ls_event.specs.declared.event.Taken.TheVariants as taken
 use Rattle.ls_event.specs.History.{between, merged}
 use Rattle.ls_event.specs.Slots.{Slot}
+use Rattle.ls_event.specs.Updates.{updates_between, clear_or}
+use Rattle.ls_event.specs.OwnCuts.{raw_cut, distinct_cut}
+use Rattle.ls_event.specs.CommandCuts.{command_cut, touched_keys}
 
 -- whether a cell says a value
 abbrev pub says : Cell → Bool
@@ -63,20 +66,42 @@ next_place s = max s.place (s.last - s.plan.size) + 1
 abbrev pub merge_cut : List Entry → Slot → Option Taken
 merge_cut h s = if nat_lt s.place s.last then Some (change_to h s (next_place s)) else None
 
--- the next cut of a mode; slots of the modes RAW, DISTINCT and COMMAND aren't built yet, and have none
+-- the next cut of a mode
 abbrev pub cut_of : Mode → List Entry → Slot → Option Taken
 cut_of mode.Merge h s = merge_cut h s
-cut_of mode.Raw h s = None
-cut_of mode.Distinct h s = None
-cut_of mode.Command h s = None
+cut_of mode.Raw h s = raw_cut h s
+cut_of mode.Distinct h s = distinct_cut h s
+cut_of mode.Command h s = command_cut h s
 
 -- the next cut of a slot
 abbrev pub cut : List Entry → Slot → Option Taken
 cut h s = cut_of s.plan.mode h s
 
--- whether a slot is pending: a row of the snapshot, its end or an event isn't told yet
-abbrev pub pending : Slot → Bool
-pending s = nat_lt 0 s.owed || s.ends || nat_lt s.place s.last
+-- a row of the snapshot, its end or an event isn't told yet
+abbrev pub untold : Slot → Bool
+untold s = nat_lt 0 s.owed || s.ends || nat_lt s.place s.last
+
+-- whether a slot of a mode is pending: something isn't told yet, which in mode COMMAND is a key, the snapshot's end or a Clear
+abbrev pub pending_of : Mode → List Entry → Slot → Bool
+pending_of mode.Merge h s = untold s
+pending_of mode.Raw h s = untold s
+pending_of mode.Distinct h s = untold s
+pending_of mode.Command h s = is_some (command_cut h s)
+
+-- whether a slot is pending
+abbrev pub pending : List Entry → Slot → Bool
+pending h s = pending_of s.plan.mode h s
+
+-- how many updates the cuts of a slot of a mode will still tell (this project's profile)
+abbrev pub waiting_of : Mode → List Entry → Slot → ℕ
+waiting_of mode.Merge h s = min s.plan.size (s.last - max s.place s.plan.base)
+waiting_of mode.Raw h s = min 256 (length (updates_between h s.place s.last))
+waiting_of mode.Distinct h s = min s.plan.size (length (updates_between h (clear_or h s.place s.last) s.last))
+waiting_of mode.Command h s = length (touched_keys h s)
+
+-- how many updates the cuts of a slot will still tell
+abbrev pub waiting : List Entry → Slot → ℕ
+waiting h s = waiting_of s.plan.mode h s
 
 -- what a cut tells of fields has a value or a cell for each
 abbrev pub Fits : ℕ → Option Taken → Type 0

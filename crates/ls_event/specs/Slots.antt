@@ -1,6 +1,5 @@
--- The record of a slot, an item in a subscription: numbers and flags, and what its lines told the client.
+-- The record of a slot, an item in a subscription: numbers and flags.
 use Rattle.std.specs.Prelude.{◌≡◌, ℕ, ◌+◌, ◌-◌, ◌<◌, List, [], ◌∷◌, ◌++◌, length, take, Bool, false, true, nat_le}
-use Rattle.ls_value.specs.declared.row.Value.{Value}
 use Rattle.ls_event.specs.declared.event.Entry.{Entry}
 use Rattle.ls_event.specs.declared.event.Stored.{Stored}
 use Rattle.ls_event.specs.declared.event.Mode.{Mode}
@@ -38,6 +37,10 @@ pub record Slot : Type 0 where
 abbrev pub fresh : Plan → ℕ → Slot
 fresh p place = record { plan = p; last = p.base; place = place; owed = 0; ends = false; given = false; noted = [] }
 
+-- a slot that joins with a snapshot of so many rows or keys and its end
+abbrev pub fresh_with : Plan → ℕ → Slot
+fresh_with p owed = record (fresh p p.base) { owed = owed; ends = true }
+
 -- after an enqueue
 abbrev pub enqueued : Slot → Slot
 enqueued s = record s { last = s.last + 1 }
@@ -62,30 +65,3 @@ pub record IsNext (s : Slot) (h : List Entry) (x : Stored) : Type 0 where
   pub next : take (s.last + 1) h ≡ take s.last h ++ entry ∷ []
   pub no : x.no ≡ s.last + 1
   pub event : x.event ≡ entry.event
-
--- what a line tells the client (TLCP 2.1, notifications U, OV, CS and EOS)
-pub data What : Type 0 where
-  Row : List Value → What
-  Lost : ℕ → What
-  Cleared : What
-  End : What
-
--- what came to the client by a line: the place before it, the number up to which it tells, and the last number that was enqueued then
-pub record Came : Type 0 where
-  pub what : What
-  pub before : ℕ
-  pub upto : ℕ
-  pub at : ℕ
-
--- the number up to which a cut tells
-abbrev pub upto_of : Slot → Taken → ℕ
-upto_of s (taken.Row row upto) = upto
-upto_of s (taken.Lost count upto) = upto
-upto_of s (taken.Change cells upto) = upto
-upto_of s (taken.Key key row upto) = upto
-upto_of s (taken.Cleared upto) = upto
-upto_of s taken.EndOfSnapshot = s.place
-
--- what comes by a cut that makes a line
-abbrev pub came_by : Slot → Taken → What → Came
-came_by s t what = record { what = what; before = s.place; upto = upto_of s t; at = s.last }

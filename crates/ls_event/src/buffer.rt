@@ -1,7 +1,8 @@
 //! What a slot still has to tell, in any mode.
 ghost use Rattle.std.specs.Prelude.{◌≡◌, ◌+◌, ◌<◌, ◌^◌, ℕ, List, ◌++◌, Bool, Option, Some, IfOk, OnOk, OnErr, IsSome};
 ghost use Rattle.ls_event.specs.Slots.{Slot, IsNext, enqueued, passed};
-ghost use Rattle.ls_event.specs.Cuts.{cut, pending as is_pending, Fits};
+ghost use Rattle.ls_event.specs.History.{HasFields};
+ghost use Rattle.ls_event.specs.Cuts.{cut, pending as is_pending, waiting as still_waiting, Fits};
 ghost use Rattle.ls_event.specs.declared.event.Entry.{Entry};
 ghost use Rattle.ls_event.specs.declared.event.Event.{Event as AnEvent};
 ghost use Rattle.ls_event.specs.declared.event.Taken.{Taken};
@@ -18,8 +19,8 @@ pub trait Buffer {
     /// The number that was enqueued last.
     ghost last: { Self → ℕ };
 
-    /// How many fields the item has.
-    ghost fields: { Self → ℕ };
+    /// The numbers of fields that the item may have, by the rows that it keeps.
+    ghost has_fields: { Self → ℕ → Type 0 };
 
     /// What an event must be to be enqueued.
     ghost admits: { Self → AnEvent → Type 0 };
@@ -30,13 +31,16 @@ pub trait Buffer {
     /// Whether it is pending.
     ghost left: { Self → Bool };
 
+    /// How many updates its cuts will still tell.
+    ghost waits: { Self → ℕ };
+
     /// Takes the event of the next number. After `NoMemory` it is as before.
     fn enqueue(&mut self, alloc: Global, event: &Stored) -> Result<(), NoMemory>
         requires next { event.now.no ≡ last self.old + 1 }
         requires few { last self.old < 2 ^ 60 }
         requires event { admits self.old event.now.event }
         ensures last { OnOk result (last self.new ≡ last self.old + 1) }
-        ensures fields { OnOk result (fields self.new ≡ fields self.old) }
+        ensures fields { OnOk result ((n : ℕ) → has_fields self.old n → HasFields n event.now.event → has_fields self.new n) }
         ensures admits { OnOk result ((e : AnEvent) → admits self.old e → admits self.new e) }
         ensures stands { OnOk result ((s : Slot) (h : List Entry) → stands self.old s h → IsNext s h event.now → stands self.new (enqueued s) h) }
         ensures err { OnErr result (self.new ≡ self.old) };
@@ -44,13 +48,13 @@ pub trait Buffer {
     /// The next cut by the slot's mode, where cuts that make no line aren't told apart; `None` where there is none.
     fn look(&self, alloc: Global) -> Result<Option<Taken>, NoMemory>
         ensures head { IfOk result (λ t. t ≡ head self.now) }
-        ensures fits { IfOk result (Fits (fields self.now)) };
+        ensures fits { IfOk result (λ t. (n : ℕ) → has_fields self.now n → Fits n t) };
 
     /// Moves past the next cut. It takes no memory.
     fn pass(&mut self)
         requires { IsSome (head self.old) }
         ensures last { last self.new ≡ last self.old }
-        ensures fields { fields self.new ≡ fields self.old }
+        ensures fields { (n : ℕ) → has_fields self.old n → has_fields self.new n }
         ensures admits { (e : AnEvent) → admits self.old e → admits self.new e }
         ensures stands { (s : Slot) (h : List Entry) (t : Taken) → stands self.old s h → head self.old ≡ Some t → stands self.new (passed s t) h };
 
@@ -58,11 +62,18 @@ pub trait Buffer {
     fn pending(&self) -> bool
         ensures { result ≡ left self.now };
 
+    /// How many updates its cuts will still tell. It takes no memory.
+    fn waiting(&self) -> u64
+        ensures { result ≡ waits self.now };
+
     /// What it tells next is the next cut of each slot that it stands for.
     ghost head_is_cut: { (b : Self) (s : Slot) (h : List Entry) → stands b s h → head b ≡ cut h s };
 
     /// It is pending where each such slot is.
-    ghost left_is_pending: { (b : Self) (s : Slot) (h : List Entry) → stands b s h → left b ≡ is_pending s };
+    ghost left_is_pending: { (b : Self) (s : Slot) (h : List Entry) → stands b s h → left b ≡ is_pending h s };
+
+    /// Its number of waiting updates is that of each such slot.
+    ghost waits_is_waiting: { (b : Self) (s : Slot) (h : List Entry) → stands b s h → waits b ≡ still_waiting h s };
 
     /// Each such slot has its last number.
     ghost last_is: { (b : Self) (s : Slot) (h : List Entry) → stands b s h → last b ≡ s.last };

@@ -67,7 +67,7 @@ impl Buffer for Counter {
 
     ghost last = { λ b. b.last };
 
-    ghost fields = { λ b. 0 };
+    ghost has_fields = { λ b n. Unit {0} };
 
     ghost admits = { λ b e. Unit {0} };
 
@@ -75,9 +75,13 @@ impl Buffer for Counter {
 
     ghost left = { λ b. nat_lt b.place b.last };
 
+    ghost waits = { λ b. 0 };
+
     ghost head_is_cut = { λ b s h st. absurd st };
 
     ghost left_is_pending = { λ b s h st. absurd st };
+
+    ghost waits_is_waiting = { λ b s h st. absurd st };
 
     ghost last_is = { λ b s h st. absurd st };
 
@@ -105,6 +109,10 @@ impl Buffer for Counter {
 
     fn pending(&self) -> bool {
         self.place < self.last
+    }
+
+    fn waiting(&self) -> u64 {
+        0
     }
 }
 

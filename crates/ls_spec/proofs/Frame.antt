@@ -4,14 +4,15 @@ use Rattle.std.proofs.lemmas.Bool.{ltb-true, eq-eqb, ne_eqb}
 use Rattle.std.proofs.lemmas.Bool.Decides.{nat_tests}
 use Rattle.ls_value.proofs.Rows.{and_left, and_right}
 use Rattle.ls_event.specs.declared.event.Entry.{Entry}
-use Rattle.ls_event.specs.Slots.{Slot, Came, enqueued}
+use Rattle.ls_event.specs.Slots.{Slot, enqueued}
+use Rattle.ls_spec.specs.Came.{Came}
 use Rattle.ls_spec.specs.Cutting.{Ask, Wanted, Turn, turn, joined, is_built}
 use Rattle.ls_spec.specs.Lines.{Line, Begins, Configures, Tells, came}
 use Rattle.ls_spec.specs.World.{Item, Live, Board, Told, Round, history_of, fields_of, change, is_at, is_of, is_used, joined_all, all_declared, all_built, added, enqueue_slot, enqueue_at, enqueued_in, live_turn, turn_if, met_by, asked, given_by, taken_in}
 use Rattle.ls_spec.specs.Steps.{grown}
 use Rattle.ls_spec.specs.Lawful.{Each, Apart, LawfulSlot, LawfulLive, LawfulBoard}
 use Rattle.ls_spec.proofs.Each.{each_map, each_mapped, each_append, each_both}
-use Rattle.ls_spec.proofs.Modes.{keeps, joins, AfterTurn, turn_keeps, turn_plan}
+use Rattle.ls_spec.proofs.Modes.{keeps, joined_fields, joins, AfterTurn, turn_keeps, turn_plan}
 
 -- an item that remains: it has its fields, and its history begins with the former one
 pub record Remains (items items' : List Item) (n : ℕ) : Type 0 where
@@ -220,7 +221,7 @@ and_false_right : (a b : Bool) → b ≡ false → (a && b) ≡ false
 and_false_right true b h = h
 and_false_right false b h = refl
 
-unused_each : (sub : ℕ) (vs : List Live) → is_used sub vs ≡ false → Each (λ v. is_of sub v ≡ false) vs
+pub unused_each : (sub : ℕ) (vs : List Live) → is_used sub vs ≡ false → Each (λ v. is_of sub v ≡ false) vs
 unused_each sub [] h = tt
 unused_each sub (v ∷ vs) h = (or_left (is_of sub v) (is_used sub vs) h, unused_each sub vs (or_right (is_of sub v) (is_used sub vs) h))
 
@@ -238,7 +239,7 @@ joined_keeps items free lines sub n fields place [] declared built = tt
 joined_keeps items free lines sub n fields place (a ∷ asks) declared built = (
   record {
     declared = ltb-true a.item (length items) (and_left (nat_lt a.item (length items)) (all_declared (length items) asks) declared);
-    fields = refl;
+    fields = joined_fields a.mode (fields_of items a.item) (history_of items a.item) a;
     told = subst (λ (cs : List Came). LawfulSlot (history_of items a.item) a.wanted (joined (fields_of items a.item) (history_of items a.item) a) cs) (sym (ap (λ (b : Bool). cond b [] (came sub place lines)) (eqb_self sub)))
         (joins (fields_of items a.item) (history_of items a.item) a (and_left (is_built a.mode) (all_built asks) built));
   },

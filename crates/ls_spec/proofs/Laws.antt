@@ -1,18 +1,15 @@
--- Each step keeps a world lawful, and so does each line of a script.
-use Rattle.std.proofs.Common.{◌≡◌, ℕ, zero, suc, ◌+◌, List, [], ◌∷◌, ◌++◌, length, arith, refl, cond, Bool, true, false, not, Option, Some, None, Result, Ok, Err, nat_eq, nat_lt, slice_get}
+-- Each step keeps a world's records lawful.
+use Rattle.std.proofs.Common.{◌≡◌, ℕ, zero, suc, ◌+◌, List, [], ◌∷◌, ◌++◌, length, arith, refl, cond, Bool, true, false, not, Option, Some, None, nat_eq, nat_lt, slice_get}
 use Rattle.std.proofs.lemmas.Bool.{eqb-true, not-false}
 use Rattle.ls_value.specs.declared.row.Cell.{Cell}
 use Rattle.ls_event.specs.declared.event.Event.TheVariants.{Update}
 use Rattle.ls_event.specs.declared.event.PublishRefused.{PublishRefused}
 use Rattle.ls_event.specs.History.{IsHistory, refusal}
 use Rattle.ls_event.proofs.Histories.{history_grown}
-use Rattle.ls_spec.specs.declared.Refused.{Refused}
 use Rattle.ls_spec.specs.Cutting.{Ask}
 use Rattle.ls_spec.specs.World.{World, Item, Live, Session, empty, history_of, change, is_used, live_at, all_declared, all_built, added, enqueued_in, least_far, free_number, on_board, opened}
-use Rattle.ls_spec.specs.Steps.{Step, Declare, Open, Add, Publish, Enqueue, Take, Stepped, Once, behind, repeated, with_found, with_session, session_of, name_of, grown, published_by, published, added_to, enqueued_by, enqueue_once, Answer, Gave, Idle, Spent, turned, took_by, take_once, does, does_all}
-use Rattle.ls_spec.specs.Forms.{read, known_of}
-use Rattle.ls_spec.specs.Script.{counted, stepped, and_then, world_of}
-use Rattle.ls_spec.specs.Lawful.{LawfulSession, Lawful}
+use Rattle.ls_spec.specs.Steps.{Step, Declare, Open, Add, Publish, Enqueue, Take, Stepped, Once, behind, repeated, with_found, with_session, session_of, name_of, grown, published_by, published, added_to, enqueued_by, enqueue_once, Answer, Gave, Idle, Spent, turned, took_by, take_once, does}
+use Rattle.ls_spec.specs.Lawful.{LawfulSession, LawfulRecords}
 use Rattle.ls_spec.proofs.Each.{each_map, each_changed, each_append, each_at}
 use Rattle.ls_spec.proofs.Frame.{later_grown, later_declared, enqueue_keeps, add_keeps}
 use Rattle.ls_spec.proofs.Sessions.{session_later, opened_lawful, on_board_keeps, turned_keeps}
@@ -40,23 +37,23 @@ repeated_keeps P f zero w keep p = p
 repeated_keeps P f (suc n) w keep p = behind_keeps P (f w) (λ v. repeated f n v) (keep w p) (λ v q. repeated_keeps P f n v keep q)
 
 -- a change of one session
-one_changed : (w : World) (n : ℕ) (s : Session) (f : Session → Session) → slice_get w.sessions n ≡ Some s → (LawfulSession w.items s → LawfulSession w.items (f s)) → Lawful w → Lawful (record w { sessions = change n f w.sessions })
+one_changed : (w : World) (n : ℕ) (s : Session) (f : Session → Session) → slice_get w.sessions n ≡ Some s → (LawfulSession w.items s → LawfulSession w.items (f s)) → LawfulRecords w → LawfulRecords (record w { sessions = change n f w.sessions })
 one_changed w n s f is keep l = record { items = l.items; sessions = each_changed (LawfulSession w.items) n f s w.sessions is keep l.sessions }
 
-lawful_added : (w : World) (name : List ℕ) (sub fields : ℕ) (asks : List Ask) (n : ℕ) (s : Session) → slice_get w.sessions n ≡ Some s → Lawful w → Lawful (added_to w name sub fields asks n s).after
+lawful_added : (w : World) (name : List ℕ) (sub fields : ℕ) (asks : List Ask) (n : ℕ) (s : Session) → slice_get w.sessions n ≡ Some s → LawfulRecords w → LawfulRecords (added_to w name sub fields asks n s).after
 lawful_added w name sub fields asks n s is l =
-    cond_rule (λ (r : Stepped). Lawful r.after) (is_used sub s.board.round) _ _ (λ used. l)
-    (λ new. cond_rule (λ (r : Stepped). Lawful r.after) (not (all_declared (length w.items) asks)) _ _ (λ unknown. l)
-    (λ known. cond_rule (λ (r : Stepped). Lawful r.after) (all_built asks) _ _
+    cond_rule (λ (r : Stepped). LawfulRecords r.after) (is_used sub s.board.round) _ _ (λ used. l)
+    (λ new. cond_rule (λ (r : Stepped). LawfulRecords r.after) (not (all_declared (length w.items) asks)) _ _ (λ unknown. l)
+    (λ known. cond_rule (λ (r : Stepped). LawfulRecords r.after) (all_built asks) _ _
     (λ built. one_changed w n s (on_board (added w.items (free_number w.sessions) sub fields asks)) is
     (on_board_keeps w.items (added w.items (free_number w.sessions) sub fields asks) s (add_keeps w.items (free_number w.sessions) sub fields asks s.board new (not-false (all_declared (length w.items) asks) known) built) (omega arith)) l)
     (λ unbuilt. l)))
 
-lawful_published : (w : World) (item adapter seq : ℕ) (cells : List Cell) → Lawful w → Lawful (published w item adapter seq cells (slice_get w.items item)).after
+lawful_published : (w : World) (item adapter seq : ℕ) (cells : List Cell) → LawfulRecords w → LawfulRecords (published w item adapter seq cells (slice_get w.items item)).after
 lawful_published w item adapter seq cells l = by_item (slice_get w.items item) refl
   where
     by_cause : (i : Item) (o : Option PublishRefused) → slice_get w.items item ≡ Some i → length cells ≡ length i.fields → refusal (length i.fields) i.history (least_far item (length i.history) w.sessions) adapter seq (Update cells) ≡ o
-        → Lawful (published_by w item (record { adapter = adapter; seq = seq; event = Update cells }) (length i.history + 1) o).after
+        → LawfulRecords (published_by w item (record { adapter = adapter; seq = seq; event = Update cells }) (length i.history + 1) o).after
     by_cause i None is fits none =
         record {
           items = each_changed (λ j. IsHistory (length j.fields) j.history) item (grown (record { adapter = adapter; seq = seq; event = Update cells })) i w.items is
@@ -66,27 +63,27 @@ lawful_published w item adapter seq cells l = by_item (slice_get w.items item) r
         }
     by_cause i (Some cause) is fits none = l
 
-    by_item : (o : Option Item) → slice_get w.items item ≡ o → Lawful (published w item adapter seq cells o).after
+    by_item : (o : Option Item) → slice_get w.items item ≡ o → LawfulRecords (published w item adapter seq cells o).after
     by_item None is = l
     by_item (Some i) is =
-        cond_rule (λ (r : Stepped). Lawful r.after) (nat_eq (length cells) (length i.fields)) _ _
+        cond_rule (λ (r : Stepped). LawfulRecords r.after) (nat_eq (length cells) (length i.fields)) _ _
         (λ t. by_cause i (refusal (length i.fields) i.history (least_far item (length i.history) w.sessions) adapter seq (Update cells)) is (eqb-true (length cells) (length i.fields) t) refl)
         (λ t. l)
 
-lawful_enqueued : (w : World) (n sub place : ℕ) (s : Session) (o : Option Live) → slice_get w.sessions n ≡ Some s → Lawful w → Lawful (enqueued_by w n sub place o).after
+pub lawful_enqueued : (w : World) (n sub place : ℕ) (s : Session) (o : Option Live) → slice_get w.sessions n ≡ Some s → LawfulRecords w → LawfulRecords (enqueued_by w n sub place o).after
 lawful_enqueued w n sub place s None is l = l
 lawful_enqueued w n sub place s (Some v) is l =
-    cond_rule (λ (r : Once). Lawful r.after) (nat_lt v.slot.last (length (history_of w.items v.item))) _ _
+    cond_rule (λ (r : Once). LawfulRecords r.after) (nat_lt v.slot.last (length (history_of w.items v.item))) _ _
     (λ t. one_changed w n s (on_board (enqueued_in w.items sub place)) is (on_board_keeps w.items (enqueued_in w.items sub place) s (enqueue_keeps w.items sub place s.board) (omega arith)) l)
     (λ t. l)
 
-lawful_took : (w : World) (name : List ℕ) (n : ℕ) (old new : Session) (a : Answer) → slice_get w.sessions n ≡ Some old → LawfulSession w.items new → Lawful w → Lawful (took_by w name n new a).after
+pub lawful_took : (w : World) (name : List ℕ) (n : ℕ) (old new : Session) (a : Answer) → slice_get w.sessions n ≡ Some old → LawfulSession w.items new → LawfulRecords w → LawfulRecords (took_by w name n new a).after
 lawful_took w name n old new (Gave text) is k l = one_changed w n old (λ x. new) is (λ x. k) l
 lawful_took w name n old new Idle is k l = one_changed w n old (λ x. new) is (λ x. k) l
 lawful_took w name n old new Spent is k l = l
 
 -- one step
-pub lawful_does : (w : World) (s : Step) → Lawful w → Lawful (does w s).after
+pub lawful_does : (w : World) (s : Step) → LawfulRecords w → LawfulRecords (does w s).after
 lawful_does w (Declare name fields) l =
     record {
       items = each_append (λ i. IsHistory (length i.fields) i.history) w.items (record { name = name; fields = fields; history = [] } ∷ []) l.items (record { few = omega arith; each = tt }, tt);
@@ -96,36 +93,17 @@ lawful_does w (Declare name fields) l =
 lawful_does w (Open name) l =
     record { items = l.items; sessions = each_append (LawfulSession w.items) w.sessions (opened (length w.sessions + 1) ∷ []) l.sessions (opened_lawful w.items (length w.sessions + 1), tt) }
 lawful_does w (Add connection sub fields asks) l =
-    session_rule (λ (r : Stepped). Lawful r.after) w.sessions (session_of w connection) _ (added_to w (name_of w connection) sub fields asks) l
+    session_rule (λ (r : Stepped). LawfulRecords r.after) w.sessions (session_of w connection) _ (added_to w (name_of w connection) sub fields asks) l
     (λ n s is. lawful_added w (name_of w connection) sub fields asks n s is l)
 lawful_does w (Publish item adapter seq cells) l = lawful_published w item adapter seq cells l
 lawful_does w (Enqueue connection sub place times) l =
-    repeated_keeps Lawful (enqueue_once connection sub place) times w
-    (λ v k. session_rule (λ (r : Once). Lawful r.after) v.sessions (session_of v connection) _ (λ n s. enqueued_by v n sub place (live_at sub place s.board.round)) k
+    repeated_keeps LawfulRecords (enqueue_once connection sub place) times w
+    (λ v k. session_rule (λ (r : Once). LawfulRecords r.after) v.sessions (session_of v connection) _ (λ n s. enqueued_by v n sub place (live_at sub place s.board.round)) k
     (λ n s is. lawful_enqueued v n sub place s (live_at sub place s.board.round) is k)) l
 lawful_does w (Take connection times) l =
-    repeated_keeps Lawful (take_once connection) times w
-    (λ v k. session_rule (λ (r : Once). Lawful r.after) v.sessions (session_of v connection) _ (λ n s. took_by v (name_of v connection) n (turned v.items s).session (turned v.items s).answer) k
+    repeated_keeps LawfulRecords (take_once connection) times w
+    (λ v k. session_rule (λ (r : Once). LawfulRecords r.after) v.sessions (session_of v connection) _ (λ n s. took_by v (name_of v connection) n (turned v.items s).session (turned v.items s).answer) k
     (λ n s is. lawful_took v (name_of v connection) n s (turned v.items s).session (turned v.items s).answer is (turned_keeps v.items s (each_at (LawfulSession v.items) n s v.sessions is k.sessions)) k)) l
 
--- any steps
-pub lawful_does_all : (w : World) (steps : List Step) → Lawful w → Lawful (does_all w steps)
-lawful_does_all w [] l = l
-lawful_does_all w (s ∷ steps) l = lawful_does_all (does w s).after steps (lawful_does w s l)
-
-pub lawful_empty : Lawful empty
+pub lawful_empty : LawfulRecords empty
 lawful_empty = record { items = tt; sessions = tt }
-
--- one more line was read
-lawful_counted : (w : World) → Lawful w → Lawful (counted w)
-lawful_counted w l = record { items = l.items; sessions = l.sessions }
-
-lawful_and_then : (w : World) (r : Result (Option Step) Refused) (f : Stepped → World) → Lawful w → ((s : Stepped) → Lawful s.after → Lawful (f s)) → Lawful (and_then w (stepped (counted w) r) f)
-lawful_and_then w (Ok None) f l more = more (record { after = counted w; text = [] }) (lawful_counted w l)
-lawful_and_then w (Ok (Some s)) f l more = more (does (counted w) s) (lawful_does (counted w) s (lawful_counted w l))
-lawful_and_then w (Err r) f l more = l
-
--- a script's lines, up to the first that is refused
-pub lawful_world_of : (w : World) (lines : List (List ℕ)) → Lawful w → Lawful (world_of w lines)
-lawful_world_of w [] l = l
-lawful_world_of w (line ∷ lines) l = lawful_and_then w (read (known_of (counted w)) line) (λ s. world_of s.after lines) l (λ s k. lawful_world_of s.after lines k)

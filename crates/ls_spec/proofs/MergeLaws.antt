@@ -8,7 +8,9 @@ use Rattle.ls_value.proofs.Rows.{and_right, row_eq_true, applied-projected, null
 use Rattle.ls_event.specs.declared.event.Entry.{Entry}
 use Rattle.ls_event.specs.declared.event.Taken.{Taken}
 use Rattle.ls_event.specs.History.{merged, row_after_all, between}
-use Rattle.ls_event.specs.Slots.{Plan, Slot, Row, Came, fresh, enqueued}
+use Rattle.ls_event.specs.Slots.{Plan, Slot, fresh, enqueued}
+use Rattle.ls_mirror.specs.Client.{Row}
+use Rattle.ls_spec.specs.Came.{Came}
 use Rattle.ls_event.specs.Cuts.{touched_after_all, told_cells, flags_to, change_to, next_place, merge_cut}
 use Rattle.ls_event.proofs.Merged.{merged-append, merged-between, merged_length}
 use Rattle.ls_event.proofs.Cuts.{touched_after_all_length, told_cells_length}

@@ -5,34 +5,58 @@ use Rattle.ls_event.specs.declared.event.Mode.{Mode}
 use Rattle.ls_event.specs.declared.event.Mode.TheVariants as mode
 use Rattle.ls_event.specs.declared.event.Taken.{Taken}
 use Rattle.ls_event.specs.declared.event.Taken.TheVariants as taken
-use Rattle.ls_event.specs.Slots.{Plan, Slot, What, Came, passed, came_by}
+use Rattle.ls_event.specs.Slots.{Plan, Slot, passed}
+use Rattle.ls_mirror.specs.Client.{What}
+use Rattle.ls_spec.specs.Came.{Came, came_by}
 use Rattle.ls_event.specs.Cuts.{cut_of, cut}
-use Rattle.ls_spec.specs.Cutting.{Wanted, Ask, Turn, is_built, joined, accepted, told_or, turned, turn_within, turn}
+use Rattle.ls_spec.specs.Cutting.{Wanted, Ask, Turn, is_built, plan_of, distinct_with, joined_in, joined, accepted, told_or, turned, turn_within, turn}
 use Rattle.ls_spec.specs.Lawful.{LawfulOf, LawfulSlot}
 use Rattle.ls_spec.proofs.Keeps.{Keeps, AfterCut}
 use Rattle.ls_spec.proofs.MergeLaws.{merge_keeps, merge_joins}
+use Rattle.ls_spec.proofs.RawLaws.{raw_keeps, raw_joins}
+use Rattle.ls_spec.proofs.DistinctLaws.{distinct_keeps, distinct_joins}
 
 -- there is no slot of a mode that isn't built
-no_slot : Keeps (λ h s. None) (λ h w s cs. ⊥)
-no_slot = record { longer = λ h more w s cs l. l; enqueue = λ h w s cs more l. l; pass = λ h w s cs t is l. absurd l }
+no_slot : (cut_at : List Entry → Slot → Option Taken) → Keeps cut_at (λ h w s cs. ⊥)
+no_slot cut_at = record { longer = λ h more w s cs l. l; enqueue = λ h w s cs more l. l; pass = λ h w s cs t is l. absurd l }
 
 pub keeps : (m : Mode) → Keeps (cut_of m) (LawfulOf m)
 keeps mode.Merge = merge_keeps
-keeps mode.Raw = no_slot
-keeps mode.Distinct = no_slot
-keeps mode.Command = no_slot
+keeps mode.Raw = raw_keeps
+keeps mode.Distinct = distinct_keeps
+keeps mode.Command = no_slot (cut_of mode.Command)
+
+with_plan : {A : Type 0} (f : Plan → A) (p : Plan) (h : List Entry) (o : Option ℕ) → f (distinct_with p h o).plan ≡ f p
+with_plan f p h None = refl
+with_plan f p h (Some asked) = refl
+
+-- a slot joins in its mode, with its item's fields
+pub joined_mode : (m : Mode) (fields : ℕ) (h : List Entry) (a : Ask) → (joined_in m fields h a).plan.mode ≡ a.mode
+joined_mode mode.Merge fields h a = refl
+joined_mode mode.Raw fields h a = refl
+joined_mode mode.Distinct fields h a = with_plan (λ p. p.mode) (plan_of fields h a) h a.wanted.snapshot
+joined_mode mode.Command fields h a = refl
+
+pub joined_fields : (m : Mode) (fields : ℕ) (h : List Entry) (a : Ask) → (joined_in m fields h a).plan.fields ≡ fields
+joined_fields mode.Merge fields h a = refl
+joined_fields mode.Raw fields h a = refl
+joined_fields mode.Distinct fields h a = with_plan (λ p. p.fields) (plan_of fields h a) h a.wanted.snapshot
+joined_fields mode.Command fields h a = refl
 
 pub joins : (fields : ℕ) (h : List Entry) (a : Ask) → is_built a.mode ≡ true → LawfulSlot h a.wanted (joined fields h a) []
-joins fields h a built = by_mode a.mode built
+joins fields h a built = by_plan (joined_mode a.mode fields h a) (by_mode a.mode built)
   where
-    by_mode : (m : Mode) → is_built m ≡ true → LawfulOf m h a.wanted (joined fields h a) []
+    by_mode : (m : Mode) → is_built m ≡ true → LawfulOf m h a.wanted (joined_in m fields h a) []
     by_mode mode.Merge b = merge_joins fields h a
-    by_mode mode.Raw b = cc
-    by_mode mode.Distinct b = cc
+    by_mode mode.Raw b = raw_joins fields h a
+    by_mode mode.Distinct b = distinct_joins fields h a
     by_mode mode.Command b = cc
 
+    by_plan : (joined fields h a).plan.mode ≡ a.mode → LawfulOf a.mode h a.wanted (joined fields h a) [] → LawfulSlot h a.wanted (joined fields h a) []
+    by_plan e l = subst (λ (m : Mode). LawfulOf m h a.wanted (joined fields h a) []) (sym e) l
+
 -- a cut keeps the plan
-passed_plan : (s : Slot) (t : Taken) → (passed s t).plan ≡ s.plan
+pub passed_plan : (s : Slot) (t : Taken) → (passed s t).plan ≡ s.plan
 passed_plan s (taken.Row row upto) = refl
 passed_plan s (taken.Lost count upto) = refl
 passed_plan s (taken.Change cells upto) = refl

@@ -2,7 +2,9 @@
 use Rattle.std.proofs.Common.{◌≡◌, ℕ, zero, suc, ◌+◌, List, refl, sym, ◌∙◌, ap, arith, subst, cond, false, Some, None, nat_lt}
 use Rattle.ls_event.specs.declared.event.Entry.{Entry}
 use Rattle.ls_event.specs.declared.event.Taken.{Taken}
-use Rattle.ls_event.specs.Slots.{Slot, What, Came, passed, came_by}
+use Rattle.ls_event.specs.Slots.{Slot, passed}
+use Rattle.ls_mirror.specs.Client.{What}
+use Rattle.ls_spec.specs.Came.{Came, came_by}
 use Rattle.ls_event.specs.Cuts.{change_to, next_place, cut_of, cut}
 use Rattle.ls_spec.specs.Cutting.{Wanted, accepted, told_or, turned, turn_within, turn}
 use Rattle.ls_spec.specs.Single.{IsSingle}

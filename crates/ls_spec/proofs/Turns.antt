@@ -1,13 +1,21 @@
 -- A turn that tells nothing leaves no cut.
-use Rattle.std.proofs.Common.{◌≡◌, ℕ, zero, suc, ◌+◌, ◌<◌, List, refl, sym, ◌∙◌, ap, arith, subst, Option, Some, None}
+use Rattle.std.proofs.Common.{◌≡◌, ℕ, zero, suc, ◌+◌, ◌-◌, ◌<◌, List, length, refl, sym, ◌∙◌, ap, arith, subst, cond, Bool, true, false, nat_lt, option_map, Option, Some, None}
+use Rattle.ls_value.specs.declared.row.Value.{Value}
 use Rattle.ls_event.specs.declared.event.Entry.{Entry}
 use Rattle.ls_event.specs.declared.event.Mode.{Mode}
 use Rattle.ls_event.specs.declared.event.Mode.TheVariants as mode
 use Rattle.ls_event.specs.declared.event.Taken.{Taken}
-use Rattle.ls_event.specs.Slots.{Slot, What, Came, passed, came_by}
+use Rattle.ls_event.specs.declared.event.Taken.TheVariants as taken
+use Rattle.ls_event.specs.declared.updates.OwnRow.{OwnRow}
+use Rattle.ls_event.specs.Updates.{updates_between, last_clear, recent_rows}
+use Rattle.ls_event.specs.OwnCuts.{first_of_last, raw_taken, raw_cut, row_taken, snapshot_told, distinct_told, distinct_cut}
+use Rattle.ls_event.specs.Slots.{Slot, passed}
+use Rattle.ls_mirror.specs.Client.{What}
+use Rattle.ls_spec.specs.Came.{Came, came_by}
 use Rattle.ls_event.specs.Cuts.{cut_of, cut}
 use Rattle.ls_spec.specs.Cutting.{Wanted, Turn, accepted, told_or, turned, turn_within, turn}
 use Rattle.ls_spec.specs.Lawful.{LawfulOf, LawfulSlot}
+use Rattle.ls_spec.proofs.Keeps.{no_cut}
 use Rattle.ls_spec.proofs.MergeCut.{IsMergeCut, merge_cut_is}
 
 -- a cut of mode MERGE moves the place up, and no other number
@@ -45,11 +53,84 @@ within_ends (suc n) h w s cs merge enough none =
     turned_ends h w s cs (cut h s) (λ r. turn_within n h w r cs) refl
     (λ t is. let m = moves h s t merge is in within_ends n h w (passed s t) cs m.mode (omega (arith, enough, m.last, m.place))) none
 
-lawful_mode : (h : List Entry) (w : Wanted) (s : Slot) (cs : List Came) (m : Mode) → LawfulOf m h w s cs → m ≡ mode.Merge
-lawful_mode h w s cs mode.Merge l = refl
-lawful_mode h w s cs mode.Raw l = absurd l
-lawful_mode h w s cs mode.Distinct l = absurd l
-lawful_mode h w s cs mode.Command l = absurd l
+-- a cut that always makes a line
+abbrev Tells : Taken → Type 0
+Tells (taken.Row row upto) = Unit {0}
+Tells (taken.Lost count upto) = Unit {0}
+Tells (taken.Change cells upto) = ⊥
+Tells (taken.Key key row upto) = ⊥
+Tells (taken.Cleared upto) = Unit {0}
+Tells taken.EndOfSnapshot = Unit {0}
+
+line_told : (w : Wanted) (s : Slot) (cs : List Came) (t : Taken) (rest : Turn) → Tells t → (told_or s t (accepted w s cs t) rest).told ≡ None → ⊥
+line_told w s cs (taken.Row row upto) rest tells none = cc
+line_told w s cs (taken.Lost count upto) rest tells none = cc
+line_told w s cs (taken.Change cells upto) rest tells none = tells
+line_told w s cs (taken.Key key row upto) rest tells none = tells
+line_told w s cs (taken.Cleared upto) rest tells none = cc
+line_told w s cs taken.EndOfSnapshot rest tells none = cc
+
+-- where each cut makes a line, a turn without one had no cut
+told_first : (h : List Entry) (w : Wanted) (s : Slot) (cs : List Came) (n : ℕ) → ((t : Taken) → cut h s ≡ Some t → Tells t) → Ends h (turn_within (suc n) h w s cs)
+told_first h w s cs n tells none = by_cut (cut h s) refl none
+  where
+    by_cut : (o : Option Taken) → cut h s ≡ o → (turned w s cs o (λ r. turn_within n h w r cs)).told ≡ None → cut h (turned w s cs o (λ r. turn_within n h w r cs)).slot ≡ None
+    by_cut None is none = is
+    by_cut (Some t) is none = absurd (line_told w s cs t (turn_within n h w (passed s t) cs) (tells t is) none)
+
+told_turn : (h : List Entry) (w : Wanted) (s : Slot) (cs : List Came) → ((t : Taken) → cut h s ≡ Some t → Tells t) → Ends h (turn h w s cs)
+told_turn h w s cs tells =
+    let e : suc (s.last + s.owed + 1) ≡ s.last + s.owed + 2 = omega arith in
+    subst (λ (n : ℕ). Ends h (turn_within n h w s cs)) e (told_first h w s cs (s.last + s.owed + 1) tells)
+
+raw_tells : (h : List Entry) (s : Slot) (t : Taken) → raw_cut h s ≡ Some t → Tells t
+raw_tells h s t is = by_first (first_of_last 256 (updates_between h s.place s.last)) is
+  where
+    by_test : (lost : ℕ) (u : OwnRow) (v : Bool) → Some (cond v (taken.Lost lost (u.no - 1)) (taken.Row u.row u.no)) ≡ Some t → Tells t
+    by_test lost u true e = let x : taken.Lost lost (u.no - 1) ≡ t = cc in subst Tells x tt
+    by_test lost u false e = let x : taken.Row u.row u.no ≡ t = cc in subst Tells x tt
+
+    by_first : (o : Option OwnRow) → option_map (raw_taken (length (updates_between h s.place s.last) - 256)) o ≡ Some t → Tells t
+    by_first None e = no_cut t e
+    by_first (Some u) e = by_test (length (updates_between h s.place s.last) - 256) u (nat_lt 0 (length (updates_between h s.place s.last) - 256)) e
+
+distinct_tells : (h : List Entry) (s : Slot) (t : Taken) → distinct_cut h s ≡ Some t → Tells t
+distinct_tells h s t is = by_clear (last_clear h s.place s.last) is
+  where
+    known : (x : Taken) → Some x ≡ Some t → Tells x → Tells t
+    known x e tells =
+        let same : x ≡ t = cc in
+        subst Tells same tells
+
+    by_ends : (n : ℕ) (b : Bool) → cond b (Some taken.EndOfSnapshot) (Some (taken.Cleared n)) ≡ Some t → Tells t
+    by_ends n true e = known taken.EndOfSnapshot e tt
+    by_ends n false e = known (taken.Cleared n) e tt
+
+    by_row : (o : Option (List Value)) → option_map (λ row. taken.Row row s.plan.base) o ≡ Some t → Tells t
+    by_row None e = no_cut t e
+    by_row (Some r) e = known (taken.Row r s.plan.base) e tt
+
+    by_update : (o : Option OwnRow) → option_map row_taken o ≡ Some t → Tells t
+    by_update None e = no_cut t e
+    by_update (Some u) e = known (taken.Row u.row u.no) e tt
+
+    by_end : (b : Bool) → cond b (Some taken.EndOfSnapshot) (option_map row_taken (first_of_last s.plan.size (updates_between h s.place s.last))) ≡ Some t → Tells t
+    by_end true e = known taken.EndOfSnapshot e tt
+    by_end false e = by_update (first_of_last s.plan.size (updates_between h s.place s.last)) e
+
+    by_owed : (b : Bool) → cond b (snapshot_told h s) (cond s.ends (Some taken.EndOfSnapshot) (option_map row_taken (first_of_last s.plan.size (updates_between h s.place s.last)))) ≡ Some t → Tells t
+    by_owed true e = by_row (first_of_last s.owed (recent_rows h s.plan.base)) e
+    by_owed false e = by_end s.ends e
+
+    by_clear : (o : Option ℕ) → distinct_told h s o ≡ Some t → Tells t
+    by_clear (Some n) e = by_ends n s.ends e
+    by_clear None e = by_owed (nat_lt 0 s.owed) e
 
 pub turn_ends : (h : List Entry) (w : Wanted) (s : Slot) (cs : List Came) → LawfulSlot h w s cs → (turn h w s cs).told ≡ None → cut h (turn h w s cs).slot ≡ None
-turn_ends h w s cs l none = within_ends (s.last + s.owed + 2) h w s cs (lawful_mode h w s cs s.plan.mode l) (omega arith) none
+turn_ends h w s cs l = by_mode s.plan.mode refl l
+  where
+    by_mode : (m : Mode) → s.plan.mode ≡ m → LawfulOf m h w s cs → Ends h (turn h w s cs)
+    by_mode mode.Merge is k = within_ends (s.last + s.owed + 2) h w s cs is (omega arith)
+    by_mode mode.Raw is k = told_turn h w s cs (λ t c. raw_tells h s t (sym (ap (λ (m : Mode). cut_of m h s) is) ∙ c))
+    by_mode mode.Distinct is k = told_turn h w s cs (λ t c. distinct_tells h s t (sym (ap (λ (m : Mode). cut_of m h s) is) ∙ c))
+    by_mode mode.Command is k = absurd k

@@ -5,9 +5,15 @@ use Rattle.ls_event.specs.declared.event.Entry.{Entry}
 use Rattle.ls_event.specs.declared.event.Mode.{Mode}
 use Rattle.ls_event.specs.declared.event.Mode.TheVariants as mode
 use Rattle.ls_event.specs.History.{merged, IsHistory}
-use Rattle.ls_event.specs.Slots.{Plan, Slot, Row, Came}
-use Rattle.ls_spec.specs.Lines.{Line, came}
+use Rattle.ls_event.specs.Slots.{Plan, Slot}
+use Rattle.ls_mirror.specs.Client.{What, Row, HasCome}
+use Rattle.ls_spec.specs.Came.{Came, whats}
+use Rattle.ls_line.specs.declared.line.Line.{Line as WireLine}
+use Rattle.ls_line.specs.Reading.{Says}
+use Rattle.ls_spec.specs.Lines.{Line, came, texts}
 use Rattle.ls_spec.specs.Cutting.{Wanted, client_row}
+use Rattle.ls_spec.specs.RawMode.{LawfulRaw}
+use Rattle.ls_spec.specs.DistinctMode.{LawfulDistinct}
 use Rattle.ls_spec.specs.World.{World, Session, Board, Stream, Item, Live, history_of, fields_of, is_at}
 
 -- it is true of each
@@ -36,11 +42,11 @@ pub record LawfulMerge (h : List Entry) (w : Wanted) (s : Slot) (cs : List Came)
   pub row : s.given ≡ true → client_row (length w.places) cs ≡ projected (merged s.plan.fields h s.place) w.places
   pub lines : MergeLines s.plan w h (s.place + 1) cs
 
--- slots of the other modes aren't built yet, so there is none
+-- slots of mode COMMAND aren't built yet, so there is none
 abbrev pub LawfulOf : Mode → List Entry → Wanted → Slot → List Came → Type 0
 LawfulOf mode.Merge h w s cs = LawfulMerge h w s cs
-LawfulOf mode.Raw h w s cs = ⊥
-LawfulOf mode.Distinct h w s cs = ⊥
+LawfulOf mode.Raw h w s cs = LawfulRaw h w s cs
+LawfulOf mode.Distinct h w s cs = LawfulDistinct h w s cs
 LawfulOf mode.Command h w s cs = ⊥
 
 abbrev pub LawfulSlot : List Entry → Wanted → Slot → List Came → Type 0
@@ -77,6 +83,28 @@ pub record LawfulSession (items : List Item) (s : Session) : Type 0 where
   pub streams : LawfulStreams s.sent s.streams
 
 -- each item's events are a history, and each session is lawful on them
-pub record Lawful (w : World) : Type 0 where
+pub record LawfulRecords (w : World) : Type 0 where
   pub items : Each (λ i. IsHistory (length i.fields) i.history) w.items
   pub sessions : Each (LawfulSession w.items) w.sessions
+
+-- texts are read as lines
+abbrev pub AreRead : List (List ℕ) → List WireLine → Type 0
+AreRead [] [] = Unit {0}
+AreRead [] (l ∷ ls) = ⊥
+AreRead (text ∷ texts) [] = ⊥
+AreRead (text ∷ texts) (l ∷ ls) = Says text l × AreRead texts ls
+
+-- what came of an item of a subscription is what a client decodes from the texts of the lines
+pub record Decodes (all : List (List ℕ)) (sub place : ℕ) (ws : List What) : Type 0 where
+  pub lines : List WireLine
+  pub read : AreRead all lines
+  pub came : HasCome sub place lines ws
+
+-- of each slot of a session, what the records say came to its client is what the client decodes from the texts of all numbered lines
+abbrev pub Decoded : Session → Type 0
+Decoded s = Each (λ v. Decodes (texts s.board.lines) v.sub v.place (whats (came v.sub v.place s.board.lines))) s.board.round
+
+-- the headline of a world: what each client decodes from the bytes of its lines is true of the items' histories
+pub record Lawful (w : World) : Type 0 where
+  pub records : LawfulRecords w
+  pub clients : Each Decoded w.sessions

@@ -1,10 +1,17 @@
+pub mod Came
 pub mod Lines
+pub mod Tables
 pub mod Cutting
 pub mod World
+pub mod RawMode
+pub mod DistinctMode
+pub mod CommandMode
+pub mod Life
 pub mod Steps
 pub mod Forms
 pub mod Script
 pub mod Lawful
+pub mod Ranges
 pub mod Single
 pub mod Ready
 pub mod Told

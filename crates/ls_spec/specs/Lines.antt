@@ -1,9 +1,12 @@
--- The numbered lines of a session, and what came to a client by them (TLCP 2.1, notifications).
-use Rattle.std.specs.Prelude.{◌==◌, ℕ, ◌+◌, List, [], ◌∷◌, ◌++◌, length, ◌&&◌, Option, None, Some, codes, if◌then◌else◌}
-use Rattle.std.specs.Fmt.{decimal}
+-- The numbered lines of a session, the lines of the protocol that they are, and what came to a client by them (TLCP 2.1, notifications).
+use Rattle.std.specs.Prelude.{◌==◌, ℕ, ◌+◌, List, [], ◌∷◌, length, ◌&&◌, Option, codes, if◌then◌else◌}
 use Rattle.ls_value.specs.declared.row.Value.{Value}
-use Rattle.ls_event.specs.Slots.{What, Row, Lost, Cleared, End, Came}
 use Rattle.ls_update.specs.Fields.{spelled}
+use Rattle.ls_line.specs.declared.line.Line.{Line as WireLine}
+use Rattle.ls_line.specs.declared.line.Line.TheVariants as line
+use Rattle.ls_line.specs.Lines.{text_of}
+use Rattle.ls_mirror.specs.Client.{What, Row, Lost, Cleared, End, last_row as last_row_of}
+use Rattle.ls_spec.specs.Came.{Came, whats}
 
 -- SUBOK with its numbers of items and fields, UNSUB, CONF, and a line that tells of an item of a subscription: U, OV, CS or EOS
 pub data Line : Type 0 where
@@ -21,33 +24,35 @@ came sub place (Configures s ∷ lines) = came sub place lines
 came sub place (Tells s p c ∷ lines) = if (s == sub) && (p == place) then c ∷ came sub place lines else came sub place lines
 
 -- the last row that came
-abbrev pub row_or : What → Option (List Value) → Option (List Value)
-row_or (Row r) other = Some r
-row_or (Lost k) other = other
-row_or Cleared other = other
-row_or End other = other
-
 abbrev pub last_row : List Came → Option (List Value)
-last_row [] = None
-last_row (c ∷ cs) = row_or c.what (last_row cs)
+last_row cs = last_row_of (whats cs)
 
--- parts of a line, divided by commas
-abbrev pub then_number : List ℕ → ℕ → List ℕ
-then_number text n = text ++ 44 ∷ decimal n
+-- the line of the protocol that tells, where the last row was this one: a row is coded against it
+abbrev pub tells_line : Option (List Value) → ℕ → ℕ → What → WireLine
+tells_line prev sub place (Row r) = line.U sub place (spelled prev r)
+tells_line prev sub place (Lost k) = line.Ov sub place k
+tells_line prev sub place Cleared = line.Cs sub place
+tells_line prev sub place End = line.Eos sub place
 
--- the text of a line that tells, where the last row was this one
+-- its text
 abbrev pub tells_text : Option (List Value) → ℕ → ℕ → What → List ℕ
-tells_text prev sub place (Row r) = then_number (then_number (codes "U") sub) place ++ 44 ∷ spelled prev r
-tells_text prev sub place (Lost k) = then_number (then_number (then_number (codes "OV") sub) place) k
-tells_text prev sub place Cleared = then_number (then_number (codes "CS") sub) place
-tells_text prev sub place End = then_number (then_number (codes "EOS") sub) place
+tells_text prev sub place what = text_of (tells_line prev sub place what)
 
--- the text of a line behind the lines before it; a U line is coded against the client's last row
+-- a numbered line as a line of the protocol, behind the lines before it
+abbrev pub wire : List Line → Line → WireLine
+wire lines (Begins sub items fields) = line.SubOk sub items fields
+wire lines (Ends sub) = line.Unsub sub
+wire lines (Configures sub) = line.Conf sub (codes "unlimited") (codes "filtered")
+wire lines (Tells sub place c) = tells_line (last_row (came sub place lines)) sub place c.what
+
+-- the text of a line behind the lines before it
 abbrev pub line_text : List Line → Line → List ℕ
-line_text lines (Begins sub items fields) = then_number (then_number (then_number (codes "SUBOK") sub) items) fields
-line_text lines (Ends sub) = then_number (codes "UNSUB") sub
-line_text lines (Configures sub) = then_number (codes "CONF") sub ++ codes ",unlimited,filtered"
-line_text lines (Tells sub place c) = tells_text (last_row (came sub place lines)) sub place c.what
+line_text lines l = text_of (wire lines l)
+
+-- the texts of all lines
+abbrev pub texts : List Line → List (List ℕ)
+texts [] = []
+texts (l ∷ lines) = line_text lines l ∷ texts lines
 
 -- the text of the line of a number, where the newest of the lines stands first
 abbrev pub text_at : List Line → ℕ → List ℕ

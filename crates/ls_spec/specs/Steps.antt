@@ -8,6 +8,8 @@ use Rattle.ls_event.specs.declared.event.Event.TheVariants.{Update}
 use Rattle.ls_event.specs.declared.event.PublishRefused.{PublishRefused}
 use Rattle.ls_event.specs.declared.event.PublishRefused.TheVariants as refused
 use Rattle.ls_event.specs.History.{refusal}
+use Rattle.ls_line.specs.declared.line.Line.TheVariants as line
+use Rattle.ls_line.specs.Lines.{text_of}
 use Rattle.ls_spec.specs.Lines.{text_at}
 use Rattle.ls_spec.specs.Cutting.{Ask}
 use Rattle.ls_spec.specs.World.{World, Item, Live, Session, Told, history_of, change, is_used, live_at, all_declared, all_built, added, enqueued_in, least_far, free_number, asked, taken_in, on_board, is_unsent, given_next, opened}
@@ -63,10 +65,10 @@ on_connection name text = name ++ 58 ∷ text ++ line_end
 
 -- a request that was accepted or refused: its id, the code and the message (TLCP 2.1, REQOK and REQERR)
 abbrev pub request_accepted : ℕ → List ℕ
-request_accepted id = codes "REQOK," ++ decimal id
+request_accepted id = text_of (line.ReqOk (decimal id))
 
 abbrev pub request_refused : ℕ → ℕ → List ℕ → List ℕ
-request_refused id code message = codes "REQERR," ++ decimal id ++ 44 ∷ decimal code ++ 44 ∷ message
+request_refused id code message = text_of (line.ReqErr (decimal id) code message)
 
 -- what is done with a session, by its place from 0, where there is one
 abbrev pub with_found : {A : Type 0} → Option Session → A → (Session → A) → A

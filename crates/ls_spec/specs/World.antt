@@ -4,7 +4,10 @@ use Rattle.std.specs.Option.{option_map_or}
 use Rattle.std.specs.List.{flat_map}
 use Rattle.std.specs.Fmt.{decimal}
 use Rattle.ls_event.specs.declared.event.Entry.{Entry}
-use Rattle.ls_event.specs.Slots.{Slot, Came, enqueued, is_far}
+use Rattle.ls_event.specs.Slots.{Slot, enqueued, is_far}
+use Rattle.ls_spec.specs.Came.{Came}
+use Rattle.ls_line.specs.declared.line.Line.TheVariants as line
+use Rattle.ls_line.specs.Lines.{text_of}
 use Rattle.ls_spec.specs.Lines.{Line, Begins, Configures, Tells, came}
 use Rattle.ls_spec.specs.Cutting.{Wanted, Ask, Turn, joined, is_built, turn}
 
@@ -210,7 +213,7 @@ given_next s = if is_unsent s then record s { sent = s.sent + 1; streams = noted
 
 -- what a new stream begins with: the session's name, the longest request, the keep-alive in ms and no control link; the server's name; the bandwidth (TLCP 2.1, CONOK, SERVNAME, CONS)
 abbrev pub opening_lines : ℕ → List (List ℕ)
-opening_lines number = (codes "CONOK,S" ++ decimal number ++ codes ",50000,5000,*") ∷ codes "SERVNAME,tlcpd" ∷ codes "CONS,unlimited" ∷ []
+opening_lines number = text_of (line.ConOk (codes "S" ++ decimal number) 5000) ∷ text_of line.ServName ∷ text_of (line.Cons (codes "unlimited")) ∷ []
 
 -- a session that begins, by its number from 1
 abbrev pub opened : ℕ → Session

@@ -1,39 +1,89 @@
 //! The laws about the definitions. Each function's contract is a law; its body is empty.
-ghost use Rattle.std.specs.Prelude.{◌≡◌, ℕ, List, length, Option, None, false, true};
+ghost use Rattle.std.specs.Prelude.{◌≡◌, ◌<◌, ℕ, List, length, Option, None, false, true, []};
 ghost use Rattle.std.specs.List.{Contains};
 ghost use Rattle.ls_value.specs.Values.{projected};
+ghost use Rattle.ls_value.specs.declared.row.Value.{Value};
 ghost use Rattle.ls_event.specs.declared.event.Entry.{Entry};
+ghost use Rattle.ls_event.specs.declared.event.Mode.TheVariants as mode;
 ghost use Rattle.ls_event.specs.History.{merged};
-ghost use Rattle.ls_event.specs.Slots.{Slot, Came};
+ghost use Rattle.ls_event.specs.Updates.{updates_between};
+ghost use Rattle.ls_event.specs.Keyed.{keyed, row_at};
+ghost use Rattle.ls_event.specs.Slots.{Plan, Slot};
+ghost use Rattle.ls_spec.specs.Came.{Came, whats};
 ghost use Rattle.ls_event.specs.Cuts.{cut, pending};
 ghost use Rattle.ls_spec.specs.Lines.{came};
-ghost use Rattle.ls_spec.specs.Cutting.{Wanted, client_row, turn};
+ghost use Rattle.ls_spec.specs.Cutting.{Wanted, client_row, command_with, schema_of, turn};
 ghost use Rattle.ls_spec.specs.World.{World, Session, Live, empty, history_of, fields_of};
 ghost use Rattle.ls_spec.specs.Steps.{Step, does_all};
 ghost use Rattle.ls_spec.specs.Script.{world_of};
-ghost use Rattle.ls_spec.specs.Lawful.{LawfulSlot, Lawful};
+ghost use Rattle.ls_spec.specs.Lawful.{Each, LawfulSlot, Lawful};
+ghost use Rattle.ls_mirror.specs.Client.{Row};
+ghost use Rattle.ls_spec.specs.RawMode.{Accounts};
+ghost use Rattle.ls_spec.specs.DistinctMode.{LeavesOut};
+ghost use Rattle.ls_spec.specs.CommandMode.{IsKeyed, IsToKnow, LawfulCommand, LawfulLife};
+ghost use Rattle.ls_spec.specs.Life.{Moment, lives};
+ghost use Rattle.ls_spec.specs.Tables.{projected_row, table_at};
+ghost use Rattle.ls_spec.specs.Ranges.{InRange};
 ghost use Rattle.ls_spec.specs.Told.{IsTrueOf};
 
-/// Each world that steps make of the empty one is lawful: every client is at a state that its item had, and never goes back.
+/// Each world that steps make of the empty one is lawful, where the parts of each step are in their ranges: what every client decodes from the
+/// bytes of its lines are states that its item had, and they never go back.
 pub fn each_world_is_lawful()
-    ensures { (steps : List Step) → Lawful (does_all empty steps) }
+    ensures { (steps : List Step) → Each InRange steps → Lawful (does_all empty steps) }
 {}
 
-/// Each world that the lines of a script make of the empty one is lawful.
+/// Each world that the lines of a script make of the empty one is lawful: they ask for no step outside the ranges.
 pub fn each_script_is_lawful()
     ensures { (lines : List (List ℕ)) → Lawful (world_of empty lines) }
 {}
 
-/// Once nothing waits behind a slot's first line, the client's row is the item's state after the last event that was enqueued, at the places of the schema.
+/// In mode MERGE, once nothing waits behind a slot's first line, the client's row is the item's state after the last event that was enqueued, at the places of the schema.
 pub fn settled_clients_have_the_items_state()
-    ensures { (h : List Entry) (w : Wanted) (s : Slot) (cs : List Came) → LawfulSlot h w s cs → pending s ≡ false → s.given ≡ true
+    ensures { (h : List Entry) (w : Wanted) (s : Slot) (cs : List Came) → LawfulSlot h w s cs → s.plan.mode ≡ mode.Merge → pending h s ≡ false → s.given ≡ true
         → client_row (length w.places) cs ≡ projected (merged s.plan.fields h s.last) w.places }
 {}
 
-/// In a lawful world each row that came to a client is a state that the item had, at a number that its history reached, and the numbers of the lines rise.
+/// In a lawful world each row that came to a client is a state that the item had, at a number that its history reached, and no line goes back behind an
+/// earlier one: in mode MERGE it is the merged state, in mode RAW the own row of the update of that number, and in mode DISTINCT such a row or one of the snapshot.
 pub fn no_state_is_invented()
     ensures { (w : World) (s : Session) (v : Live) → Lawful w → Contains w.sessions s → Contains s.board.round v
-        → IsTrueOf (fields_of w.items v.item) (history_of w.items v.item) v.wanted.places (came v.sub v.place s.board.lines) }
+        → IsTrueOf v.slot.plan.mode (fields_of w.items v.item) (history_of w.items v.item) v.wanted.places (came v.sub v.place s.board.lines) }
+{}
+
+/// In mode RAW what came to a client accounts for each update behind its first place up to the slot's: it is told by its own row or counted among the lost, once and in order.
+pub fn each_update_is_told_or_counted()
+    ensures { (h : List Entry) (w : Wanted) (s : Slot) (cs : List Came) → LawfulSlot h w s cs → s.plan.mode ≡ mode.Raw → Accounts w.places (updates_between h s.plan.base s.place) (whats cs) }
+{}
+
+/// And once a slot of mode RAW has no cut, each update up to the last event that was enqueued.
+pub fn settled_clients_know_of_each_update()
+    ensures { (h : List Entry) (w : Wanted) (s : Slot) (cs : List Came) → LawfulSlot h w s cs → s.plan.mode ≡ mode.Raw → cut h s ≡ None
+        → Accounts w.places (updates_between h s.plan.base s.last) (whats cs) }
+{}
+
+/// In mode DISTINCT a row that passes over updates leaves out only such as weren't among the last n that had come then, where n is the size of the buffer.
+pub fn only_old_rows_are_left_out()
+    ensures { (h : List Entry) (w : Wanted) (s : Slot) (cs : List Came) → LawfulSlot h w s cs → s.plan.mode ≡ mode.Distinct
+        → (c : Came) (r : List Value) → Contains cs c → c.what ≡ Row r → c.before < c.upto → LeavesOut s.plan.size h c }
+{}
+
+/// Whatever happens to a slot of mode COMMAND that joins with a schema which shows the key and the command: at each key that had its turn the client's table
+/// agrees with the item's at the place of that key, other keys are absent from it, and the numbers of the lines never fall.
+pub fn each_key_is_told_as_it_was()
+    ensures { (w : Wanted) (p : Plan) (h : List Entry) → IsKeyed p w.places → p.mode ≡ mode.Command → p.base ≡ length h
+        → (ms : List Moment) → LawfulLife w (lives w (record { history = h; slot = command_with p h w.snapshot; came = [] }) ms) }
+{}
+
+/// Once such a slot has no cut, the client's table is the item's after the last event that was enqueued: at each key with a snapshot, and else at each that an
+/// update since named.
+pub fn settled_tables_are_the_items()
+    ensures { (h : List Entry) (w : Wanted) (s : Slot) (cs : List Came) → LawfulCommand h w s cs → s.plan.mode ≡ mode.Command → cut h s ≡ None
+        → (k : List ℕ) → IsToKnow h w s k → table_at (schema_of w s.plan) k (whats cs) ≡ projected_row w.places (row_at k (keyed s.plan h s.last)) }
+{}
+
+/// Once a slot isn't pending, its place is the number of the last event that was enqueued. In mode COMMAND each key has a place of its own.
+pub fn settled_slots_are_at_the_last_event()
+    ensures { (h : List Entry) (w : Wanted) (s : Slot) (cs : List Came) → LawfulSlot h w s cs → (s.plan.mode ≡ mode.Command → ⊥) → pending h s ≡ false → s.place ≡ s.last }
 {}
 
 /// A slot's turn that tells nothing leaves no cut.

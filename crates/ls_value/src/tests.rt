@@ -27,10 +27,11 @@ fn one_of_each(alloc: Global) -> Result<Cells, Fail>
     Ok(Cells::of(cells))
 }
 
-/// A copy of the text of these bytes.
+/// A copy of the text of these bytes, which was a string in between.
 fn copied(alloc: Global, bytes: &[u8]) -> Result<Text, TextRefused> {
     let text = Text::of(alloc, bytes)?;
-    Ok(text.copy(alloc)?)
+    let string = text.copy(alloc)?.into_string();
+    Ok(Text::from_string(string))
 }
 
 /// Whether a row has these values, where `None` is null.

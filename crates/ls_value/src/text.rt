@@ -1,5 +1,5 @@
 //! Texts in UTF-8, and bytes.
-ghost use Rattle.std.specs.Prelude.{◌≡◌, ◌↔◌, IfOk, OnOk, IsErrOf, length, nat_eq};
+ghost use Rattle.std.specs.Prelude.{◌≡◌, ◌↔◌, IfOk, OnOk, IsErrOf, length, nat_eq, string_bytes};
 ghost use Rattle.std.specs.Str.{IsUtf8};
 ghost use Rattle.ls_value.specs.Values.{text_eq};
 
@@ -80,6 +80,20 @@ impl Text {
             }),
             Err(_) => Err(TextRefused::NotUtf8),
         }
+    }
+
+    /// The text of a string, whose memory it keeps.
+    pub fn from_string(string: String) -> Text
+        ensures { result ≡ string_bytes string }
+    {
+        Text { inner: string }
+    }
+
+    /// Its string, which keeps the text's memory.
+    pub fn into_string(self) -> String
+        ensures { string_bytes result ≡ self }
+    {
+        self.inner
     }
 
     /// An equal text.

@@ -1,56 +1,17 @@
 -- What the forms of a line keep to.
-use Rattle.std.proofs.Common.{◌≡◌, ◌==◌, ℕ, ◌<◌, ◌≤◌, List, [], ◌∷◌, length, refl, sym, arith, Bool, true, false, ◌&&◌, ◌||◌, subst, map, cond, Option, Some, None, IfSome, option_map, codes, All}
-use Rattle.std.specs.Prelude.{nat_le, not, option_and_then}
+use Rattle.std.proofs.Common.{◌≡◌, ℕ, ◌<◌, ◌≤◌, List, [], ◌∷◌, length, refl, sym, arith, true, ◌&&◌, ◌||◌, subst, map, Option, Some, None, IfSome, option_map, codes, All}
+use Rattle.std.specs.Prelude.{nat_le, not}
 use Rattle.std.proofs.lemmas.List.{length-map}
 use Rattle.std.proofs.lemmas.List.Elements.{All-nil, All-cons}
-use Rattle.std.proofs.lemmas.List.Splits.{length-slice_split}
 use Rattle.std.proofs.lemmas.Bool.Decides.{nat_tests}
 use Rattle.ls_value.specs.Values.{text_eq, place_of}
 use Rattle.ls_value.proofs.Rows.{and_left, and_right, place_of_within}
 use Rattle.ls_spec.specs.Steps.{Step as Said, Declare, Open, Add, Publish, Enqueue, Take}
-use Rattle.ls_spec.specs.Forms.{Known, Declared, Pair, parts, within, number_in, number_of, is_name, are_fields, are_distinct, placed, places_of, schema_of, event_of, cell_of, cells_of, item_named, fields_at, declare_form, open_form, add_form, publish_form, enqueue_form, take_form, times_of, form_of}
+use Rattle.ls_spec.specs.Forms.{Known, Declared, Pair, parts, number_of, is_name, are_fields, are_distinct, placed, places_of, schema_of, event_of, cell_of, cells_of, item_named, fields_at, declare_form, open_form, add_form, publish_form, enqueue_form, take_form, times_of, form_of}
+use Rattle.ls_spec.proofs.FormRanges.{kept, one_of, later, chained, made, or_left, number_within, some_part, anything, IsSchema, schema_counts}
 use Rattle.tlcpd.specs.declared.script.Step.{Step}
 use Rattle.tlcpd.specs.declared.script.Step.TheVariants as step
 use Rattle.tlcpd.specs.Reading.{said, FirstItem, FirstAdd, Update, Times, InRange}
-
--- an answer that is kept under a test, one of two, and a chain
-kept : {A : Type 0} (P : A → Type 0) (b : Bool) (a : A) → (b ≡ true → P a) → IfSome (cond b (Some a) None) P
-kept P true a h = h refl
-kept P false a h = tt
-
-one_of : {A : Type 0} (P : A → Type 0) (b : Bool) (x y : Option A) → IfSome x P → IfSome y P → IfSome (cond b x y) P
-one_of P true x y h j = h
-one_of P false x y h j = j
-
-later : {A : Type 0} (P : A → Type 0) (b : Bool) (x : Option A) → (b ≡ false → IfSome x P) → IfSome (cond b None x) P
-later P true x h = tt
-later P false x h = h refl
-
-chained : {A B : Type 0} (Q : A → Type 0) (P : B → Type 0) (f : A → Option B) (o : Option A) → IfSome o Q → ((a : A) → Q a → IfSome (f a) P) → IfSome (option_and_then f o) P
-chained Q P f None h j = tt
-chained Q P f (Some a) h j = j a h
-
-made : {A B : Type 0} (Q : A → Type 0) (P : B → Type 0) (f : A → B) (o : Option A) → IfSome o Q → ((a : A) → Q a → P (f a)) → IfSome (option_map f o) P
-made Q P f None h j = tt
-made Q P f (Some a) h j = j a h
-
-or_left : (a b : Bool) → (a || b) ≡ false → a ≡ false
-or_left false b h = refl
-or_left true b h = cc
-
--- a number within its bounds
-Within : ℕ → ℕ → ℕ → Type 0
-Within low high n = (low ≤ n) × (n ≤ high)
-
-number_within : (low high : ℕ) (text : List ℕ) → IfSome (number_in low high text) (λ n. (low ≤ n) × (n ≤ high))
-number_within low high text = chained (λ n. Unit {0}) (λ n. (low ≤ n) × (n ≤ high)) (within low high) (number_of text) (anything (number_of text)) (λ n u. kept (λ m. (low ≤ m) × (m ≤ high)) (nat_le low n && nat_le n high) n (λ h. bounds n (and_left _ _ h) (and_right _ _ h)))
-  where
-    anything : (o : Option ℕ) → IfSome o (λ n. Unit {0})
-    anything None = tt
-    anything (Some n) = tt
-
-    bounds : (n : ℕ) → nat_le low n ≡ true → nat_le n high ≡ true → (low ≤ n) × (n ≤ high)
-    bounds n h j = (grind (arith, nat_tests), grind (arith, nat_tests))
 
 -- places of fields, and cells of an event
 places_within : (fields names : List (List ℕ)) → IfSome (places_of fields names) (λ places. All (λ p. p < length fields) places)
@@ -62,8 +23,15 @@ places_within fields (name ∷ names) = both (place_of fields name) (places_of f
     both (Some p) None h j = tt
     both (Some p) (Some places) h j = All-cons (λ q. q < length fields) p places h j
 
-schema_within : (fields names : List (List ℕ)) → IfSome (schema_of fields names) (λ places. All (λ p. p < length fields) places)
-schema_within fields names = one_of (λ places. All (λ p. p < length fields) places) (nat_le (length names) 64 && are_distinct names) (places_of fields names) None (places_within fields names) tt
+-- what two facts say of an answer
+both_of : {A : Type 0} (P Q : A → Type 0) (o : Option A) → IfSome o P → IfSome o Q → IfSome o (λ a. P a × Q a)
+both_of P Q None p q = tt
+both_of P Q (Some a) p q = (p, q)
+
+schema_within : (fields names : List (List ℕ)) → IfSome (schema_of fields names) (λ places. All (λ p. p < length fields) places × IsSchema names places)
+schema_within fields names =
+    both_of (λ places. All (λ p. p < length fields) places) (IsSchema names) (schema_of fields names)
+    (one_of (λ places. All (λ p. p < length fields) places) (nat_le (length names) 64 && are_distinct names) (places_of fields names) None (places_within fields names) tt) (schema_counts fields names)
 
 cells_whole : (fields : List (List ℕ)) (text : List ℕ) → IfSome (cells_of fields text) (λ cells. length cells ≡ length fields)
 cells_whole fields text = by_event (event_of fields text)
@@ -85,9 +53,6 @@ Fits k (Take connection times) = Times k connection times
 is_empty : {A : Type 0} (xs : List A) → nat_le (length xs) 0 ≡ true → xs ≡ []
 is_empty [] h = refl
 is_empty (x ∷ xs) h = absurd (let l : length (x ∷ xs) ≤ 0 = grind (arith, nat_tests) in omega (arith, l))
-
-some_part : (divider : ℕ) (text : List ℕ) → 1 ≤ length (parts divider text)
-some_part divider text = let e = length-slice_split (λ b. b == divider) text in omega (arith, e)
 
 declare_fits : (k : Known) (name kind fields : List ℕ) → IfSome (declare_form k name kind fields) (Fits k)
 declare_fits k name kind fields =
@@ -113,8 +78,16 @@ add_fits k connection sub item fields kind =
     (λ h. chained (λ c. c < length k.connections) (Fits k) _ _ (place_of_within k.connections connection)
     (λ c opened. chained (λ s. (1 ≤ s) × (s ≤ 999999999)) (Fits k) _ _ (number_within 1 999999999 sub)
     (λ s numbered. chained (λ i. i < length k.items) (Fits k) _ _ (item_within k.items item)
-    (λ i declared. made (λ places. All (λ p. p < length (fields_at k.items i)) places) (Fits k) _ _ (schema_within (fields_at k.items i) (parts 44 fields))
-    (λ places within. record { first = or_left _ _ h; opened = opened; numbered = numbered.0; declared = declared; within = within })))))
+    (λ i declared. made (λ places. All (λ p. p < length (fields_at k.items i)) places × IsSchema (parts 44 fields) places) (Fits k) _ _ (schema_within (fields_at k.items i) (parts 44 fields))
+    (λ places schema.
+    record {
+      first = or_left _ _ h;
+      opened = opened;
+      numbered = numbered.0;
+      declared = declared;
+      within = schema.0;
+      few = omega (arith, schema.1.count, schema.1.few);
+    })))))
 
 publish_fits : (k : Known) (adapter seq item event : List ℕ) → IfSome (publish_form k adapter seq item event) (Fits k)
 publish_fits k adapter seq item event =
@@ -123,10 +96,6 @@ publish_fits k adapter seq item event =
     (λ s numbered. chained (λ i. i < length k.items) (Fits k) _ _ (item_within k.items item)
     (λ i declared. made (λ cells. length cells ≡ length (fields_at k.items i)) (Fits k) _ _ (cells_whole (fields_at k.items i) event)
     (λ cells whole. record { declared = declared; some = from.0; most = from.1; numbered = numbered.0; whole = whole }))))
-
-anything : {A : Type 0} (o : Option A) → IfSome o (λ a. Unit {0})
-anything None = tt
-anything (Some a) = tt
 
 enqueue_fits : (k : Known) (connection sub place : List ℕ) (times : Option ℕ) → IfSome times (λ n. (1 ≤ n) × (n ≤ 1000)) → IfSome (enqueue_form k connection sub place times) (Fits k)
 enqueue_fits k connection sub place times few =

@@ -6,7 +6,7 @@ use Rattle.ls_outside.proofs.Bytes.{appends_on, consumes_on}
 use Rattle.ls_spec.specs.declared.Refused.TheVariants.{NotBuilt}
 use Rattle.ls_spec.specs.World.{empty}
 use Rattle.ls_spec.specs.Script.{whole_from, rest_from, last_line, lines_of, done}
-use Rattle.ls_spec.proofs.Laws.{lawful_world_of, lawful_empty}
+use Rattle.ls_spec.proofs.Legible.{lawful_script}
 use Rattle.tlcpd.specs.Replay.{Midway, midway_after, Met, Feeds, before, Holding, StandsFor}
 use Rattle.tlcpd.specs.Ran.{Going, Ran, Outcome, DidAll, status_at}
 use Rattle.tlcpd.specs.declared.running.Status.TheVariants as status
@@ -25,14 +25,14 @@ going_on r q c l0 l1 l2 h0 h1 h2 go took f all =
 
 -- each line from the start was done
 all_done : (read w : List ℕ) (ended : Bool) → Met fed.All before (lines_of ended read) w → DidAll (lines_of ended read) w
-all_done read w ended met = record { count = met.0; text = met.1; lawful = lawful_world_of empty (lines_of ended read) lawful_empty }
+all_done read w ended met = record { count = met.0; text = met.1; lawful = lawful_script (lines_of ended read) }
 
 -- what a call says of the lines from the start is the outcome
 outcome_of : (a : Fed) (read : List ℕ) (w : List ℕ) (ended : Bool) → (a ≡ fed.All → ended ≡ true) → Met a before (lines_of ended read) w → Outcome (status_at a) read w ended
 outcome_of fed.All read w ended e met = (e refl, all_done read w ended met)
 outcome_of (fed.Stopped NotBuilt line) read w ended e met =
     let n : line ≡ 0 + done empty (lines_of ended read) + 1 = met.0 in
-    record { number = omega (arith, n); within = omega (arith, n, met.1); cause = met.2; text = met.3; lawful = lawful_world_of empty (lines_of ended read) lawful_empty }
+    record { number = omega (arith, n); within = omega (arith, n, met.1); cause = met.2; text = met.3; lawful = lawful_script (lines_of ended read) }
 outcome_of fed.WriteFault read w ended e met = met
 outcome_of fed.NoMemory read w ended e met = met
 

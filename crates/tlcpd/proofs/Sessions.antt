@@ -2,7 +2,8 @@
 use Rattle.std.proofs.Common.{◌≡◌, ◌==◌, ℕ, ◌+◌, ◌<◌, ◌≤◌, ◌^◌, List, [], ◌∷◌, ◌++◌, length, refl, sym, ◌∙◌, ap, arith, subst, cond, ◌&&◌, Bool, true, false, Option, Some, None, nat_lt, nat_le}
 use Rattle.std.proofs.lemmas.Bool.{ltb-true, ltb-false, leb-true, leb-false, eq-eqb, ne_eqb}
 use Rattle.ls_event.specs.declared.event.Entry.{Entry}
-use Rattle.ls_event.specs.Slots.{Slot, Came}
+use Rattle.ls_event.specs.Slots.{Slot}
+use Rattle.ls_spec.specs.Came.{Came}
 use Rattle.ls_cell.specs.Cell.{Held, StandsCell}
 use Rattle.ls_spec.specs.Lines.{Line, Tells, line_text, text_at, came, tells_text, last_row}
 use Rattle.ls_spec.specs.Cutting.{Wanted, Turn, turn}

@@ -9,7 +9,9 @@ use Rattle.ls_value.proofs.Rows.{applied_length}
 use Rattle.ls_event.specs.declared.event.Entry.{Entry}
 use Rattle.ls_event.specs.declared.event.Taken.{Taken}
 use Rattle.ls_event.specs.declared.event.Taken.TheVariants as taken
-use Rattle.ls_event.specs.Slots.{Slot, Row, Came, passed}
+use Rattle.ls_event.specs.Slots.{Slot, passed}
+use Rattle.ls_mirror.specs.Client.{Row}
+use Rattle.ls_spec.specs.Came.{Came}
 use Rattle.ls_event.specs.Cuts.{cut}
 use Rattle.ls_cell.specs.Merge.{Pending, left_of}
 use Rattle.ls_cell.specs.Cell.{Held, StandsCell, StandsSlot, head_at}

@@ -35,6 +35,7 @@ pub record FirstAdd (k : Known) (connection sub item : ℕ) (places : List ℕ) 
   pub numbered : 1 ≤ sub
   pub declared : item < length k.items
   pub within : All (λ place. place < length (fields_at k.items item)) places
+  pub few : length places ≤ 64
 
 -- an update of a declared item, by an adapter from 1 to 64
 pub record Update (k : Known) (item adapter seq : ℕ) (cells : List Cell) : Type 0 where

@@ -1,6 +1,7 @@
 -- What a session keeps, and what its turn is.
 use Rattle.std.specs.Prelude.{◌≡◌, ℕ, ◌+◌, ◌≤◌, List, [], ◌∷◌, ◌++◌, length, Option, None, Some, nat_lt, if◌then◌else◌}
-use Rattle.ls_event.specs.Slots.{Slot, Came}
+use Rattle.ls_event.specs.Slots.{Slot}
+use Rattle.ls_spec.specs.Came.{Came}
 use Rattle.ls_cell.specs.Cell.{Held, StandsCell}
 use Rattle.ls_spec.specs.Lines.{Line, line_text, came}
 use Rattle.ls_spec.specs.Cutting.{Wanted, Turn}

@@ -7,7 +7,9 @@ use Rattle.ls_value.specs.declared.row.Cell.{Cell}
 use Rattle.ls_event.specs.declared.event.Entry.{Entry}
 use Rattle.ls_event.specs.declared.event.Taken.{Taken}
 use Rattle.ls_event.specs.declared.event.Taken.TheVariants as taken
-use Rattle.ls_event.specs.Slots.{Slot, Row, Came}
+use Rattle.ls_event.specs.Slots.{Slot}
+use Rattle.ls_mirror.specs.Client.{Row}
+use Rattle.ls_spec.specs.Came.{Came}
 use Rattle.ls_cell.specs.Cell.{Held, StandsCell}
 use Rattle.ls_spec.specs.Lines.{last_row, tells_text}
 use Rattle.ls_spec.specs.Cutting.{Wanted, Turn}

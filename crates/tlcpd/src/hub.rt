@@ -247,6 +247,7 @@ pub fn add(
     sub: u32,
     places: Places,
 ) -> Result<(), NoMemory>
+    requires few { length places ≤ 64 }
     ensures did { OnOk result ((w : World) (connection item : ℕ) (name : List ℕ) → StandsHub cell.old session.old w → IsNamed w connection name → item < length w.items → has_lines w.sessions ≡ false
         → DidAdd w connection sub places item cell.new session.new) }
 {
@@ -273,7 +274,8 @@ fn subscribe(
     sub: u32,
     places: Places,
 ) -> Result<(), NoMemory>
-    requires { cell.old.slot ≡ None }
+    requires free { cell.old.slot ≡ None }
+    requires few { length places ≤ 64 }
     ensures fields { length cell.new.state ≡ length cell.old.state }
     ensures joined { OnOk result ((h : List Entry) → StandsCell cell.old None h → StandsCell cell.new (Some (fresh (plan_of (length cell.old.state) (length h)) (length h))) h) }
     ensures owed { session.new.owed ≡ session.old.owed }
@@ -281,7 +283,7 @@ fn subscribe(
     ensures last { OnOk result (session.new.last ≡ 2) }
     ensures subscription { OnOk result (session.new.subscription ≡ Some (record { sub = sub; places = places; row = None })) }
 {
-    let begins = begin_text(alloc, sub, 1, places.len())?;
+    let begins = begin_text(alloc, sub, 1, places.len() as u32)?;
     let configures = configure_text(alloc, sub)?;
     session.unsent.push_back(begins)?;
     session.unsent.push_back(configures)?;

@@ -1,14 +1,18 @@
 //! Texts of the lines that a session sends (TLCP 2.1), and of the notes that a script prints (this project's profile).
-ghost use Rattle.std.specs.Prelude.{◌≡◌, [], ◌++◌, length, take, IfOk, OnOk, OnErr};
-ghost use Rattle.ls_event.specs.Slots.{Row as RowWhat};
+ghost use Rattle.std.specs.Prelude.{◌≡◌, [], ◌++◌, length, take, codes, IfOk, OnOk, OnErr};
+ghost use Rattle.std.specs.Fmt.{decimal};
+ghost use Rattle.ls_line.specs.declared.line.Line.TheVariants as line;
+ghost use Rattle.ls_line.specs.Lines.{text_of};
+ghost use Rattle.ls_mirror.specs.Client.{Row as RowWhat};
 ghost use Rattle.ls_spec.specs.Lines.{Begins, Configures, line_text, tells_text};
 ghost use Rattle.ls_spec.specs.World.{opening_lines};
-ghost use Rattle.ls_spec.specs.Steps.{note, number_note, on_connection, request_accepted, request_refused, refused_note};
+ghost use Rattle.ls_spec.specs.Steps.{note, number_note, on_connection, request_accepted, refused_note};
 ghost use Rattle.ls_update.specs.Writing.{row_behind};
 
 use ls_event::PublishRefused;
+use ls_line::{Line, text};
 use ls_update::write;
-use ls_value::{Bytes, NoMemory, Row};
+use ls_value::{Bytes, NoMemory, Row, Text};
 use std::alloc::Global;
 
 /// The line `U,<sub>,<place>,<coded fields>`: the row of an item of a subscription, coded against the row that the client had before.
@@ -19,59 +23,94 @@ pub fn update_text(
     place: u32,
     row: &Row,
 ) -> Result<Bytes, NoMemory>
-    ensures { IfOk result (λ text. text ≡ tells_text (row_behind prev.entry) sub place (RowWhat row.now)) }
+    ensures { IfOk result (λ t. t ≡ tells_text (row_behind prev.entry) sub place (RowWhat row.now)) }
 {
     let fields = write(alloc, prev, row)?;
-    let head = format!(in alloc; "U,{sub},{place},")?;
-    let mut text = head.into_bytes();
-    text.extend_from_slice(fields.as_slice())?;
-    Ok(Bytes::from_vec(text))
+    text(
+        alloc,
+        &Line::U {
+            sub,
+            item: place,
+            fields,
+        },
+    )
 }
 
 /// The line `SUBOK,<sub>,<items>,<fields>`: a subscription begins, with so many items and fields.
-pub fn begin_text(alloc: Global, sub: u32, items: usize, fields: usize) -> Result<Bytes, NoMemory>
-    ensures { IfOk result (λ text. text ≡ line_text [] (Begins sub items fields)) }
+pub fn begin_text(alloc: Global, sub: u32, items: u32, fields: u32) -> Result<Bytes, NoMemory>
+    ensures { IfOk result (λ t. t ≡ line_text [] (Begins sub items fields)) }
 {
-    let text = format!(in alloc; "SUBOK,{sub},{items},{fields}")?;
-    Ok(Bytes::from_vec(text.into_bytes()))
+    text(alloc, &Line::SubOk { sub, items, fields })
 }
 
 /// The line `CONF,<sub>,unlimited,filtered`: a subscription has no greatest frequency.
 pub fn configure_text(alloc: Global, sub: u32) -> Result<Bytes, NoMemory>
-    ensures { IfOk result (λ text. text ≡ line_text [] (Configures sub)) }
+    ensures { IfOk result (λ t. t ≡ line_text [] (Configures sub)) }
 {
-    let text = format!(in alloc; "CONF,{sub},unlimited,filtered")?;
-    Ok(Bytes::from_vec(text.into_bytes()))
+    let frequency = plain(alloc, "unlimited")?;
+    let filter = plain(alloc, "filtered")?;
+    text(
+        alloc,
+        &Line::Conf {
+            sub,
+            frequency,
+            filter,
+        },
+    )
 }
 
 /// The lines with which a session's stream begins, in order: CONOK with the session's name, `S` and its number, then SERVNAME and CONS.
 pub fn opening(alloc: Global, number: u64) -> Result<Vec<Bytes>, NoMemory>
     ensures { IfOk result (λ lines. lines.items ≡ opening_lines number) }
 {
-    let first = format!(in alloc; "CONOK,S{number},50000,5000,*")?;
     let mut lines = Vec::new(alloc);
-    lines.push(Bytes::from_vec(first.into_bytes()))?;
-    lines.push(Bytes::of(alloc, b"SERVNAME,tlcpd")?)?;
-    lines.push(Bytes::of(alloc, b"CONS,unlimited")?)?;
+    lines.push(session_text(alloc, number)?)?;
+    lines.push(text(alloc, &Line::ServName)?)?;
+    lines.push(unlimited_text(alloc)?)?;
     Ok(lines)
+}
+
+/// The line `CONOK` of a session of this number.
+fn session_text(alloc: Global, number: u64) -> Result<Bytes, NoMemory>
+    ensures { IfOk result (λ t. t ≡ text_of (line.ConOk (codes "S" ++ decimal number) 5000)) }
+{
+    let name = format!(in alloc; "S{number}")?;
+    text(
+        alloc,
+        &Line::ConOk {
+            session: Text::from_string(name),
+            keep_alive: 5000,
+        },
+    )
+}
+
+/// The line `CONS,unlimited`.
+fn unlimited_text(alloc: Global) -> Result<Bytes, NoMemory>
+    ensures { IfOk result (λ t. t ≡ text_of (line.Cons (codes "unlimited"))) }
+{
+    let bandwidth = plain(alloc, "unlimited")?;
+    text(alloc, &Line::Cons { bandwidth })
 }
 
 /// The line `REQOK,<id>`: the request of this id was accepted.
 pub fn accepted_text(alloc: Global, id: u64) -> Result<Bytes, NoMemory>
-    ensures { IfOk result (λ text. text ≡ request_accepted id) }
+    ensures { IfOk result (λ t. t ≡ request_accepted id) }
 {
-    let text = format!(in alloc; "REQOK,{id}")?;
-    Ok(Bytes::from_vec(text.into_bytes()))
+    let id = format!(in alloc; "{id}")?;
+    text(
+        alloc,
+        &Line::ReqOk {
+            request: Text::from_string(id),
+        },
+    )
 }
 
-/// The line `REQERR,<id>,<code>,<message>`: the request of this id was refused. The message holds no line end.
-pub fn refused_text(alloc: Global, id: u64, code: u16, message: &[u8]) -> Result<Bytes, NoMemory>
-    ensures { IfOk result (λ text. text ≡ request_refused id code message.now) }
+/// A text.
+fn plain(alloc: Global, text: &str) -> Result<Text, NoMemory>
+    ensures { IfOk result (λ made. made ≡ text.now) }
 {
-    let head = format!(in alloc; "REQERR,{id},{code},")?;
-    let mut text = head.into_bytes();
-    text.extend_from_slice(message)?;
-    Ok(Bytes::from_vec(text))
+    let copied = String::from_str(alloc, text)?;
+    Ok(Text::from_string(copied))
 }
 
 /// The note that an event was not published; none for want of memory.

@@ -318,7 +318,7 @@ impl Script {
     }
 
     /// `open NAME`: the script's first connection.
-    #[tactic(auto, using(crate::proofs::Named::name_ascii))]
+    #[tactic(auto, using(ls_spec::proofs::FormTexts::name_ascii))]
     fn open_form(&self, alloc: Global, name: &[u8]) -> Result<Option<Step>, NoMemory>
         ensures { IfOk result (λ s. option_map said s ≡ open_form self.now name.now) }
     {

@@ -1,6 +1,7 @@
 //! The session: the lines that its stream is still to be given, and its subscription.
 ghost use Rattle.std.specs.Prelude.{◌≡◌, ◌<◌, ◌+◌, ◌^◌, ℕ, List, [], ◌∷◌, Some, None, IfOk, OnOk, OnErr, length};
-ghost use Rattle.ls_event.specs.Slots.{Slot, Came};
+ghost use Rattle.ls_event.specs.Slots.{Slot};
+ghost use Rattle.ls_spec.specs.Came.{Came};
 ghost use Rattle.ls_spec.specs.Cutting.{Wanted, turn as slot_turn};
 ghost use Rattle.ls_spec.specs.World.{Item, Session as ASession, history_of};
 ghost use Rattle.ls_spec.specs.Steps.{turned, round_asked};

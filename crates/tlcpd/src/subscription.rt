@@ -3,7 +3,8 @@ ghost use Rattle.std.specs.Prelude.{◌≡◌, ◌<◌, ◌≤◌, ℕ, List, So
 ghost use Rattle.std.specs.Option.{option_map_or};
 ghost use Rattle.ls_value.specs.Values.{cell_at, projected_cells, nulls};
 ghost use Rattle.ls_event.specs.declared.event.Entry.{Entry};
-ghost use Rattle.ls_event.specs.Slots.{Slot, Came};
+ghost use Rattle.ls_event.specs.Slots.{Slot};
+ghost use Rattle.ls_spec.specs.Came.{Came};
 ghost use Rattle.ls_cell.specs.Cell.{HasSlot, StandsCell};
 ghost use Rattle.ls_spec.specs.Cutting.{Wanted, turn};
 ghost use Rattle.tlcpd.specs.Subscription.{StandsSubscribed, DidTurn, row_with, has_row, line_with, told_with, cells_of_cut};

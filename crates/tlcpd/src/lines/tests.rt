@@ -28,10 +28,6 @@ fn lines_without_fields(rt: HostRuntime) -> Result<(), Fail> {
         (begin_text(alloc, 7, 1, 2)?, "SUBOK,7,1,2"),
         (configure_text(alloc, 7)?, "CONF,7,unlimited,filtered"),
         (accepted_text(alloc, 3)?, "REQOK,3"),
-        (
-            refused_text(alloc, 5, 72, b"Subscription id in use")?,
-            "REQERR,5,72,Subscription id in use"
-        ),
     ]?;
     for (text, want) in &texts {
         assert_eq!(rt; text.as_slice(), want.as_bytes(), "{want}");

@@ -1,6 +1,6 @@
 use Rattle.std.proofs.Common.{◌≡◌, true, map}
 use Rattle.ls_spec.specs.Forms.{are_fields}
-use Rattle.tlcpd.proofs.Named.{fields_ascii}
+use Rattle.ls_spec.proofs.FormTexts.{fields_ascii}
 use Rattle.tlcpd.proofs.forms.fields.Goals as goal
 
 pub texts_of-requires : goal.texts_of-requires

@@ -1,0 +1,73 @@
+//! Keys and command words in the rows of an item in mode COMMAND (General Concepts, COMMAND).
+ghost use Rattle.std.specs.Prelude.{◌≡◌, ◌-◌, IfOk, set};
+ghost use Rattle.std.specs.Option.{option_copied};
+ghost use Rattle.ls_value.specs.declared.row.Value.TheVariants as value;
+ghost use Rattle.ls_mirror.specs.Commands.{text_at, change_of, change_at, kept_row};
+
+use ls_value::{NoMemory, Row, Text, Value, same_bytes};
+use std::alloc::Global;
+
+/// What a command word does to the row of its key.
+#[derive(Clone, Copy, Debug, PartialEq, Eq)]
+pub enum Change {
+    /// `ADD` and `UPDATE`: the key has this row.
+    Set,
+    /// `DELETE`: the key has no row.
+    Remove,
+}
+
+/// The text at a place of a row, counted from 1: `None` where there is no field or where it is null.
+pub(crate) fn text_at(row: &Row, place: u32) -> Option<&Text>
+    ensures { option_copied result ≡ text_at row.now place }
+{
+    match row.as_slice().get(place.saturating_sub(1) as usize) {
+        Some(Value::Text(text)) => Some(text),
+        _ => None,
+    }
+}
+
+/// What a command word does: `None` where it is none.
+fn change_of(word: &[u8]) -> Option<Change>
+    ensures { result ≡ change_of word.now }
+{
+    if same_bytes(word, b"ADD") || same_bytes(word, b"UPDATE") {
+        Some(Change::Set)
+    } else if same_bytes(word, b"DELETE") {
+        Some(Change::Remove)
+    } else {
+        None
+    }
+}
+
+/// What the command word at a place of a row does.
+pub(crate) fn change_at(row: &Row, place: u32) -> Option<Change>
+    ensures { result ≡ change_at row.now place }
+{
+    match text_at(row, place) {
+        Some(word) => change_of(word.as_bytes()),
+        None => None,
+    }
+}
+
+/// The row that is kept of a key: a copy whose command field is null.
+pub(crate) fn kept_row(alloc: Global, row: &Row, command: u32) -> Result<Row, NoMemory>
+    ensures { IfOk result (λ kept. kept ≡ kept_row row.now command) }
+{
+    let mut values = copied_values(alloc, row.as_slice())?;
+    let place = command.saturating_sub(1) as usize;
+    if place < values.len() {
+        values[place] = Value::Null;
+    }
+    Ok(Row::of(values))
+}
+
+/// Equal values.
+fn copied_values(alloc: Global, values: &[Value]) -> Result<Vec<Value>, NoMemory>
+    ensures { IfOk result (λ copied. copied.items ≡ values.now) }
+{
+    let mut copied = Vec::new(alloc);
+    for value in values {
+        copied.push(value.copy(alloc)?)?;
+    }
+    Ok(copied)
+}

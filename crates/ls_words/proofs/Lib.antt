@@ -1,0 +1,4 @@
+pub mod Decimals
+pub mod ReadBack
+pub mod Dividing
+pub mod Ascii

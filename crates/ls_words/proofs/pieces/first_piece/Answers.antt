@@ -1,0 +1,17 @@
+use Rattle.std.proofs.Common.{ℕ, ◌==◌, length, arith, rules}
+use Rattle.std.proofs.lemmas.List.{take_rest}
+use Rattle.std.proofs.lemmas.List.Sums.{position_or_len_is}
+use Rattle.ls_words.proofs.Dividing.{first_divided, not_divided}
+use Rattle.ls_words.proofs.pieces.first_piece.Goals as goal
+
+pub returns-in-Some : goal.returns-in-Some
+returns-in-Some c =
+    let text = c.args.text.now in
+    let d = c.args.divider in
+    first_divided d text _ c.in-Some.at (position_or_len_is (λ (b : ℕ). b == d) text c.in-Some.at 0 (search rules) (search rules) (search rules)) (search rules) (take_rest text _)
+
+pub returns-in-None : goal.returns-in-None
+returns-in-None c =
+    let text = c.args.text.now in
+    let d = c.args.divider in
+    not_divided d text (position_or_len_is (λ (b : ℕ). b == d) text (length text) 0 (omega arith) (search rules) (search rules))

@@ -1,0 +1,27 @@
+//! Decimal numbers (TLCP 2.1, and this project's profile).
+ghost use Rattle.std.specs.Prelude.{◌≡◌, ◌≤◌, IfSome};
+ghost use Rattle.ls_words.specs.Numbers.{number_in};
+
+/// The number that a text says, from `low` to `high`, which both count in: `None` exactly where the text is not
+/// decimal digits without a sign and without a leading zero, or says another number. A text of any length is
+/// answered, and no digit behind the first one that passes `high` is looked at.
+pub fn number_in(text: &[u8], low: u64, high: u64) -> Option<u64>
+    ensures number { result ≡ number_in low high text.now }
+    ensures within { IfSome result (λ n. (low ≤ n) × (n ≤ high)) }
+{
+    if text.is_empty() || (text[0] == b'0' && text.len() > 1) {
+        return None;
+    }
+    let mut n: u64 = 0;
+    for digit in text {
+        if !digit.is_ascii_digit() {
+            return None;
+        }
+        let value = u64::from(*digit - b'0');
+        if value > high || n > (high - value) / 10 {
+            return None;
+        }
+        n = 10 * n + value;
+    }
+    if low <= n { Some(n) } else { None }
+}
