@@ -1,0 +1,68 @@
+-- Names among others, as the map of names finds them.
+use Rattle.std.proofs.Common.{◌≡◌, ◌==◌, ◌<◌, ℕ, suc, ◌+◌, List, [], ◌∷◌, length, map, refl, sym, ap, ◌∙◌, arith, Bool, true, false, ◌&&◌, ◌||◌, not, nat_lt, cond, Option, Some, None, option_map, subst}
+use Rattle.std.specs.Prelude.{is_none, position}
+use Rattle.std.specs.List.{list_any, position_or_len}
+use Rattle.std.specs.Str.{bytes_eq}
+use Rattle.std.proofs.lemmas.Bool.Decides.{nat_tests}
+use Rattle.ls_event.specs.declared.item.ItemDef.{ItemDef}
+use Rattle.ls_config.specs.Items.{names_of, may_follow}
+use Rattle.ls_value.specs.Values.{text_eq, place_of}
+use Rattle.ls_value.proofs.Rows.{text_eq_true, text_eq_same}
+
+-- a name that stands later stands somewhere
+pub none_later : (o : Option ℕ) → is_none (option_map (λ i. i + 1) o) ≡ is_none o
+none_later None = refl
+none_later (Some i) = refl
+
+-- the two tests of texts agree
+same_test : (s t : List ℕ) → bytes_eq s t ≡ text_eq s t
+same_test [] [] = refl
+same_test [] (y ∷ t) = refl
+same_test (x ∷ s) [] = refl
+same_test (x ∷ s) (y ∷ t) = ap (λ (v : Bool). (x == y) && v) (same_test s t)
+
+turned : (s t : List ℕ) → text_eq s t ≡ text_eq t s
+turned s t = by_test (text_eq s t) refl (text_eq t s) refl
+  where
+    by_test : (v : Bool) → text_eq s t ≡ v → (w : Bool) → text_eq t s ≡ w → v ≡ w
+    by_test true e true f = refl
+    by_test false e false f = refl
+    by_test true e false f = absurd (let is : s ≡ t = text_eq_true s t e in let g : text_eq t s ≡ true = subst (λ (x : List ℕ). text_eq t x ≡ true) (sym is) (text_eq_same t) in cc)
+    by_test false e true f = absurd (let is : t ≡ s = text_eq_true t s f in let g : text_eq s t ≡ true = subst (λ (x : List ℕ). text_eq s x ≡ true) (sym is) (text_eq_same s) in cc)
+
+tests_agree : (name n : List ℕ) → bytes_eq name n ≡ text_eq n name
+tests_agree name n = same_test name n ∙ turned name n
+
+-- the place that a test finds is the name's
+pub found_place : {K : Type 0} (f : K → List ℕ) (name : List ℕ) (ks : List K) → position (λ k. bytes_eq name (f k)) ks ≡ place_of (map f ks) name
+found_place f name [] = refl
+found_place f name (k ∷ ks) = rw (sym (tests_agree name (f k)), sym (found_place f name ks)) (by_test (bytes_eq name (f k)) (position_or_len (λ x. bytes_eq name (f x)) ks) (length ks))
+  where
+    by_test : (v : Bool) (at n : ℕ) → cond (nat_lt (cond (not v) (1 + at) 0) (suc n)) (Some (cond (not v) (1 + at) 0)) None
+        ≡ cond v (Some 0) (option_map (λ i. i + 1) (cond (nat_lt at n) (Some at) None))
+    by_test true at n = let t : nat_lt 0 (suc n) ≡ true = grind (arith, nat_tests) in rw t refl
+    by_test false at n =
+        let e : 1 + at ≡ at + 1 = omega arith in
+        let t : nat_lt (at + 1) (suc n) ≡ nat_lt at n = grind (arith, nat_tests) in
+        rw (e, t) (by_less (nat_lt at n))
+      where
+        by_less : (w : Bool) → cond w (Some (at + 1)) None ≡ option_map (λ i. i + 1) (cond w (Some at) None)
+        by_less true = refl
+        by_less false = refl
+
+-- a name is new where the test finds none
+pub is_new : {K : Type 0} (f : K → List ℕ) (name : List ℕ) (ks : List K) → not (list_any (λ k. bytes_eq name (f k)) ks) ≡ is_none (place_of (map f ks) name)
+is_new f name [] = refl
+is_new f name (k ∷ ks) =
+    let later : not (list_any (λ x. bytes_eq name (f x)) ks) ≡ is_none (place_of (map f ks) name) = is_new f name ks in
+    by_test (bytes_eq name (f k)) (text_eq (f k) name) (tests_agree name (f k)) (list_any (λ x. bytes_eq name (f x)) ks) (place_of (map f ks) name) later
+  where
+    by_test : (v w : Bool) → v ≡ w → (a : Bool) (o : Option ℕ) → not a ≡ is_none o → not (v || a) ≡ is_none (cond w (Some 0) (option_map (λ i. i + 1) o))
+    by_test true true e a o h = refl
+    by_test true false e a o h = cc
+    by_test false true e a o h = cc
+    by_test false false e a o h = h ∙ sym (none_later o)
+
+-- an item may follow fewer than 4,096 where its name is new
+pub may_follow_new : (items : List ItemDef) (name : List ℕ) (fresh : Bool) → length items < 4096 → fresh ≡ is_none (place_of (names_of items) name) → fresh ≡ may_follow items name
+may_follow_new items name fresh few h = let t : nat_lt (length items) 4096 ≡ true = grind (arith, nat_tests) in rw (t, h) refl

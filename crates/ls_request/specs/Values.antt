@@ -1,0 +1,109 @@
+-- The values of requests' parameters (TLCP 2.1, requests; forms and limits are this project's profile).
+use Rattle.std.specs.Prelude.{ℕ, ◌^◌, ◌==◌, List, [], ◌∷◌, length, min, max, Bool, ◌&&◌, ◌||◌, nat_le, Option, Some, None, codes, if◌then◌else◌, option_map, option_and_then}
+use Rattle.std.specs.List.{list_all, list_any}
+use Rattle.std.specs.Option.{unwrap_or}
+use Rattle.ls_value.specs.Values.{text_eq}
+use Rattle.ls_words.specs.Numbers.{is_digit, number_in}
+use Rattle.ls_words.specs.Words.{is_letter, divided}
+use Rattle.ls_form.specs.Decimals.{milli_of}
+use Rattle.ls_event.specs.declared.event.Mode.{Mode}
+use Rattle.ls_event.specs.declared.event.Mode.TheVariants as mode
+use Rattle.ls_event.specs.declared.event.Snap.{Snap}
+use Rattle.ls_event.specs.declared.event.Snap.TheVariants as snap
+
+abbrev pub is_word : List ℕ → List ℕ → Bool
+is_word word text = text_eq text word
+
+-- a decimal is at most 2^60
+abbrev pub decimal_of : List ℕ → Option ℕ
+decimal_of text = number_in 0 (2 ^ 60) text
+
+-- what a size or a number of rows above 999999999 is read as
+abbrev pub capped : ℕ → ℕ
+capped n = min n 999999999
+
+-- a decimal of thousandths above 0
+abbrev pub milli_above_0 : List ℕ → Option (Option ℕ)
+milli_above_0 text = option_and_then (λ n. if n == 0 then None else Some (Some n)) (milli_of text)
+
+-- LS_requested_max_bandwidth: `unlimited` or a decimal of thousandths above 0
+abbrev pub bandwidth_of : List ℕ → Option (Option ℕ)
+bandwidth_of text = if is_word (codes "unlimited") text then Some None else milli_above_0 text
+
+-- LS_requested_max_frequency: `unlimited`, `unfiltered`, which is read as `unlimited`, or a decimal of thousandths above 0
+abbrev pub frequency_of : List ℕ → Option (Option ℕ)
+frequency_of text = if is_word (codes "unlimited") text || is_word (codes "unfiltered") text then Some None else milli_above_0 text
+
+-- LS_keepalive_millis: a decimal, from 1000 to 30000
+abbrev pub keepalive_of : List ℕ → Option ℕ
+keepalive_of text = option_map (λ n. min (max n 1000) 30000) (decimal_of text)
+
+-- LS_content_length: a decimal, from 1000
+abbrev pub length_of : List ℕ → Option (Option ℕ)
+length_of text = option_map (λ n. Some (max n 1000)) (decimal_of text)
+
+-- LS_recovery_from: a decimal
+abbrev pub recovery_of : List ℕ → Option (Option ℕ)
+recovery_of text = option_map (λ n. Some n) (decimal_of text)
+
+-- LS_session: `S` and a decimal; another text is session 0
+abbrev pub session_of : List ℕ → ℕ
+session_of [] = 0
+session_of (b ∷ digits) = if b == 83 then unwrap_or (decimal_of digits) 0 else 0
+
+-- LS_reqId: 1 to 32 ASCII letters or digits
+abbrev pub is_req_byte : ℕ → Bool
+is_req_byte b = is_letter b || is_digit b
+
+abbrev pub is_req : List ℕ → Bool
+is_req text = nat_le 1 (length text) && nat_le (length text) 32 && list_all is_req_byte text
+
+abbrev pub req_of : List ℕ → Option (List ℕ)
+req_of text = if is_req text then Some text else None
+
+-- LS_subId: 1 to 999999999
+abbrev pub sub_of : List ℕ → Option ℕ
+sub_of text = number_in 1 999999999 text
+
+-- LS_mode
+abbrev pub mode_of : List ℕ → Option Mode
+mode_of text =
+    if is_word (codes "RAW") text then Some mode.Raw
+    else if is_word (codes "MERGE") text then Some mode.Merge
+    else if is_word (codes "DISTINCT") text then Some mode.Distinct
+    else if is_word (codes "COMMAND") text then Some mode.Command
+    else None
+
+abbrev pub is_empty : List ℕ → Bool
+is_empty text = length text == 0
+
+-- words that are names, if none of them is empty
+abbrev pub all_named : List (List ℕ) → Option (List (List ℕ))
+all_named words = if list_any is_empty words then None else Some words
+
+-- LS_group and LS_schema: names divided by single spaces; the empty text has none
+abbrev pub names_of : List ℕ → Option (List (List ℕ))
+names_of text = if is_empty text then Some [] else all_named (divided 32 text)
+
+-- the snapshot of so many rows: none of 0; outside DISTINCT the whole one
+abbrev pub snap_by : Mode → ℕ → Snap
+snap_by m n = if n == 0 then snap.No else of_mode m
+  where
+    of_mode : Mode → Snap
+    of_mode mode.Raw = snap.All
+    of_mode mode.Merge = snap.All
+    of_mode mode.Distinct = snap.Last (capped n)
+    of_mode mode.Command = snap.All
+
+-- LS_snapshot: `true`, `false` or a decimal
+abbrev pub snap_of : Mode → List ℕ → Option Snap
+snap_of m text =
+    if is_word (codes "true") text then Some snap.All
+    else if is_word (codes "false") text then Some snap.No
+    else option_map (snap_by m) (decimal_of text)
+
+-- LS_requested_buffer_size: `unlimited`, which is the greatest, or a decimal from 1
+abbrev pub size_of : List ℕ → Option (Option ℕ)
+size_of text =
+    if is_word (codes "unlimited") text then Some (Some 999999999)
+    else option_map (λ n. Some (capped n)) (number_in 1 (2 ^ 60) text)

@@ -1,0 +1,17 @@
+//! Scripts of the engine: their lines, and what a script prints (this project's profile).
+#![tactic(auto)]
+
+mod extras;
+mod fields;
+mod names;
+pub mod out;
+pub mod script;
+pub mod step;
+mod words;
+
+pub use out::{Out, print};
+pub use script::{Script, ScriptRefused};
+pub use step::{AddWords, Repeat, Step};
+
+#[cfg(test)]
+mod tests;

@@ -1,0 +1,560 @@
+//! A script's lines: what each asks for, by the names that the lines before it declared (this project's profile).
+ghost use Rattle.std.specs.Prelude.{◌≡◌, ◌<◌, ◌≤◌, [], ◌∷◌, ◌++◌, Option, Some, None, Ok, Err, IfOk, IfSome, OnOk, OnErr, IsErrOf, length, map, true, false, option_map};
+ghost use Rattle.ls_event.specs.EventText.{event_of};
+ghost use Rattle.ls_words.specs.Words.{split_once};
+ghost use Rattle.ls_words.specs.Numbers.{number_in};
+ghost use Rattle.ls_script.specs.Grammar.{Known, nothing, item_of, connection_of, fields_of, add_said, set_line, item_line, tick_line, conn_line, open_line, add_line, request_line, update_in, publish_line, clear_line, enqueue_line, take_line, lose_line, two_words, three_words, four_words, five_words, six_words, more_words, words_of, request_on, line_of, is_skipped, known_after};
+ghost use Rattle.ls_script.specs.Ranges.{Fits, RepeatFits};
+
+use crate::extras::read_extras;
+use crate::fields::{copied_names, fields_said};
+use crate::names::Declared;
+use crate::step::{AddWords, Repeat, Step};
+use crate::words::{
+    behind, is_skipped, is_word, kind_of, link_of, mode_of, number_from, once, so_often, times_of,
+};
+use ls_event::{Event, EventRefused, ItemDef, Kind, read_event};
+use ls_value::{Bytes, Cells, Names, NoMemory, Text, same_bytes};
+use ls_words::{divided, name_of, number_in, split_once};
+use std::alloc::{AllocError, Global};
+use std::marker::Model;
+
+/// The most items of a script (this project's profile).
+const MOST_ITEMS: usize = 4096;
+
+/// The most connections of a script (this project's profile).
+const MOST_CONNECTIONS: usize = 65_536;
+
+/// Why there is no step of a line.
+#[derive(Clone, Copy, Debug, PartialEq, Eq)]
+pub enum ScriptRefused {
+    /// The line is outside the grammar.
+    BadLine,
+    /// Memory was refused.
+    NoMemory,
+}
+
+impl From<NoMemory> for ScriptRefused {
+    ghost use Rattle.std.specs.Prelude.{◌≡◌};
+    ghost use Rattle.ls_script.specs.declared.script.ScriptRefused.TheVariants as refused;
+
+    ghost from_gives = { λ _ e. e ≡ refused.NoMemory };
+
+    fn from(_: NoMemory) -> ScriptRefused {
+        ScriptRefused::NoMemory
+    }
+}
+
+/// What the lines so far declared, and the last tick.
+#[derive(Drop)]
+pub struct Script {
+    /// What memory is taken from.
+    alloc: Global,
+    /// The items, in the order of their numbers.
+    items: Vec<ItemDef>,
+    /// Their names, in the same order.
+    item_names: Declared,
+    /// The connections' names, in the order of their numbers.
+    connections: Declared,
+    /// The last tick in milliseconds.
+    tick: u64,
+}
+
+impl Model for Script {
+    ghost use Rattle.std.specs.Prelude.{◌≡◌, ◌≤◌, length, map};
+    ghost use Rattle.ls_script.specs.Grammar.{Known};
+
+    ghost Value = { Known };
+
+    ghost view = { λ s. record { items = s.items.items; connections = s.connections; tick = s.tick } };
+
+    ghost invariant = { λ s. (s.item_names ≡ map (λ i. i.name) s.items.items) × (length s.items.items ≤ 4096) × (length s.connections ≤ 65536) };
+}
+
+impl Script {
+    /// The script of no lines: nothing is declared, and the clock stands at 0.
+    pub fn new(alloc: Global) -> Result<Script, NoMemory>
+        ensures { IfOk result (λ script. script ≡ nothing) }
+    {
+        Ok(Script {
+            alloc,
+            items: Vec::new(alloc),
+            item_names: Declared::new(alloc),
+            connections: Declared::new(alloc),
+            tick: 0,
+        })
+    }
+
+    /// What a line without its line end asks for: `None` exactly for an empty line and for a comment, which begins with `#`.
+    /// A step's names are declared, those that it declares are new, and its numbers keep their ranges. `BadLine` exactly
+    /// where a line is outside the grammar. After an error, and after `None`, nothing more is declared than before.
+    pub fn read(&mut self, line: &[u8]) -> Result<Option<Repeat>, ScriptRefused>
+        ensures skips { is_skipped line.now ≡ true → result ≡ Ok None }
+        ensures skipped { result ≡ Ok None → is_skipped line.now ≡ true }
+        ensures read { IfOk result (λ r. IfSome r (λ asked. (is_skipped line.now ≡ false) × (line_of self.old line.now ≡ Some asked))) }
+        ensures fits { IfOk result (λ r. IfSome r (RepeatFits self.old)) }
+        ensures after { IfOk result (λ r. IfSome r (λ asked. self.new ≡ known_after self.old asked.step)) }
+        ensures stays { result ≡ Ok None → self.new ≡ self.old }
+        ensures bad { IsErrOf result ScriptRefused.BadLine → (is_skipped line.now ≡ false) × (line_of self.old line.now ≡ None) }
+        ensures err { OnErr result (self.new ≡ self.old) }
+    {
+        if is_skipped(line) {
+            return Ok(None);
+        }
+        match self.line(line)? {
+            Some(asked) => {
+                self.declare(&asked.step)?;
+                Ok(Some(asked))
+            }
+            None => Err(ScriptRefused::BadLine),
+        }
+    }
+
+    /// Declares what a step declares.
+    fn declare(&mut self, step: &Step) -> Result<(), NoMemory>
+        requires { Fits self.old step.now }
+        ensures ok { OnOk result (self.new ≡ known_after self.old step.now) }
+        ensures err { OnErr result (self.new ≡ self.old) }
+    {
+        match step {
+            Step::Item { name, kind, fields } => self.declare_item(name, *kind, fields),
+            Step::Conn { name, link: _ } => self.declare_connection(name),
+            Step::Open { name } => self.declare_connection(name),
+            Step::Tick { ms } => {
+                self.tick = *ms;
+                Ok(())
+            }
+            _ => Ok(()),
+        }
+    }
+
+    /// Declares an item.
+    fn declare_item(&mut self, name: &Text, kind: Kind, fields: &Names) -> Result<(), NoMemory>
+        requires { Fits self.old (Step.Item name.now kind fields.now) }
+        ensures ok { OnOk result (self.new ≡ known_after self.old (Step.Item name.now kind fields.now)) }
+        ensures err { OnErr result (self.new ≡ self.old) }
+    {
+        let item = ItemDef {
+            name: name.copy(self.alloc)?,
+            kind,
+            fields: copied_names(self.alloc, fields)?,
+        };
+        self.items.reserve(1)?;
+        self.item_names.add(self.alloc, name.as_bytes())?;
+        self.items.push_reserved(item);
+        Ok(())
+    }
+
+    /// Declares a connection.
+    fn declare_connection(&mut self, name: &Text) -> Result<(), NoMemory>
+        requires { Fits self.old (Step.Open name.now) }
+        ensures ok { OnOk result (self.new ≡ known_after self.old (Step.Open name.now)) }
+        ensures err { OnErr result (self.new ≡ self.old) }
+    {
+        self.connections.add(self.alloc, name.as_bytes())
+    }
+
+    /// What a line asks for that is neither empty nor a comment.
+    fn line(&self, line: &[u8]) -> Result<Option<Repeat>, NoMemory>
+        ensures { IfOk result (λ asked. asked ≡ line_of self.now line.now) }
+    {
+        match behind(b"req ", line) {
+            Some(rest) => Ok(once(self.request(rest)?)),
+            None => {
+                let words = divided(self.alloc, b' ', line)?;
+                self.words(&words)
+            }
+        }
+    }
+
+    /// What a line of these words asks for.
+    fn words(&self, words: &[&[u8]]) -> Result<Option<Repeat>, NoMemory>
+        ensures { IfOk result (λ asked. asked ≡ words_of self.now (map (λ w. w.now) words.now)) }
+    {
+        match words {
+            [word, a] => Ok(once(self.two_words(word, a)?)),
+            [word, a, b] => self.three_words(word, a, b),
+            [word, a, b, c] => Ok(once(self.four_words(word, a, b, c)?)),
+            [word, a, b, c, d] => self.five_words(word, a, b, c, d),
+            [_, _, _, _, _, _, ..] => Ok(once(self.more_words(words)?)),
+            _ => Ok(None),
+        }
+    }
+
+    /// A line of two words.
+    fn two_words(&self, word: &[u8], a: &[u8]) -> Result<Option<Step>, NoMemory>
+        ensures { IfOk result (λ step. step ≡ two_words self.now word.now a.now) }
+    {
+        if same_bytes(word, b"set") {
+            self.set_line(a)
+        } else if same_bytes(word, b"tick") {
+            Ok(self.tick_line(a))
+        } else if same_bytes(word, b"open") {
+            self.open_line(a)
+        } else if same_bytes(word, b"take") {
+            Ok(self.take_line(a))
+        } else if same_bytes(word, b"lose") {
+            Ok(self.lose_line(a))
+        } else {
+            Ok(None)
+        }
+    }
+
+    /// A line of three words.
+    fn three_words(&self, word: &[u8], a: &[u8], b: &[u8]) -> Result<Option<Repeat>, NoMemory>
+        ensures { IfOk result (λ asked. asked ≡ three_words self.now word.now a.now b.now) }
+    {
+        if same_bytes(word, b"conn") {
+            Ok(once(self.conn_line(a, b)?))
+        } else if same_bytes(word, b"take") {
+            Ok(so_often(self.take_line(a), times_of(b)))
+        } else {
+            Ok(None)
+        }
+    }
+
+    /// A line of four words.
+    fn four_words(
+        &self,
+        word: &[u8],
+        a: &[u8],
+        b: &[u8],
+        c: &[u8],
+    ) -> Result<Option<Step>, NoMemory>
+        ensures { IfOk result (λ step. step ≡ four_words self.now word.now a.now b.now c.now) }
+    {
+        if same_bytes(word, b"item") {
+            self.item_line(a, b, c)
+        } else if same_bytes(word, b"clear") {
+            Ok(self.clear_line(a, b, c))
+        } else if same_bytes(word, b"enq") {
+            Ok(self.enqueue_line(a, b, c))
+        } else {
+            Ok(None)
+        }
+    }
+
+    /// A line of five words.
+    fn five_words(
+        &self,
+        word: &[u8],
+        a: &[u8],
+        b: &[u8],
+        c: &[u8],
+        d: &[u8],
+    ) -> Result<Option<Repeat>, NoMemory>
+        ensures { IfOk result (λ asked. asked ≡ five_words self.now word.now a.now b.now c.now d.now) }
+    {
+        if same_bytes(word, b"pub") {
+            Ok(once(self.publish_line(a, b, c, d)?))
+        } else if same_bytes(word, b"enq") {
+            Ok(so_often(self.enqueue_line(a, b, c), times_of(d)))
+        } else {
+            Ok(None)
+        }
+    }
+
+    /// A line of six words and more.
+    fn more_words(&self, words: &[&[u8]]) -> Result<Option<Step>, NoMemory>
+        requires { 6 ≤ length words.now }
+        ensures { IfOk result (λ step. step ≡ more_words self.now (map (λ w. w.now) words.now)) }
+    {
+        let (first, rest) = words.split_at(6);
+        match first {
+            [word, connection, sub, items, fields, mode] => {
+                let texts = AddTexts {
+                    sub,
+                    items,
+                    fields,
+                    mode,
+                };
+                self.six_words(word, connection, &texts, rest)
+            }
+            _ => Ok(None),
+        }
+    }
+
+    /// A line of six words, and those behind them.
+    fn six_words(
+        &self,
+        word: &[u8],
+        connection: &[u8],
+        texts: &AddTexts<'_>,
+        rest: &[&[u8]],
+    ) -> Result<Option<Step>, NoMemory>
+        ensures { IfOk result (λ step. step ≡ six_words self.now word.now connection.now texts.now.sub.now texts.now.items.now texts.now.fields.now texts.now.mode.now (map (λ w. w.now) rest.now)) }
+    {
+        if same_bytes(word, b"add") {
+            self.add_line(connection, texts, rest)
+        } else {
+            Ok(None)
+        }
+    }
+
+    /// What stands behind `req`: a connection, a name, and the rest of the line, which may be absent.
+    fn request(&self, rest: &[u8]) -> Result<Option<Step>, NoMemory>
+        ensures { IfOk result (λ step. step ≡ request_on self.now (split_once 32 rest.now)) }
+    {
+        let Some((connection, behind)) = split_once(b' ', rest) else {
+            return Ok(None);
+        };
+        match split_once(b' ', behind) {
+            Some((name, parameters)) => self.request_line(connection, name, parameters),
+            None => self.request_line(connection, behind, b""),
+        }
+    }
+
+    /// `req`.
+    fn request_line(
+        &self,
+        connection: &[u8],
+        name: &[u8],
+        parameters: &[u8],
+    ) -> Result<Option<Step>, NoMemory>
+        ensures { IfOk result (λ step. step ≡ request_line self.now connection.now name.now parameters.now) }
+    {
+        let Some(connection) = self.connection(connection) else {
+            return Ok(None);
+        };
+        let Some(name) = name_of(self.alloc, name)? else {
+            return Ok(None);
+        };
+        let parameters = Bytes::of(self.alloc, parameters)?;
+        Ok(Some(Step::Request {
+            connection,
+            name,
+            parameters,
+        }))
+    }
+
+    /// `set`.
+    fn set_line(&self, name: &[u8]) -> Result<Option<Step>, NoMemory>
+        ensures { IfOk result (λ step. step ≡ set_line name.now) }
+    {
+        match name_of(self.alloc, name)? {
+            Some(name) => Ok(Some(Step::Set { name })),
+            None => Ok(None),
+        }
+    }
+
+    /// `item`.
+    fn item_line(&self, name: &[u8], word: &[u8], fields: &[u8]) -> Result<Option<Step>, NoMemory>
+        ensures { IfOk result (λ step. step ≡ item_line self.now name.now word.now fields.now) }
+    {
+        let Some(kind) = kind_of(word) else {
+            return Ok(None);
+        };
+        let Some(fields) = fields_said(self.alloc, kind, fields)? else {
+            return Ok(None);
+        };
+        let Some(name) = self.item_names.new_name(self.alloc, MOST_ITEMS, name)? else {
+            return Ok(None);
+        };
+        Ok(Some(Step::Item { name, kind, fields }))
+    }
+
+    /// `tick`.
+    fn tick_line(&self, text: &[u8]) -> Option<Step>
+        ensures { result ≡ tick_line self.now text.now }
+    {
+        let ms = number_from(self.tick, text)?;
+        Some(Step::Tick { ms })
+    }
+
+    /// `conn`.
+    fn conn_line(&self, name: &[u8], word: &[u8]) -> Result<Option<Step>, NoMemory>
+        ensures { IfOk result (λ step. step ≡ conn_line self.now name.now word.now) }
+    {
+        let Some(link) = link_of(word) else {
+            return Ok(None);
+        };
+        let Some(name) = self
+            .connections
+            .new_name(self.alloc, MOST_CONNECTIONS, name)?
+        else {
+            return Ok(None);
+        };
+        Ok(Some(Step::Conn { name, link }))
+    }
+
+    /// `open`.
+    fn open_line(&self, name: &[u8]) -> Result<Option<Step>, NoMemory>
+        ensures { IfOk result (λ step. step ≡ open_line self.now name.now) }
+    {
+        match self
+            .connections
+            .new_name(self.alloc, MOST_CONNECTIONS, name)?
+        {
+            Some(name) => Ok(Some(Step::Open { name })),
+            None => Ok(None),
+        }
+    }
+
+    /// `add`.
+    fn add_line(
+        &self,
+        connection: &[u8],
+        texts: &AddTexts<'_>,
+        rest: &[&[u8]],
+    ) -> Result<Option<Step>, NoMemory>
+        ensures { IfOk result (λ step. step ≡ add_line self.now connection.now texts.now.sub.now texts.now.items.now texts.now.fields.now texts.now.mode.now (map (λ w. w.now) rest.now)) }
+    {
+        let Some(connection) = self.connection(connection) else {
+            return Ok(None);
+        };
+        let Some(words) = add_words(self.alloc, texts, rest)? else {
+            return Ok(None);
+        };
+        Ok(Some(Step::Add { connection, words }))
+    }
+
+    /// `pub`.
+    fn publish_line(
+        &self,
+        adapter: &[u8],
+        seq: &[u8],
+        item: &[u8],
+        event: &[u8],
+    ) -> Result<Option<Step>, NoMemory>
+        ensures { IfOk result (λ step. step ≡ publish_line self.now adapter.now seq.now item.now event.now) }
+    {
+        let Some(adapter) = adapter_of(adapter) else {
+            return Ok(None);
+        };
+        let Some(seq) = number_from(1, seq) else {
+            return Ok(None);
+        };
+        let Some(item) = self.item(item) else {
+            return Ok(None);
+        };
+        let Some(cells) = update_in(self.alloc, event, &self.items[item as usize].fields)? else {
+            return Ok(None);
+        };
+        Ok(Some(Step::Publish {
+            adapter,
+            seq,
+            item,
+            cells,
+        }))
+    }
+
+    /// `clear`.
+    fn clear_line(&self, adapter: &[u8], seq: &[u8], item: &[u8]) -> Option<Step>
+        ensures { result ≡ clear_line self.now adapter.now seq.now item.now }
+    {
+        let adapter = adapter_of(adapter)?;
+        let seq = number_from(1, seq)?;
+        let item = self.item(item)?;
+        Some(Step::Clear { adapter, seq, item })
+    }
+
+    /// `enq`.
+    fn enqueue_line(&self, connection: &[u8], sub: &[u8], place: &[u8]) -> Option<Step>
+        ensures { result ≡ enqueue_line self.now connection.now sub.now place.now }
+    {
+        let connection = self.connection(connection)?;
+        let sub = number_from(0, sub)?;
+        let place = number_from(0, place)?;
+        Some(Step::Enqueue {
+            connection,
+            sub,
+            place,
+        })
+    }
+
+    /// `take`.
+    fn take_line(&self, connection: &[u8]) -> Option<Step>
+        ensures { result ≡ take_line self.now connection.now }
+    {
+        let connection = self.connection(connection)?;
+        Some(Step::Take { connection })
+    }
+
+    /// `lose`.
+    fn lose_line(&self, connection: &[u8]) -> Option<Step>
+        ensures { result ≡ lose_line self.now connection.now }
+    {
+        let connection = self.connection(connection)?;
+        Some(Step::Lose { connection })
+    }
+
+    /// The number of the item of a name.
+    fn item(&self, name: &[u8]) -> Option<u32>
+        ensures first { result ≡ item_of self.now name.now }
+        ensures within { IfSome result (λ i. i < length self.now.items) }
+    {
+        let place = self.item_names.find(name)?;
+        Some(place as u32)
+    }
+
+    /// The number of the connection of a name.
+    fn connection(&self, name: &[u8]) -> Option<u32>
+        ensures { result ≡ connection_of self.now name.now }
+    {
+        let place = self.connections.find(name)?;
+        Some(place as u32)
+    }
+}
+
+/// The words of an `add` line that always stand there.
+#[derive(Clone, Copy)]
+struct AddTexts<'a> {
+    sub: &'a [u8],
+    items: &'a [u8],
+    fields: &'a [u8],
+    mode: &'a [u8],
+}
+
+/// The words of an `add` line: `None` exactly where one is empty, the mode is none, or the words behind it are no extras.
+fn add_words(
+    alloc: Global,
+    texts: &AddTexts<'_>,
+    rest: &[&[u8]],
+) -> Result<Option<AddWords>, NoMemory>
+    ensures { IfOk result (λ words. words ≡ add_said texts.now.sub.now texts.now.items.now texts.now.fields.now texts.now.mode.now (map (λ w. w.now) rest.now)) }
+{
+    let Some(mode) = mode_of(texts.mode) else {
+        return Ok(None);
+    };
+    let Some(extras) = read_extras(alloc, rest)? else {
+        return Ok(None);
+    };
+    if is_word(texts.sub) && is_word(texts.items) && is_word(texts.fields) {
+        Ok(Some(AddWords {
+            sub: Bytes::of(alloc, texts.sub)?,
+            items: Bytes::of(alloc, texts.items)?,
+            fields: Bytes::of(alloc, texts.fields)?,
+            mode,
+            snapshot: extras.snapshot,
+            buffer: extras.buffer,
+            frequency: extras.frequency,
+        }))
+    } else {
+        Ok(None)
+    }
+}
+
+/// An adapter's number, 1 to 64.
+fn adapter_of(text: &[u8]) -> Option<u8>
+    ensures { result ≡ number_in 1 64 text.now }
+{
+    let adapter = number_in(text, 1, 64)?;
+    Some(adapter as u8)
+}
+
+/// The cells of an update: `None` exactly where a text says no event, or a Clear.
+fn update_in(alloc: Global, text: &[u8], fields: &Names) -> Result<Option<Cells>, NoMemory>
+    ensures { IfOk result (λ cells. cells ≡ update_in (event_of fields.now text.now)) }
+{
+    match read_event(alloc, text, fields) {
+        Ok(Event::Update(cells)) => Ok(Some(cells)),
+        Ok(Event::Clear) => Ok(None),
+        Err(EventRefused::NoMemory) => Err(NoMemory),
+        Err(
+            EventRefused::BadPair { at: _ }
+            | EventRefused::UnknownField { at: _ }
+            | EventRefused::TwiceField { at: _ }
+            | EventRefused::BadText { at: _ },
+        ) => Ok(None),
+    }
+}
