@@ -1,0 +1,57 @@
+//! The buffer of mode DISTINCT as a buffer of a mode.
+
+use crate::distinct::DistinctBuffer;
+use ls_event::{Buffer, Stored, Taken};
+use ls_value::NoMemory;
+use std::alloc::Global;
+
+impl Buffer for DistinctBuffer {
+    ghost use Rattle.std.specs.Prelude.{length};
+    ghost use Rattle.ls_distinct.specs.Distinct.{StandsDistinct, distinct_head, is_left};
+    ghost use Rattle.ls_distinct.specs.Stands.{distinct_head_is_cut, distinct_left_is_pending, distinct_waits_is_waiting, distinct_longer, AreWide};
+
+    ghost stands = { StandsDistinct };
+
+    ghost last = { λ b. b.last };
+
+    ghost has_fields = { λ b n. AreWide n b };
+
+    ghost admits = { λ b e. Unit {0} };
+
+    ghost head = { distinct_head };
+
+    ghost left = { is_left };
+
+    ghost waits = { λ b. length b.kept };
+
+    ghost head_is_cut = { distinct_head_is_cut };
+
+    ghost left_is_pending = { distinct_left_is_pending };
+
+    ghost waits_is_waiting = { distinct_waits_is_waiting };
+
+    ghost last_is = { λ b s h st. st.last };
+
+    ghost longer = { distinct_longer };
+
+    fn enqueue(&mut self, alloc: Global, event: &Stored) -> Result<(), NoMemory> {
+        DistinctBuffer::enqueue(self, alloc, &event.event)?;
+        Ok(())
+    }
+
+    fn look(&self, alloc: Global) -> Result<Option<Taken>, NoMemory> {
+        DistinctBuffer::look(self, alloc)
+    }
+
+    fn pass(&mut self) {
+        DistinctBuffer::pass(self)
+    }
+
+    fn pending(&self) -> bool {
+        DistinctBuffer::pending(self)
+    }
+
+    fn waiting(&self) -> u64 {
+        DistinctBuffer::waiting(self)
+    }
+}

@@ -1,0 +1,9 @@
+//! A ring of updates whose room is taken as they come.
+#![tactic(auto)]
+
+pub mod ring;
+
+pub use ring::push;
+
+#[cfg(test)]
+mod tests;
