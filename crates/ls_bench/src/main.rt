@@ -2,14 +2,16 @@
 #![tactic(auto)]
 
 mod fields;
+mod forms;
 
 use ls_value::NoMemory;
+use std::alloc::AllocError;
 use std::process::ExitCode;
 use std::rt::Runtime;
 use std::{env, io};
 
 /// What is shown without words that name a measurement.
-const USAGE: &str = "usage: ls_bench fields";
+const USAGE: &str = "usage: ls_bench fields or forms";
 
 /// Why a measurement ended.
 #[derive(Drop)]
@@ -20,10 +22,18 @@ pub enum Failed {
     System,
     /// What was written wasn't read.
     Unread,
+    /// The time grows faster than what is read.
+    Grows,
 }
 
 impl From<NoMemory> for Failed {
     fn from(_: NoMemory) -> Failed {
+        Failed::NoMemory
+    }
+}
+
+impl From<AllocError> for Failed {
+    fn from(_: AllocError) -> Failed {
         Failed::NoMemory
     }
 }
@@ -40,6 +50,7 @@ fn measured<R: Runtime + AllocGlobal>(rt: &R) -> Result<(), Failed> {
     let _name = words.next();
     match words.next() {
         Some(word) if word.as_str() == "fields" => fields::measure(rt),
+        Some(word) if word.as_str() == "forms" => forms::measure(rt),
         _ => {
             println!(rt; "{USAGE}")?;
             Ok(())

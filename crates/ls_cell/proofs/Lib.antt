@@ -1,4 +1,9 @@
-pub mod Sound
+pub mod Changes
+pub mod Passing
 pub mod Tails
+pub mod Grown
 pub mod Refusals
+pub mod Told
+pub mod Sound
 pub mod CellStands
+pub mod Arrivals

@@ -1,53 +1,80 @@
--- What an item with its slot holds, what each call makes of it, and the histories that it stands for.
-use Rattle.std.specs.Prelude.{◌≡◌, ℕ, ◌+◌, ◌-◌, ◌≤◌, ◌^◌, List, [], ◌∷◌, ◌++◌, length, replicate, drop, Bool, false, true, Option, None, Some, Result, Ok, Err, nat_lt, nat_le, if◌then◌else◌, slice_index, slice_get, slice_set, option_map, option_and_then, IsSome, All}
-use Rattle.std.specs.Option.{option_map_or, ForSome}
-use Rattle.ls_value.specs.declared.row.Value.{Value}
+-- What an item with its slots holds, and the histories and records that it stands for.
+use Rattle.std.specs.Prelude.{◌≡◌, ℕ, ◌+◌, ◌-◌, ◌≤◌, ◌^◌, List, [], ◌∷◌, ◌++◌, length, drop, Bool, false, Option, None, Some, Result, Ok, Err, nat_lt, nat_le, if◌then◌else◌, slice_index, slice_set, option_map, option_and_then, IsSome}
+use Rattle.std.specs.Option.{option_or, option_map_or}
 use Rattle.ls_event.specs.declared.event.Event.{Event}
 use Rattle.ls_event.specs.declared.event.Entry.{Entry}
 use Rattle.ls_event.specs.declared.event.Stored.{Stored}
 use Rattle.ls_event.specs.declared.event.Taken.{Taken}
 use Rattle.ls_event.specs.declared.event.PublishRefused.{PublishRefused}
 use Rattle.ls_event.specs.declared.event.PublishRefused.TheVariants as refused
-use Rattle.ls_event.specs.History.{merged, row_after, stored_from, HasFields, weight_after, last_seq, backlog_or, IsHistory}
-use Rattle.ls_event.specs.Slots.{Slot, enqueued, is_far}
-use Rattle.ls_cell.specs.Merge.{Pending, StandsMerge, pending_after, pending_passed, head_of, left_of}
+use Rattle.ls_event.specs.declared.item.Kind.{Kind}
+use Rattle.ls_event.specs.declared.item.Kind.TheVariants as kind
+use Rattle.ls_event.specs.declared.snapshot.Snapshot.{Snapshot}
+use Rattle.ls_event.specs.declared.snapshot.Snapshot.TheVariants as state
+use Rattle.ls_event.specs.History.{RowFits, last_seq}
+use Rattle.ls_event.specs.Shapes.{Shape, IsShape}
+use Rattle.ls_event.specs.States.{state_at, state_after, left_by, push_refusal}
+use Rattle.ls_event.specs.Publishes.{stored_from, publish_cause, backlog_or, IsHistory}
+use Rattle.ls_event.specs.Slots.{Slot, enqueued}
+use Rattle.ls_item.specs.States.{Kept}
+use Rattle.ls_cell.specs.declared.any.AnyBuffer.{AnyBuffer}
 use Rattle.ls_cell.specs.declared.cell.Enqueued.{Enqueued}
 use Rattle.ls_cell.specs.declared.cell.Enqueued.TheVariants as answer
+use Rattle.ls_cell.specs.Table.{slot_at, EachSlot, far_from, StandsAll}
+use Rattle.ls_cell.specs.Any.{any_last, any_head, any_left}
+use Rattle.ls_cell.specs.Standing.{IsEventOf, IsSlotOf, StandsSlot, last_at}
 
--- what an item holds: its number, its merged state, its last events, the last seq of each adapter, and its slot's buffer
+-- what an item holds: its shape and its state, its number of events, the last of them, the last seq of each adapter, and its slots
 pub record Held : Type 0 where
+  pub item : Kept
   pub number : ℕ
-  pub state : List Value
   pub tail : List Stored
   pub seqs : List ℕ
-  pub slot : Option Pending
+  pub slots : List (Option AnyBuffer)
 
--- what a slot still lacks is in the tail
-pub record IsSlotOf (c : Held) (b : Pending) : Type 0 where
-  pub reached : b.last ≤ c.number
-  pub near : c.number ≤ b.last + length c.tail
-  pub fields : length b.state ≡ length c.state
+-- a state is one of a kind
+abbrev pub IsOfKind : Kind → Snapshot → Type 0
+IsOfKind kind.Merge (state.Merge row) = Unit {0}
+IsOfKind kind.Merge (state.Distinct rows) = ⊥
+IsOfKind kind.Merge (state.Command ks) = ⊥
+IsOfKind kind.Distinct (state.Merge row) = ⊥
+IsOfKind kind.Distinct (state.Distinct rows) = Unit {0}
+IsOfKind kind.Distinct (state.Command ks) = ⊥
+IsOfKind kind.Command (state.Merge row) = ⊥
+IsOfKind kind.Command (state.Distinct rows) = ⊥
+IsOfKind kind.Command (state.Command ks) = Unit {0}
+
+-- an item of a shape keeps the event of a number
+pub record IsKept (p : Shape) (number : ℕ) (x : Stored) : Type 0 where
+  pub no : x.no ≡ number
+  pub event : IsEventOf p x.event
+  pub after : RowFits p.fields x.after
+
+-- an item of a shape keeps these events, the first of which has number n + 1
+abbrev pub AreKept : Shape → ℕ → List Stored → Type 0
+AreKept p n [] = Unit {0}
+AreKept p n (x ∷ xs) = IsKept p (n + 1) x × AreKept p (n + 1) xs
 
 -- what is true of each item
 pub record IsSound (c : Held) : Type 0 where
+  pub shape : IsShape c.item.shape
+  pub state : IsOfKind c.item.shape.kind c.item.state
   pub seqs : length c.seqs ≡ 65
   pub short : length c.tail ≤ 64
   pub within : length c.tail ≤ c.number
   pub in_range : c.number ≤ 2 ^ 60
-  pub fields : All (λ x. HasFields (length c.state) x.event) c.tail
-  pub slot : ForSome c.slot (IsSlotOf c)
+  pub kept : AreKept c.item.shape (c.number - length c.tail) c.tail
+  pub slots : EachSlot (IsSlotOf c.item.shape c.number (length c.tail)) c.slots
 
--- the slot, where it lags by 64
-abbrev pub far_in : ℕ → Option Pending → Option ℕ
-far_in number None = None
-far_in number (Some b) = if nat_le (b.last + 64) number then Some 1 else None
+-- a slot of this number is live
+abbrev pub HasSlot : Held → ℕ → Type 0
+HasSlot c slot = IsSome (slot_at c.slots slot)
 
 -- why an event is refused, by the first cause of the order
 abbrev pub refusal_of : Held → ℕ → ℕ → Event → Option PublishRefused
 refusal_of c adapter seq event =
     if nat_le seq (slice_index c.seqs adapter) then Some (refused.Repeated (slice_index c.seqs adapter))
-    else if nat_lt 4096 (weight_after c.state event) then Some (refused.TooLong (weight_after c.state event))
-    else backlog_or (far_in c.number c.slot) (if nat_le (2 ^ 60) c.number then Some refused.Spent else None)
+    else option_or (option_map publish_cause (push_refusal c.item.shape c.item.state event)) (backlog_or (far_from any_last c.number 1 c.slots) (if nat_le (2 ^ 60) c.number then Some refused.Spent else None))
 
 -- the answer is the first cause, or without a cause this number; want of memory comes last
 abbrev pub AnswersFirst : Option PublishRefused → ℕ → Result ℕ PublishRefused → Type 0
@@ -59,84 +86,54 @@ AnswersFirst cause next (Err e) = cause ≡ Some e
 abbrev pub tail_after : List Stored → Stored → List Stored
 tail_after t x = drop (length t + 1 - 64) (t ++ x ∷ [])
 
--- what is held after an event
+-- an event with its number and the row that it leaves its key, where it is added to an item
+abbrev pub stored_next : Held → Event → Stored
+stored_next c event = record { no = c.number + 1; event = event; after = left_by c.item.shape (state_after c.item.shape c.item.state event) event }
+
+-- what is held after an entry
 abbrev pub published : Held → Entry → Held
 published c e =
     record c {
+      item = record c.item { state = state_after c.item.shape c.item.state e.event };
       number = c.number + 1;
-      state = row_after c.state e.event;
-      tail = tail_after c.tail (record { no = c.number + 1; event = e.event; after = None });
+      tail = tail_after c.tail (stored_next c e.event);
       seqs = slice_set c.seqs e.adapter e.seq;
     }
 
--- a slot is live
-abbrev pub HasSlot : Held → ℕ → Type 0
-HasSlot c slot = (slot ≡ 1) × IsSome c.slot
+-- what a slot tells next
+abbrev pub head_at : Held → ℕ → Option Taken
+head_at c slot = option_and_then any_head (slot_at c.slots slot)
 
--- what is held after a slot joins
-abbrev pub joined : Held → Held
-joined c = record c { slot = Some (record { base = c.number; last = c.number; place = c.number; given = false; state = c.state; touched = replicate (length c.state) true }) }
+-- whether a slot is pending
+abbrev pub left_at : Held → ℕ → Bool
+left_at c slot = option_map_or any_left (slot_at c.slots slot) false
 
--- the answer to an enqueue
-abbrev pub enqueue_reply : ℕ → Pending → Enqueued
-enqueue_reply number b = if nat_lt b.last number then answer.Moved (b.last + 1) else answer.UpToDate
+-- the number that was enqueued last into a slot, 0 where none is live
+abbrev pub last_in : Held → ℕ → ℕ
+last_in c slot = last_at (slot_at c.slots slot)
 
-abbrev pub enqueue_answer : Held → Enqueued
-enqueue_answer c = option_map_or (enqueue_reply c.number) c.slot answer.UpToDate
+-- the answer to an enqueue into a slot of this last number, of so many events
+abbrev pub enqueue_answer : ℕ → ℕ → Enqueued
+enqueue_answer number last = if nat_lt last number then answer.Moved (last + 1) else answer.UpToDate
 
--- a buffer after this event, where there is one
-abbrev pub next_from : Pending → Option Stored → Pending
-next_from b None = b
-next_from b (Some x) = pending_after b x.event
-
--- a buffer after an enqueue of the next event of the tail, where there is one
-abbrev pub buffer_after : ℕ → List Stored → Pending → Pending
-buffer_after number tail b = if nat_lt b.last number then next_from b (slice_get tail (b.last - (number - length tail))) else b
-
-abbrev pub enqueued_once : Held → Held
-enqueued_once c = record c { slot = option_map (buffer_after c.number c.tail) c.slot }
-
--- what the slot tells next
-abbrev pub head_at : Held → Option Taken
-head_at c = option_and_then head_of c.slot
-
--- whether the slot is pending
-abbrev pub left_at : Held → Bool
-left_at c = option_map_or left_of c.slot false
-
--- what is held after what the slot tells next
-abbrev pub passed_once : Held → Held
-passed_once c = record c { slot = option_map pending_passed c.slot }
-
--- how many events the slot lags behind
-abbrev pub lag_of : Held → ℕ
-lag_of c = option_map_or (λ b. c.number - b.last) c.slot 0
-
--- the buffer stands for the slot's record, where there is one
-abbrev pub StandsSlot : ℕ → Option Pending → Option Slot → List Entry → Type 0
-StandsSlot fields None None h = Unit {0}
-StandsSlot fields None (Some s) h = ⊥
-StandsSlot fields (Some b) None h = ⊥
-StandsSlot fields (Some b) (Some s) h = StandsMerge b s h × (length h ≤ s.last + 64) × (s.plan.fields ≡ fields)
-
--- what is held stands for a history and its slot's record
-pub record StandsCell (c : Held) (s : Option Slot) (h : List Entry) : Type 0 where
-  pub number : c.number ≡ length h
-  pub state : c.state ≡ merged (length c.state) h (length h)
-  pub tail : c.tail ≡ stored_from (length h - 64) (drop (length h - 64) h)
-  pub seqs : (adapter : ℕ) → adapter ≤ 64 → slice_index c.seqs adapter ≡ last_seq adapter h
-  pub slot : StandsSlot (length c.state) c.slot s h
-  pub history : IsHistory (length c.state) h
-
--- the slot, where its record lags by 64 behind so many events
-abbrev pub far_of : ℕ → Option Slot → Option ℕ
-far_of number None = None
-far_of number (Some s) = if is_far number s then Some 1 else None
+-- the last number of a slot after an enqueue
+abbrev pub next_last : ℕ → ℕ → ℕ
+next_last number last = if nat_lt last number then last + 1 else last
 
 -- the record after an enqueue, where the history has one more event
 abbrev pub enqueued_at : List Entry → Slot → Slot
 enqueued_at h s = if nat_lt s.last (length h) then enqueued s else s
 
--- the answer to it
-abbrev pub enqueue_answer_at : List Entry → Slot → Enqueued
-enqueue_answer_at h s = if nat_lt s.last (length h) then answer.Moved (s.last + 1) else answer.UpToDate
+-- the least number of a slot that lags by 64 behind so many events
+abbrev pub least_far : ℕ → List (Option Slot) → Option ℕ
+least_far number ss = far_from (λ s. s.last) number 1 ss
+
+-- what is held stands for a history and the records of its slots, of which the first has number 1
+pub record StandsCell (c : Held) (ss : List (Option Slot)) (h : List Entry) : Type 0 where
+  pub number : c.number ≡ length h
+  pub shape : IsShape c.item.shape
+  pub state : c.item.state ≡ state_at c.item.shape h (length h)
+  pub tail : c.tail ≡ stored_from c.item.shape h (length h - 64) (drop (length h - 64) h)
+  pub seqs : (adapter : ℕ) → adapter ≤ 64 → slice_index c.seqs adapter ≡ last_seq adapter h
+  pub slots : StandsAll (StandsSlot c.item.shape) c.slots ss h
+  pub history : IsHistory c.item.shape h

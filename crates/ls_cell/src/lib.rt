@@ -1,14 +1,14 @@
-//! An item with its slot: its merged state, its last events, and what the slot's lines still have to tell.
+//! An item with its slots: its state, its last events, and what the lines of each slot still have to tell.
 #![tactic(auto)]
 
-pub mod buffers;
+pub mod any;
 pub mod cell;
-pub mod merge;
-mod weights;
+mod joining;
+mod table;
 
+pub use any::AnyBuffer;
 pub use cell::{Enqueued, ItemCell, Joined};
 pub use ls_event::PublishRefused;
-pub use merge::MergeBuffer;
 
 #[cfg(test)]
 mod tests;

@@ -1,11 +1,10 @@
--- Names among others, as the map of names finds them.
-use Rattle.std.proofs.Common.{◌≡◌, ◌==◌, ◌<◌, ℕ, suc, ◌+◌, List, [], ◌∷◌, length, map, refl, sym, ap, ◌∙◌, arith, Bool, true, false, ◌&&◌, ◌||◌, not, nat_lt, cond, Option, Some, None, option_map, subst}
+-- Names among others, as the set of names finds them.
+use Rattle.std.proofs.Common.{◌≡◌, ◌==◌, ℕ, suc, ◌+◌, List, [], ◌∷◌, ◌++◌, length, map, refl, sym, ap, ◌∙◌, arith, Bool, true, false, ◌&&◌, ◌||◌, not, nat_lt, cond, Option, Some, None, option_map, subst}
 use Rattle.std.specs.Prelude.{is_none, position}
 use Rattle.std.specs.List.{list_any, position_or_len}
 use Rattle.std.specs.Str.{bytes_eq}
 use Rattle.std.proofs.lemmas.Bool.Decides.{nat_tests}
-use Rattle.ls_event.specs.declared.item.ItemDef.{ItemDef}
-use Rattle.ls_config.specs.Items.{names_of, may_follow}
+use Rattle.std.proofs.lemmas.List.{map-append}
 use Rattle.ls_value.specs.Values.{text_eq, place_of}
 use Rattle.ls_value.proofs.Rows.{text_eq_true, text_eq_same}
 
@@ -21,7 +20,8 @@ same_test [] (y ∷ t) = refl
 same_test (x ∷ s) [] = refl
 same_test (x ∷ s) (y ∷ t) = ap (λ (v : Bool). (x == y) && v) (same_test s t)
 
-turned : (s t : List ℕ) → text_eq s t ≡ text_eq t s
+-- so is the order of the texts no matter
+pub turned : (s t : List ℕ) → text_eq s t ≡ text_eq t s
 turned s t = by_test (text_eq s t) refl (text_eq t s) refl
   where
     by_test : (v : Bool) → text_eq s t ≡ v → (w : Bool) → text_eq t s ≡ w → v ≡ w
@@ -51,10 +51,10 @@ found_place f name (k ∷ ks) = rw (sym (tests_agree name (f k)), sym (found_pla
         by_less false = refl
 
 -- a name is new where the test finds none
-pub is_new : {K : Type 0} (f : K → List ℕ) (name : List ℕ) (ks : List K) → not (list_any (λ k. bytes_eq name (f k)) ks) ≡ is_none (place_of (map f ks) name)
-is_new f name [] = refl
-is_new f name (k ∷ ks) =
-    let later : not (list_any (λ x. bytes_eq name (f x)) ks) ≡ is_none (place_of (map f ks) name) = is_new f name ks in
+pub none_among : {K : Type 0} (f : K → List ℕ) (name : List ℕ) (ks : List K) → not (list_any (λ k. bytes_eq name (f k)) ks) ≡ is_none (place_of (map f ks) name)
+none_among f name [] = refl
+none_among f name (k ∷ ks) =
+    let later : not (list_any (λ x. bytes_eq name (f x)) ks) ≡ is_none (place_of (map f ks) name) = none_among f name ks in
     by_test (bytes_eq name (f k)) (text_eq (f k) name) (tests_agree name (f k)) (list_any (λ x. bytes_eq name (f x)) ks) (place_of (map f ks) name) later
   where
     by_test : (v w : Bool) → v ≡ w → (a : Bool) (o : Option ℕ) → not a ≡ is_none o → not (v || a) ≡ is_none (cond w (Some 0) (option_map (λ i. i + 1) o))
@@ -63,6 +63,13 @@ is_new f name (k ∷ ks) =
     by_test false true e a o h = cc
     by_test false false e a o h = h ∙ sym (none_later o)
 
--- an item may follow fewer than 4,096 where its name is new
-pub may_follow_new : (items : List ItemDef) (name : List ℕ) (fresh : Bool) → length items < 4096 → fresh ≡ is_none (place_of (names_of items) name) → fresh ≡ may_follow items name
-may_follow_new items name fresh few h = let t : nat_lt (length items) 4096 ≡ true = grind (arith, nat_tests) in rw (t, h) refl
+-- a new name goes behind the others
+pub added_last : {K : Type 0} (f : K → List ℕ) (k : K) (name : List ℕ) (ks : List K) → f k ≡ name → place_of (map f ks) name ≡ None
+    → map f (cond (list_any (λ x. bytes_eq (f k) (f x)) ks) ks (ks ++ k ∷ [])) ≡ map f ks ++ name ∷ []
+added_last f k name ks is none =
+    let free : not (list_any (λ x. bytes_eq name (f x)) ks) ≡ true = none_among f name ks ∙ ap is_none none in
+    rw is (by_test (list_any (λ x. bytes_eq name (f x)) ks) free)
+  where
+    by_test : (v : Bool) → not v ≡ true → map f (cond v ks (ks ++ k ∷ [])) ≡ map f ks ++ name ∷ []
+    by_test true h = cc
+    by_test false h = map-append f ks (k ∷ []) ∙ ap (λ (n : List ℕ). map f ks ++ n ∷ []) is

@@ -1,26 +1,23 @@
 -- What is read is a config: few items, with distinct names, each as it has to be.
-use Rattle.std.proofs.Common.{◌≡◌, ℕ, ◌+◌, List, [], ◌∷◌, ◌++◌, length, refl, sym, ap, subst, ◌∙◌, arith, Bool, true, false, ◌&&◌, not, cond, Option, Some, None, IfSome, option_map, Ok, nat_le, nat_lt}
+use Rattle.std.proofs.Common.{◌≡◌, ℕ, ◌+◌, List, [], ◌∷◌, ◌++◌, length, refl, ap, subst, ◌∙◌, arith, Bool, true, false, ◌&&◌, not, cond, Option, Some, None, IfSome, option_map, Ok, nat_le, nat_lt}
 use Rattle.std.specs.Prelude.{is_none, codes}
 use Rattle.std.specs.List.{list_all}
 use Rattle.std.proofs.lemmas.Bool.Decides.{nat_tests}
 use Rattle.std.proofs.lemmas.List.{length-append}
 use Rattle.std.proofs.lemmas.List.Folds.{list_all-append}
 use Rattle.ls_value.specs.Values.{text_eq, place_of}
-use Rattle.ls_value.proofs.Rows.{and_left, and_right, text_eq_true, text_eq_same}
+use Rattle.ls_value.proofs.Rows.{and_left, and_right}
 use Rattle.ls_words.specs.Words.{divided, is_name}
 use Rattle.ls_event.specs.declared.item.ItemDef.{ItemDef}
 use Rattle.ls_event.specs.declared.item.Kind.{Kind}
+use Rattle.ls_config.proofs.Among.{turned}
 use Rattle.ls_config.specs.declared.reading.Draft.{Draft}
 use Rattle.ls_config.specs.Items.{are_distinct, is_item, item_with, item_said, kind_said, names_of, are_items, may_follow}
 use Rattle.ls_config.specs.Configs.{is_skipped, with_set, with_item, with_words, with_line, with_lines}
 
 -- texts that differ one way differ the other
 differ : (s t : List ℕ) → text_eq s t ≡ false → text_eq t s ≡ false
-differ s t h = by_test (text_eq t s) refl
-  where
-    by_test : (v : Bool) → text_eq t s ≡ v → v ≡ false
-    by_test true e = absurd (let is : t ≡ s = text_eq_true t s e in let g : text_eq s t ≡ true = subst (λ (x : List ℕ). text_eq s x ≡ true) (sym is) (text_eq_same s) in cc)
-    by_test false e = refl
+differ s t h = turned t s ∙ h
 
 -- a name that is none of some is none of one more
 none_push : (ts : List (List ℕ)) (x t : List ℕ) → is_none (place_of ts t) ≡ true → text_eq x t ≡ false → is_none (place_of (ts ++ x ∷ []) t) ≡ true
@@ -70,7 +67,8 @@ items_push items i h is m =
 abbrev Fits : Option Draft → Type 0
 Fits o = IfSome o (λ d. are_items d.items ≡ true)
 
-said_item : (name : List ℕ) (fields : List (List ℕ)) (k : Option Kind) → IfSome (item_with name fields k) (λ i. is_item i ≡ true)
+-- an item that is said is one
+pub said_item : (name : List ℕ) (fields : List (List ℕ)) (k : Option Kind) → IfSome (item_with name fields k) (λ i. is_item i ≡ true)
 said_item name fields None = tt
 said_item name fields (Some k) = by_test (is_item (record { name = name; kind = k; fields = fields })) refl
   where

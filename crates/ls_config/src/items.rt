@@ -1,12 +1,12 @@
 //! The items of a config, found by their names.
-ghost use Rattle.std.specs.Prelude.{◌≡◌, ◌<◌, ◌≤◌, ℕ, List, [], ◌∷◌, ◌++◌, None, Some, IfOk, IfSome, length, map, slice_get, nat_eq, if◌then◌else◌};
+ghost use Rattle.std.specs.Prelude.{◌≡◌, ◌<◌, ◌≤◌, ℕ, List, [], ◌∷◌, ◌++◌, None, Some, IfOk, IfSome, OnErr, length, slice_get, nat_eq, if◌then◌else◌};
 ghost use Rattle.ls_value.specs.Values.{place_of};
 ghost use Rattle.ls_config.specs.Items.{names_of, may_follow};
 
-use indexmap::IndexSet;
+use crate::names::Declared;
 use ls_event::ItemDef;
 use ls_value::NoMemory;
-use std::alloc::{AllocError, AllocFailed, Global};
+use std::alloc::Global;
 use std::marker::Model;
 
 /// The most items of a config (this project's profile).
@@ -18,11 +18,11 @@ pub struct Items {
     /// The items.
     defs: Vec<ItemDef>,
     /// Their names, in the same order.
-    names: IndexSet<Vec<u8>>,
+    names: Declared,
 }
 
 impl Model for Items {
-    ghost use Rattle.std.specs.Prelude.{◌≡◌, ◌≤◌, List, length, map};
+    ghost use Rattle.std.specs.Prelude.{◌≡◌, ◌≤◌, List, length};
     ghost use Rattle.ls_event.specs.declared.item.ItemDef.{ItemDef as Def};
     ghost use Rattle.ls_config.specs.Items.{names_of};
 
@@ -30,56 +30,53 @@ impl Model for Items {
 
     ghost view = { λ i. i.defs.items };
 
-    ghost invariant = { λ i. (length i.defs.items ≤ 4096) × (map (λ k. k.items) i.names.keys ≡ names_of i.defs.items) };
+    ghost invariant = { λ i. (length i.defs.items ≤ 4096) × (i.names ≡ names_of i.defs.items) };
 }
 
 impl Items {
     /// No items.
-    pub(crate) fn new(alloc: Global) -> Items
+    pub fn new(alloc: Global) -> Items
         ensures { result ≡ [] }
     {
         Items {
             defs: Vec::new(alloc),
-            names: IndexSet::new(alloc),
+            names: Declared::new(alloc),
         }
     }
 
     /// Adds an item behind the others, or answers `false` exactly where there are 4,096 or one of them has its name.
-    pub(crate) fn add(&mut self, alloc: Global, item: ItemDef) -> Result<bool, NoMemory>
+    pub fn add(&mut self, alloc: Global, item: ItemDef) -> Result<bool, NoMemory>
         ensures told { IfOk result (λ added. added ≡ may_follow self.old item.name) }
         ensures new { IfOk result (λ added. self.new ≡ (if added then self.old ++ item ∷ [] else self.old)) }
+        ensures err { OnErr result (self.new ≡ self.old) }
     {
-        if self.defs.len() >= MOST_ITEMS {
+        if !self.may_follow(item.name.as_bytes()) {
             return Ok(false);
         }
-        let name = copied(alloc, item.name.as_bytes())?;
         self.defs.reserve(1)?;
-        if self.names.insert(name)? {
-            self.defs.push_reserved(item);
-            Ok(true)
-        } else {
-            Ok(false)
-        }
+        self.names.add(alloc, item.name.as_bytes())?;
+        self.defs.push_reserved(item);
+        Ok(true)
+    }
+
+    /// Whether an item with this name may be added: there are fewer than 4,096, and none of them has it. No memory is taken.
+    pub fn may_follow(&self, name: &[u8]) -> bool
+        ensures { result ≡ may_follow self.now name.now }
+    {
+        self.defs.len() < MOST_ITEMS && self.names.find(name).is_none()
     }
 
     /// The number of the item with a name, from 0: `None` exactly where no item has it. No memory is taken.
     pub fn find(&self, name: &[u8]) -> Option<u32>
         ensures first { result ≡ place_of (names_of self.now) name.now }
+        ensures within { IfSome result (λ i. i < length self.now) }
         ensures found { IfSome result (λ i. slice_get (names_of self.now) i ≡ Some name.now) }
         ensures absent { result ≡ None → (k : ℕ) → slice_get (names_of self.now) k ≡ Some name.now → ⊥ }
     {
-        match self.place(name) {
+        match self.names.find(name) {
             Some(place) => Some(place as u32),
             None => None,
         }
-    }
-
-    /// The place of a name.
-    fn place(&self, name: &[u8]) -> Option<usize>
-        ensures first { result ≡ place_of (names_of self.now) name.now }
-        ensures within { IfSome result (λ i. i < 4096) }
-    {
-        self.names.get_index_of(name)
     }
 
     /// The items in order.
@@ -102,13 +99,4 @@ impl Items {
     {
         self.defs.is_empty()
     }
-}
-
-/// These bytes, copied.
-fn copied(alloc: Global, bytes: &[u8]) -> Result<Vec<u8>, AllocError>
-    ensures { IfOk result (λ copied. copied.items ≡ bytes.now) }
-{
-    let mut copied = Vec::new(alloc);
-    copied.extend_from_slice(bytes)?;
-    Ok(copied)
 }

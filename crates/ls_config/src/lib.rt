@@ -4,13 +4,15 @@
 pub mod config;
 pub mod fields;
 pub mod items;
+pub mod names;
 pub mod reading;
 
 pub use config::Config;
 pub use fields::item_said;
 pub use items::Items;
 pub use ls_event::{ItemDef, Kind};
-pub use reading::{ConfigRefused, read};
+pub use names::Declared;
+pub use reading::{ConfigRefused, is_skipped, read};
 
 #[cfg(test)]
 mod tests;

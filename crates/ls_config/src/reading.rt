@@ -102,8 +102,8 @@ fn add_line(alloc: Global, draft: &mut Draft, line: &[u8]) -> Result<bool, NoMem
     add_words(alloc, draft, &words)
 }
 
-/// Whether a line is skipped.
-fn is_skipped(line: &[u8]) -> bool
+/// Whether a line is skipped: it is empty, or a comment, which begins with `#` (this project's profile).
+pub fn is_skipped(line: &[u8]) -> bool
     ensures { result ≡ is_skipped line.now }
 {
     match line {

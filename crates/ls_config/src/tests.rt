@@ -179,3 +179,101 @@ fn items_are_found(rt: HostRuntime) -> Result<(), Fail> {
     }
     Ok(())
 }
+
+/// A line with a name of so many letters in it.
+fn with_name(alloc: Global, front: &str, letters: usize, back: &str) -> Result<String, Fail> {
+    let mut line = String::from_str(alloc, front)?;
+    for _ in 0..letters {
+        line.push('n')?;
+    }
+    line.push_str(back)?;
+    Ok(line)
+}
+
+#[test]
+fn names_have_at_most_64_letters(rt: HostRuntime) -> Result<(), Fail> {
+    let alloc = rt.alloc();
+    let cases = [
+        ("set ", 64, "", true),
+        ("set ", 65, "", false),
+        ("", 64, " MERGE x", true),
+        ("", 65, " MERGE x", false),
+        ("", 0, " MERGE x", false),
+        ("a MERGE x,", 64, "", true),
+        ("a MERGE x,", 65, "", false),
+        ("a MERGE ", 64, ",x", true),
+        ("a MERGE ", 65, ",x", false),
+    ];
+    for (front, letters, back, is) in cases {
+        let line = with_name(alloc, front, letters, back)?;
+        let given = told(alloc, line.as_bytes())?;
+        assert_eq!(rt; given.as_str() != "line 1", is, "of {line}");
+    }
+    Ok(())
+}
+
+#[test]
+fn names_are_declared_once(rt: HostRuntime) -> Result<(), Fail> {
+    let alloc = rt.alloc();
+    let cases: [(&[u8], usize, usize); 6] = [
+        (b"b", 0, 1),
+        (b"a", 1, 2),
+        (b"b", 0, 2),
+        (b"", 2, 3),
+        (b"B", 3, 4),
+        (b"a", 1, 4),
+    ];
+    let mut names = Declared::new(alloc);
+    assert!(rt; names.is_empty());
+    for (name, place, count) in cases {
+        if names.find(name).is_none() {
+            names.add(alloc, name)?;
+        }
+        assert_eq!(rt; names.find(name), Some(place), "of {name:?}");
+        assert_eq!(rt; names.len(), count, "of {name:?}");
+    }
+    assert!(rt; !names.is_empty());
+    Ok(())
+}
+
+/// Adds an item of this name, and answers whether it is new.
+fn is_added(alloc: Global, items: &mut Items, name: &[u8]) -> Result<bool, Fail> {
+    match item_said(alloc, name, b"MERGE", b"x")? {
+        Some(item) => Ok(items.add(alloc, item)?),
+        None => Ok(false),
+    }
+}
+
+#[test]
+fn items_are_added_once(rt: HostRuntime) -> Result<(), Fail> {
+    let alloc = rt.alloc();
+    let cases: [(&[u8], bool, usize); 4] = [
+        (b"b", true, 1),
+        (b"a", true, 2),
+        (b"b", false, 2),
+        (b"B", true, 3),
+    ];
+    let mut items = Items::new(alloc);
+    for (name, new, count) in cases {
+        assert_eq!(rt; items.may_follow(name), new, "of {name:?}");
+        assert_eq!(rt; is_added(alloc, &mut items, name)?, new, "of {name:?}");
+        assert_eq!(rt; items.len(), count, "of {name:?}");
+    }
+    Ok(())
+}
+
+#[test]
+fn empty_lines_and_comments_are_skipped(rt: HostRuntime) -> Result<(), Fail> {
+    let cases: [(&[u8], bool); 6] = [
+        (b"", true),
+        (b"#", true),
+        (b"#set a", true),
+        (b" ", false),
+        (b" #", false),
+        (b"a#", false),
+    ];
+    for (line, is) in cases {
+        assert_eq!(rt; is_skipped(line), is, "of {line:?}");
+    }
+    Ok(())
+}

@@ -1,5 +1,6 @@
 -- Examples of the definitions of each mode, computed: items with one field, and a table with a key, a command and a value.
 use Rattle.std.proofs.Common.{◌≡◌, ℕ, ◌+◌, List, [], ◌∷◌, replicate, refl, true, false, None, Some, codes}
+use Rattle.ls_value.specs.declared.row.Cell.{Cell}
 use Rattle.ls_value.specs.declared.row.Cell.TheVariants as cell
 use Rattle.ls_value.specs.declared.row.Value.{Value}
 use Rattle.ls_value.specs.declared.row.Value.TheVariants as value
@@ -9,11 +10,17 @@ use Rattle.ls_event.specs.declared.event.Entry.{Entry}
 use Rattle.ls_event.specs.declared.event.Mode.{Mode}
 use Rattle.ls_event.specs.declared.event.Mode.TheVariants as mode
 use Rattle.ls_event.specs.declared.event.Taken.TheVariants as taken
+use Rattle.ls_event.specs.Shapes.{Shape}
+use Rattle.ls_event.specs.declared.item.Kind.TheVariants as kind
 use Rattle.ls_event.specs.Slots.{Plan, Slot, fresh, fresh_with, passed}
 use Rattle.ls_event.specs.Updates.{own_row, updates_between, last_clear, recent_rows}
 use Rattle.ls_event.specs.Keyed.{keyed, row_at, is_before}
 use Rattle.ls_event.specs.CommandCuts.{command_queue}
 use Rattle.ls_event.specs.Cuts.{cut, pending, waiting}
+use Rattle.ls_event.specs.States.{push_refusal}
+use Rattle.ls_event.specs.declared.event.PushRefused.TheVariants as push
+use Rattle.ls_event.specs.declared.snapshot.Snapshot.{Snapshot}
+use Rattle.ls_event.specs.declared.snapshot.Snapshot.TheVariants as state
 
 abbrev an : Event → Entry
 an event = record { adapter = 1; seq = 1; event = event }
@@ -26,7 +33,7 @@ abbrev row : ℕ → List Value
 row d = value.Text ((48 + d) ∷ []) ∷ []
 
 abbrev plan : Mode → ℕ → ℕ → Plan
-plan mode size base = record { mode = mode; fields = 1; key = 0; command = 0; size = size; base = base }
+plan mode size base = record { mode = mode; shape = record { kind = kind.Distinct; fields = 1; key = 0; command = 0 }; size = size; base = base }
 
 -- a slot that joined at a number, and to which the events up to another were enqueued
 abbrev slot : Mode → ℕ → ℕ → ℕ → Slot
@@ -170,8 +177,11 @@ merge_waits_without_snapshot = refl
 
 -- COMMAND: a table of which the keys a and b are the snapshot
 
-abbrev table : Mode → Plan
-table mode = record { mode = mode; fields = 3; key = 0; command = 1; size = 1; base = 2 }
+abbrev table : Shape
+table = record { kind = kind.Command; fields = 3; key = 0; command = 1 }
+
+abbrev of_two : Mode → Plan
+of_two mode = record { mode = mode; shape = table; size = 1; base = 2 }
 
 -- an update of a key, and the row that it leaves
 abbrev keys : ℕ → List ℕ → ℕ → Entry
@@ -189,18 +199,18 @@ abbrev emptied : List Entry
 emptied = keys 98 (codes "ADD") 1 ∷ keys 97 (codes "ADD") 2 ∷ an Clear ∷ keys 99 (codes "ADD") 4 ∷ []
 
 abbrev of_table : ℕ → ℕ → Slot
-of_table owed last = record (fresh_with (table mode.Command) owed) { last = last }
+of_table owed last = record (fresh_with (of_two mode.Command) owed) { last = last }
 
 pub byte_order : is_before (97 ∷ []) (97 ∷ 98 ∷ []) ≡ true
 byte_order = refl
 
-pub keyed_in_byte_order : keyed (table mode.Command) touched 2 ≡ record { key = 97 ∷ []; row = keyed_row 97 2 } ∷ record { key = 98 ∷ []; row = keyed_row 98 1 } ∷ []
+pub keyed_in_byte_order : keyed table touched 2 ≡ record { key = 97 ∷ []; row = keyed_row 97 2 } ∷ record { key = 98 ∷ []; row = keyed_row 98 1 } ∷ []
 keyed_in_byte_order = refl
 
-pub keyed_deleted : row_at (97 ∷ []) (keyed (table mode.Command) touched 5) ≡ None
+pub keyed_deleted : row_at (97 ∷ []) (keyed table touched 5) ≡ None
 keyed_deleted = refl
 
-pub keyed_cleared : keyed (table mode.Command) emptied 3 ≡ []
+pub keyed_cleared : keyed table emptied 3 ≡ []
 keyed_cleared = refl
 
 pub queue_of_owed_and_touched : command_queue touched (of_table 2 5) ≡ (97 ∷ []) ∷ (98 ∷ []) ∷ (99 ∷ []) ∷ []
@@ -229,3 +239,31 @@ command_cleared = refl
 
 pub command_behind_clear : cut emptied (passed (passed (of_table 2 4) taken.EndOfSnapshot) (taken.Cleared 3)) ≡ Some (taken.Key (99 ∷ []) (Some (keyed_row 99 4)) 4)
 command_behind_clear = refl
+
+-- why an update isn't added to the table, or to an item of kind DISTINCT, in the order of the causes
+
+abbrev with_keys : Snapshot
+with_keys = state.Command (keyed table touched 4)
+
+abbrev update_of : Cell → Cell → List ℕ → Event
+update_of key command text = Update (key ∷ command ∷ cell.Text text ∷ [])
+
+pub no_key_before_bad_command : push_refusal table with_keys (update_of cell.Null cell.Null (replicate 4097 120)) ≡ Some push.NoKey
+no_key_before_bad_command = refl
+
+pub bad_command_before_too_long : push_refusal table with_keys (update_of (cell.Text (97 ∷ [])) (cell.Text (codes "GO")) (replicate 4097 120)) ≡ Some push.BadCommand
+bad_command_before_too_long = refl
+
+-- the key, the word and the value; the row has no command
+pub too_long_by_event : push_refusal table with_keys (update_of (cell.Text (97 ∷ [])) (cell.Text (codes "ADD")) (replicate 4093 120)) ≡ Some (push.TooLong 4097)
+too_long_by_event = refl
+
+-- a DELETE makes no row
+pub delete_is_short : push_refusal table with_keys (update_of (cell.Text (97 ∷ [])) (cell.Text (codes "DELETE")) (replicate 4089 120)) ≡ None
+delete_is_short = refl
+
+pub known_key_is_added : push_refusal table with_keys (update_of (cell.Text (99 ∷ [])) (cell.Text (codes "UPDATE")) (49 ∷ [])) ≡ None
+known_key_is_added = refl
+
+pub own_row_counts : push_refusal (record table { kind = kind.Distinct }) (state.Distinct []) (update_of (cell.Text (replicate 4096 120)) cell.Same []) ≡ None
+own_row_counts = refl

@@ -11,7 +11,10 @@ use Rattle.ls_event.specs.declared.event.Mode.TheVariants as mode
 use Rattle.ls_event.specs.declared.event.PublishRefused.TheVariants as refused
 use Rattle.ls_event.specs.declared.event.Taken.TheVariants as taken
 use Rattle.ls_event.specs.Cuts.{cut, pending, Fits}
-use Rattle.ls_event.specs.History.{merged, between, last_seq, refusal, IsHistory}
+use Rattle.ls_event.specs.History.{merged, between, last_seq}
+use Rattle.ls_event.specs.Shapes.{Shape}
+use Rattle.ls_event.specs.Publishes.{refusal, IsHistory}
+use Rattle.ls_event.specs.declared.item.Kind.TheVariants as kind
 use Rattle.ls_event.specs.Slots.{Plan, Slot, fresh, enqueued, passed, is_far, IsNext}
 
 -- an event of an adapter
@@ -44,9 +47,13 @@ cleared =
     ∷ entry 1 5 (Update (cell.Same ∷ cell.Same ∷ cell.Same ∷ []))
     ∷ []
 
+-- an item of kind MERGE with three fields
+abbrev letters_item : Shape
+letters_item = record { kind = kind.Merge; fields = 3; key = 0; command = 0 }
+
 -- a slot of mode MERGE over three fields, with a buffer of a size
 abbrev plan : ℕ → Plan
-plan size = record { mode = mode.Merge; fields = 3; key = 0; command = 0; size = size; base = 0 }
+plan size = record { mode = mode.Merge; shape = letters_item; size = size; base = 0 }
 
 -- the slot that joined at the start, after three enqueues
 abbrev joined : ℕ → Slot
@@ -151,7 +158,7 @@ near_by_63 = refl
 
 -- the third entry is the next one after two
 pub third_is_next : IsNext (told_to 1 0 2) letters (record { no = 3; event = Update (cell.Same ∷ cell.Same ∷ digit 3 ∷ []); after = None })
-third_is_next = record { entry = entry 1 3 (Update (cell.Same ∷ cell.Same ∷ digit 3 ∷ [])); more = omega arith; next = refl; no = refl; event = refl }
+third_is_next = record { entry = entry 1 3 (Update (cell.Same ∷ cell.Same ∷ digit 3 ∷ [])); more = omega arith; next = refl; no = refl; event = refl; after = refl }
 
 -- seqs of two adapters
 
@@ -173,39 +180,39 @@ last_seq_of_none = refl
 abbrev long : ℕ → Event
 long n = Update (cell.Text (replicate n 120) ∷ cell.Same ∷ cell.Same ∷ [])
 
-pub seq_0 : (fields adapter : ℕ) (far : Option ℕ) (event : Event) → refusal fields [] far adapter 0 event ≡ Some (refused.Repeated 0)
-seq_0 fields adapter far event = refl
+pub seq_0 : (p : Shape) (adapter : ℕ) (far : Option ℕ) (event : Event) → refusal p [] far adapter 0 event ≡ Some (refused.Repeated 0)
+seq_0 p adapter far event = refl
 
-pub repeated_before_too_long : refusal 3 by_two (Some 1) 1 9 (long 4097) ≡ Some (refused.Repeated 9)
+pub repeated_before_too_long : refusal letters_item by_two (Some 1) 1 9 (long 4097) ≡ Some (refused.Repeated 9)
 repeated_before_too_long = refl
 
-pub too_long_before_backlog : refusal 3 by_two (Some 1) 1 10 (long 4097) ≡ Some (refused.TooLong 4097)
+pub too_long_before_backlog : refusal letters_item by_two (Some 1) 1 10 (long 4097) ≡ Some (refused.TooLong 4097)
 too_long_before_backlog = refl
 
-pub backlog : refusal 3 by_two (Some 1) 1 10 (long 4096) ≡ Some (refused.Backlog 1)
+pub backlog : refusal letters_item by_two (Some 1) 1 10 (long 4096) ≡ Some (refused.Backlog 1)
 backlog = refl
 
-pub not_refused : refusal 3 by_two None 2 5 (long 4096) ≡ None
+pub not_refused : refusal letters_item by_two None 2 5 (long 4096) ≡ None
 not_refused = refl
 
 -- the row weighs more than the event
-pub too_long_by_row : refusal 3 (entry 1 1 (long 4096) ∷ []) None 1 2 (Update (cell.Same ∷ digit 1 ∷ cell.Same ∷ [])) ≡ Some (refused.TooLong 4097)
+pub too_long_by_row : refusal letters_item (entry 1 1 (long 4096) ∷ []) None 1 2 (Update (cell.Same ∷ digit 1 ∷ cell.Same ∷ [])) ≡ Some (refused.TooLong 4097)
 too_long_by_row = refl
 
 -- a history
-pub letters_are_history : IsHistory 3 letters
+pub letters_are_history : IsHistory letters_item letters
 letters_are_history =
     record {
       few = omega arith;
       each = (
-        record { fits = refl; short = omega arith; rises = omega arith },
+        record { fits = refl; admitted = refl; rises = omega arith },
         (
-          record { fits = refl; short = omega arith; rises = omega arith },
-          (record { fits = refl; short = omega arith; rises = omega arith }, tt),
+          record { fits = refl; admitted = refl; rises = omega arith },
+          (record { fits = refl; admitted = refl; rises = omega arith }, tt),
         ),
       );
     }
 
 -- it isn't one where a seq is repeated
-pub repeated_is_no_history : IsHistory 3 (entry 1 1 Clear ∷ entry 1 1 Clear ∷ []) → ⊥
+pub repeated_is_no_history : IsHistory letters_item (entry 1 1 Clear ∷ entry 1 1 Clear ∷ []) → ⊥
 repeated_is_no_history h = omega (arith, h.each.1.0.rises)

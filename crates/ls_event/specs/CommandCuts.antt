@@ -28,7 +28,7 @@ queue_touched s queue n key = if nat_lt (place_of s.noted s.place key) n && not 
 
 -- the queue after the event of number n
 abbrev pub queue_after : Slot → List (List ℕ) → ℕ → Event → List (List ℕ)
-queue_after s queue n (Update cells) = queue_touched s queue n (key_of s.plan cells)
+queue_after s queue n (Update cells) = queue_touched s queue n (key_of s.plan.shape cells)
 queue_after s queue n Clear = queue
 
 -- the queue after these entries, the first of which has number n + 1
@@ -42,7 +42,7 @@ queue_since h s queue = queue_from s queue (clear_or h s.place s.last) (between 
 
 -- the keys of the snapshot that are owed, in the order of their bytes; a Clear drops them
 abbrev pub owed_keys : List Entry → Slot → List (List ℕ)
-owed_keys h s = if is_some (last_clear h s.place s.last) then [] else last_of s.owed (map (λ k. k.key) (keyed s.plan h s.plan.base))
+owed_keys h s = if is_some (last_clear h s.place s.last) then [] else last_of s.owed (map (λ k. k.key) (keyed s.plan.shape h s.plan.base))
 
 -- the keys that have a turn: those owed, and those touched after their places, by their first touch
 abbrev pub command_queue : List Entry → Slot → List (List ℕ)
@@ -54,7 +54,7 @@ touched_keys h s = queue_since h s []
 
 -- the turn of a key
 abbrev pub key_taken : List Entry → Slot → List ℕ → Taken
-key_taken h s key = taken.Key key (row_at key (keyed s.plan h s.last)) s.last
+key_taken h s key = taken.Key key (row_at key (keyed s.plan.shape h s.last)) s.last
 
 -- the next cut of mode COMMAND, by the last Clear that isn't told, if there is one
 abbrev pub command_told : List Entry → Slot → Option ℕ → Option Taken

@@ -52,11 +52,11 @@ told_cells (t ∷ ts) (v ∷ row) = (if t then told v else cell.Same) ∷ told_c
 
 -- the fields that a cut up to a number tells: those touched since the slot's place, and every one before the first line
 abbrev pub flags_to : List Entry → Slot → ℕ → List Bool
-flags_to h s to = touched_after_all (replicate s.plan.fields (not s.given)) (between h s.place to)
+flags_to h s to = touched_after_all (replicate s.plan.shape.fields (not s.given)) (between h s.place to)
 
 -- the cut up to a number
 abbrev pub change_to : List Entry → Slot → ℕ → Taken
-change_to h s to = taken.Change (told_cells (flags_to h s to) (merged s.plan.fields h to)) to
+change_to h s to = taken.Change (told_cells (flags_to h s to) (merged s.plan.shape.fields h to)) to
 
 -- the place that the next cut of mode MERGE moves to: at most the last n events are told of one by one
 abbrev pub next_place : Slot → ℕ

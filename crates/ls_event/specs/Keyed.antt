@@ -8,12 +8,10 @@ use Rattle.ls_value.specs.declared.row.Cell.TheVariants as cell
 use Rattle.ls_event.specs.declared.event.Event.{Event}
 use Rattle.ls_event.specs.declared.event.Event.TheVariants.{Update, Clear}
 use Rattle.ls_event.specs.declared.event.Entry.{Entry}
-use Rattle.ls_event.specs.Slots.{Plan}
-
--- a key and its row
-pub record Keyed : Type 0 where
-  pub key : List ℕ
-  pub row : List Value
+use Rattle.ls_event.specs.declared.item.Kind.{Kind}
+use Rattle.ls_event.specs.declared.item.Kind.TheVariants as kind
+use Rattle.ls_event.specs.declared.snapshot.KeyedRow.{KeyedRow}
+use Rattle.ls_event.specs.Shapes.{Shape}
 
 -- whether a text stands before another in the order of their bytes
 abbrev pub is_before : List ℕ → List ℕ → Bool
@@ -28,20 +26,20 @@ text_of cell.Null = []
 text_of (cell.Text t) = t
 
 -- the key that an update names
-abbrev pub key_of : Plan → List Cell → List ℕ
+abbrev pub key_of : Shape → List Cell → List ℕ
 key_of p cells = text_of (cell_at cells p.key)
 
 -- whether an update deletes its key
-abbrev pub deletes : Plan → List Cell → Bool
+abbrev pub deletes : Shape → List Cell → Bool
 deletes p cells = text_eq (text_of (cell_at cells p.command)) (codes "DELETE")
 
 -- the row of a key
-abbrev pub row_at : List ℕ → List Keyed → Option (List Value)
+abbrev pub row_at : List ℕ → List KeyedRow → Option (List Value)
 row_at key [] = None
 row_at key (k ∷ ks) = if text_eq k.key key then Some k.row else row_at key ks
 
 -- the keys in the order of their bytes, with this row at a key
-abbrev pub with_row : List ℕ → List Value → List Keyed → List Keyed
+abbrev pub with_row : List ℕ → List Value → List KeyedRow → List KeyedRow
 with_row key row [] = record { key = key; row = row } ∷ []
 with_row key row (k ∷ ks) =
     if text_eq k.key key then record { key = key; row = row } ∷ ks
@@ -49,26 +47,40 @@ with_row key row (k ∷ ks) =
     else k ∷ with_row key row ks
 
 -- the keys without this one
-abbrev pub without : List ℕ → List Keyed → List Keyed
+abbrev pub without : List ℕ → List KeyedRow → List KeyedRow
 without key [] = []
 without key (k ∷ ks) = if text_eq k.key key then ks else k ∷ without key ks
 
 -- the row that an update makes of a key's row, or of nulls where the key has none; its command is null
-abbrev pub row_with : Plan → Option (List Value) → List Cell → List Value
+abbrev pub row_with : Shape → Option (List Value) → List Cell → List Value
 row_with p row cells = set (applied (unwrap_or row (nulls p.fields)) cells) p.command value.Null
 
 -- the keys after an event
-abbrev pub keyed_after : Plan → List Keyed → Event → List Keyed
+abbrev pub keyed_after : Shape → List KeyedRow → Event → List KeyedRow
 keyed_after p ks (Update cells) =
     if deletes p cells then without (key_of p cells) ks
     else with_row (key_of p cells) (row_with p (row_at (key_of p cells) ks) cells) ks
 keyed_after p ks Clear = []
 
 -- the keys after these entries
-abbrev pub keyed_after_all : Plan → List Keyed → List Entry → List Keyed
+abbrev pub keyed_after_all : Shape → List KeyedRow → List Entry → List KeyedRow
 keyed_after_all p ks [] = ks
 keyed_after_all p ks (e ∷ es) = keyed_after_all p (keyed_after p ks e.event) es
 
 -- the keyed state after the first i entries
-abbrev pub keyed : Plan → List Entry → ℕ → List Keyed
+abbrev pub keyed : Shape → List Entry → ℕ → List KeyedRow
 keyed p h i = keyed_after_all p [] (take i h)
+
+-- the row that an event leaves its key, by the keys after it: none where the key is gone
+abbrev pub row_left : Shape → List KeyedRow → Event → Option (List Value)
+row_left p ks (Update cells) = row_at (key_of p cells) ks
+row_left p ks Clear = None
+
+-- the row that the event of number n leaves its key in an item of a kind; other kinds than COMMAND have no keys
+abbrev pub left_in : Kind → Shape → List Entry → ℕ → Event → Option (List Value)
+left_in kind.Merge p h n event = None
+left_in kind.Distinct p h n event = None
+left_in kind.Command p h n event = row_left p (keyed p h n) event
+
+abbrev pub left_after : Shape → List Entry → ℕ → Event → Option (List Value)
+left_after p h n event = left_in p.kind p h n event

@@ -5,13 +5,13 @@ use Rattle.ls_event.specs.declared.event.Stored.{Stored}
 use Rattle.ls_event.specs.declared.event.Mode.{Mode}
 use Rattle.ls_event.specs.declared.event.Taken.{Taken}
 use Rattle.ls_event.specs.declared.event.Taken.TheVariants as taken
+use Rattle.ls_event.specs.Shapes.{Shape}
+use Rattle.ls_event.specs.Keyed.{left_after}
 
--- what joining settles: the mode, the item's number of fields and the places of its key and command, the buffer's size, and the item's number
+-- what joining settles: the mode, what the item's definition says, the buffer's size, and the item's number
 pub record Plan : Type 0 where
   pub mode : Mode
-  pub fields : ℕ
-  pub key : ℕ
-  pub command : ℕ
+  pub shape : Shape
   pub size : ℕ
   pub base : ℕ
 
@@ -65,3 +65,4 @@ pub record IsNext (s : Slot) (h : List Entry) (x : Stored) : Type 0 where
   pub next : take (s.last + 1) h ≡ take s.last h ++ entry ∷ []
   pub no : x.no ≡ s.last + 1
   pub event : x.event ≡ entry.event
+  pub after : x.after ≡ left_after s.plan.shape h (s.last + 1) x.event

@@ -1,7 +1,7 @@
 //! What a slot still has to tell, in any mode.
 ghost use Rattle.std.specs.Prelude.{◌≡◌, ◌+◌, ◌<◌, ◌^◌, ℕ, List, ◌++◌, Bool, Option, Some, IfOk, OnOk, OnErr, IsSome};
 ghost use Rattle.ls_event.specs.Slots.{Slot, IsNext, enqueued, passed};
-ghost use Rattle.ls_event.specs.History.{HasFields};
+ghost use Rattle.ls_event.specs.History.{HasFields, RowFits};
 ghost use Rattle.ls_event.specs.Cuts.{cut, pending as is_pending, waiting as still_waiting, Fits};
 ghost use Rattle.ls_event.specs.declared.event.Entry.{Entry};
 ghost use Rattle.ls_event.specs.declared.event.Event.{Event as AnEvent};
@@ -40,7 +40,7 @@ pub trait Buffer {
         requires few { last self.old < 2 ^ 60 }
         requires event { admits self.old event.now.event }
         ensures last { OnOk result (last self.new ≡ last self.old + 1) }
-        ensures fields { OnOk result ((n : ℕ) → has_fields self.old n → HasFields n event.now.event → has_fields self.new n) }
+        ensures fields { OnOk result ((n : ℕ) → has_fields self.old n → HasFields n event.now.event → RowFits n event.now.after → has_fields self.new n) }
         ensures admits { OnOk result ((e : AnEvent) → admits self.old e → admits self.new e) }
         ensures stands { OnOk result ((s : Slot) (h : List Entry) → stands self.old s h → IsNext s h event.now → stands self.new (enqueued s) h) }
         ensures err { OnErr result (self.new ≡ self.old) };

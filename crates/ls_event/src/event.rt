@@ -81,13 +81,45 @@ pub enum Taken {
     EndOfSnapshot,
 }
 
+/// Why an event isn't added to an item's state, in the order in which the causes are looked at.
+#[derive(Clone, Copy, Debug, PartialEq, Eq)]
+pub enum PushRefused {
+    /// An update of a COMMAND item whose key's cell has no text.
+    NoKey,
+    /// An update of a COMMAND item whose command's cell has none of the texts `ADD`, `UPDATE` and `DELETE`.
+    BadCommand,
+    /// The event's texts or the row that it makes weigh more than 4,096 bytes; it carries the greater weight, or 2^64 - 1 where that is less.
+    TooLong { bytes: u64 },
+    /// A COMMAND item has 1,024 keys, and the event adds one.
+    TooManyKeys,
+    /// A growth was refused.
+    NoMemory,
+}
+
+impl From<NoMemory> for PushRefused {
+    ghost use Rattle.std.specs.Prelude.{◌≡◌};
+    ghost use Rattle.ls_event.specs.declared.event.PushRefused.TheVariants as refused;
+
+    ghost from_gives = { λ _ e. e ≡ refused.NoMemory };
+
+    fn from(_: NoMemory) -> PushRefused {
+        PushRefused::NoMemory
+    }
+}
+
 /// Why an event isn't published, in the order in which the causes are looked at.
 #[derive(Clone, Copy, Debug, PartialEq, Eq)]
 pub enum PublishRefused {
     /// The seq isn't above the adapter's last one, which it carries.
     Repeated { last: u64 },
+    /// An update of a COMMAND item whose key's cell has no text.
+    NoKey,
+    /// An update of a COMMAND item whose command's cell has none of the texts `ADD`, `UPDATE` and `DELETE`.
+    BadCommand,
     /// The event's texts or the row that it makes weigh more than 4,096 bytes; it carries the greater weight, or 2^64 - 1 where that is less.
     TooLong { bytes: u64 },
+    /// A COMMAND item has 1,024 keys, and the event adds one.
+    TooManyKeys,
     /// A slot lags by 64 events; it carries the least such.
     Backlog { slot: u32 },
     /// The history has 2^60 events.
@@ -104,6 +136,23 @@ impl From<NoMemory> for PublishRefused {
 
     fn from(_: NoMemory) -> PublishRefused {
         PublishRefused::NoMemory
+    }
+}
+
+impl From<PushRefused> for PublishRefused {
+    ghost use Rattle.std.specs.Prelude.{◌≡◌};
+    ghost use Rattle.ls_event.specs.Publishes.{publish_cause};
+
+    ghost from_gives = { λ cause e. e ≡ publish_cause cause };
+
+    fn from(cause: PushRefused) -> PublishRefused {
+        match cause {
+            PushRefused::NoKey => PublishRefused::NoKey,
+            PushRefused::BadCommand => PublishRefused::BadCommand,
+            PushRefused::TooLong { bytes } => PublishRefused::TooLong { bytes },
+            PushRefused::TooManyKeys => PublishRefused::TooManyKeys,
+            PushRefused::NoMemory => PublishRefused::NoMemory,
+        }
     }
 }
 

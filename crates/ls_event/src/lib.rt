@@ -10,7 +10,7 @@ pub mod snapshot;
 pub mod updates;
 
 pub use buffer::{Buffer, take_one};
-pub use event::{Entry, Event, Mode, PublishRefused, Snap, Stored, Taken};
+pub use event::{Entry, Event, Mode, PublishRefused, PushRefused, Snap, Stored, Taken};
 pub use event_text::{EventRefused, read_event};
 pub use item::{ItemDef, Kind};
 pub use orders::{CommandRefused, Order, command_of, own_row};

@@ -72,6 +72,13 @@ impl Model for Params {
 }
 
 impl Params {
+    /// These pairs, whose memory it keeps: a name may come twice. No memory is taken.
+    pub fn of(pairs: Vec<Pair>) -> Params
+        ensures { result ≡ pairs.items }
+    {
+        Params { pairs }
+    }
+
     /// The number of pairs.
     pub fn len(&self) -> usize
         ensures { result ≡ length self.now }
@@ -131,7 +138,7 @@ pub fn pairs(alloc: Global, bytes: &[u8]) -> Result<Params, FormRefused>
             return Err(refused);
         }
     }
-    Ok(Params { pairs })
+    Ok(Params::of(pairs))
 }
 
 /// Appends a pair, decoded, and its name to the set of the names that came.

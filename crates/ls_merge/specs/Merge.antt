@@ -39,9 +39,9 @@ row_owed s = nat_lt (max s.place (s.last - s.plan.size)) s.plan.base
 
 -- the state is that of a number
 pub record RowAt (b : Pending) (s : Slot) (h : List Entry) (at : ℕ) : Type 0 where
-  pub row : b.row ≡ merged s.plan.fields h at
+  pub row : b.row ≡ merged s.plan.shape.fields h at
   pub touched : b.touched ≡ flags_to h s at
-  pub later : b.later ≡ map (λ e. cells_of s.plan.fields e.event) (between h at s.last)
+  pub later : b.later ≡ map (λ e. cells_of s.plan.shape.fields e.event) (between h at s.last)
 
 -- a buffer stands for a slot on a history
 pub record StandsMerge (b : Pending) (s : Slot) (h : List Entry) : Type 0 where
@@ -62,11 +62,11 @@ pub record StandsMerge (b : Pending) (s : Slot) (h : List Entry) : Type 0 where
 -- what must be so of a slot that joins a history at a number, at which this is the merged state
 pub record IsJoining (n from : ℕ) (row : List Value) (p : Plan) (h : List Entry) : Type 0 where
   pub mode : p.mode ≡ mode.Merge
-  pub fields : p.fields ≡ length row
+  pub fields : p.shape.fields ≡ length row
   pub size : p.size ≡ n
   pub base : p.base ≡ from
   pub within : from ≤ length h
-  pub state : row ≡ merged p.fields h from
+  pub state : row ≡ merged p.shape.fields h from
 
 -- with the state and the flags after the first event behind it
 abbrev pub stepped : Pending → Option (List Cell) → Pending

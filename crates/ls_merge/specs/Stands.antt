@@ -46,26 +46,26 @@ said_flags ts Clear fields is = ap (λ n. touched_cells ts (replicate n cell.Nul
 
 -- what entries say
 abbrev said : Slot → List Entry → List (List Cell)
-said s es = map (λ e. cells_of s.plan.fields e.event) es
+said s es = map (λ e. cells_of s.plan.shape.fields e.event) es
 
-row_length : (b : Pending) (s : Slot) (h : List Entry) (q : ℕ) → RowAt b s h q → length b.row ≡ s.plan.fields
-row_length b s h q r = ap length r.row ∙ merged_length s.plan.fields h q
+row_length : (b : Pending) (s : Slot) (h : List Entry) (q : ℕ) → RowAt b s h q → length b.row ≡ s.plan.shape.fields
+row_length b s h q r = ap length r.row ∙ merged_length s.plan.shape.fields h q
 
 -- the buffer's row has the item's number of fields
-pub merge_fields : (b : Pending) (s : Slot) (h : List Entry) → StandsMerge b s h → length b.row ≡ s.plan.fields
+pub merge_fields : (b : Pending) (s : Slot) (h : List Entry) → StandsMerge b s h → length b.row ≡ s.plan.shape.fields
 merge_fields b s h st = row_length b s h (row_number s) st.row_at
 
-flags_length : (b : Pending) (s : Slot) (h : List Entry) (q : ℕ) → RowAt b s h q → length b.touched ≡ s.plan.fields
+flags_length : (b : Pending) (s : Slot) (h : List Entry) (q : ℕ) → RowAt b s h q → length b.touched ≡ s.plan.shape.fields
 flags_length b s h q r =
-    ap length r.touched ∙ touched_after_all_length (replicate s.plan.fields (not s.given)) (between h s.place q) ∙ length-replicate s.plan.fields (not s.given)
+    ap length r.touched ∙ touched_after_all_length (replicate s.plan.shape.fields (not s.given)) (between h s.place q) ∙ length-replicate s.plan.shape.fields (not s.given)
 
 later_length : (b : Pending) (s : Slot) (h : List Entry) (q : ℕ) → RowAt b s h q → s.last ≤ length h → length b.later ≡ s.last - q
-later_length b s h q r within = ap length r.later ∙ length-map (between h q s.last) (λ e. cells_of s.plan.fields e.event) ∙ between_length h q s.last within
+later_length b s h q r within = ap length r.later ∙ length-map (between h q s.last) (λ e. cells_of s.plan.shape.fields e.event) ∙ between_length h q s.last within
 
 -- the state behind the first of the entries that are left
 record NextAt (h : List Entry) (s : Slot) (q : ℕ) (e : Entry) (es : List Entry) : Type 0 where
   pub rest : es ≡ between h (q + 1) s.last
-  pub row : row_after (merged s.plan.fields h q) e.event ≡ merged s.plan.fields h (q + 1)
+  pub row : row_after (merged s.plan.shape.fields h q) e.event ≡ merged s.plan.shape.fields h (q + 1)
   pub flags : s.place ≤ q → touched_after (flags_to h s q) e.event ≡ flags_to h s (q + 1)
 
 next_at : (h : List Entry) (s : Slot) (q : ℕ) (e : Entry) (es : List Entry) → s.last ≤ length h → between h q s.last ≡ e ∷ es → NextAt h s q e es
@@ -79,19 +79,19 @@ next_at h s q e es within is =
     ∙ ap (λ z. z ++ e ∷ []) (take-take q s.last h (omega (arith, more))) in
     record {
       rest = ap (drop 1) (sym is) ∙ drop-drop 1 q (take s.last h);
-      row = sym (merged-next s.plan.fields h q e next);
-      flags = λ low. sym (touched-next (replicate s.plan.fields (not s.given)) h s.place q e low (omega (arith, more, within)) next);
+      row = sym (merged-next s.plan.shape.fields h q e next);
+      flags = λ low. sym (touched-next (replicate s.plan.shape.fields (not s.given)) h s.place q e low (omega (arith, more, within)) next);
     }
 
 stepped_at : (b : Pending) (s : Slot) (h : List Entry) (q : ℕ) (es : List Entry) → RowAt b s h q → s.place ≤ q → s.last ≤ length h → q < s.last → between h q s.last ≡ es → RowAt (stepped b (slice_get b.later 0)) s h (q + 1)
 stepped_at b s h q [] r low within more is = absurd (omega (arith, more, ap length is, between_length h q s.last within))
 stepped_at b s h q (e ∷ es) r low within more is =
     let n : NextAt h s q e es = next_at h s q e es within is in
-    let held : b.later ≡ cells_of s.plan.fields e.event ∷ said s es = r.later ∙ ap (said s) is in
-    let row : applied b.row (cells_of s.plan.fields e.event) ≡ merged s.plan.fields h (q + 1) =
-    said_row b.row e.event s.plan.fields (row_length b s h q r) ∙ ap (λ z. row_after z e.event) r.row ∙ n.row in
-    let flags : touched_cells b.touched (cells_of s.plan.fields e.event) ≡ flags_to h s (q + 1) =
-    said_flags b.touched e.event s.plan.fields (flags_length b s h q r) ∙ ap (λ z. touched_after z e.event) r.touched ∙ n.flags low in
+    let held : b.later ≡ cells_of s.plan.shape.fields e.event ∷ said s es = r.later ∙ ap (said s) is in
+    let row : applied b.row (cells_of s.plan.shape.fields e.event) ≡ merged s.plan.shape.fields h (q + 1) =
+    said_row b.row e.event s.plan.shape.fields (row_length b s h q r) ∙ ap (λ z. row_after z e.event) r.row ∙ n.row in
+    let flags : touched_cells b.touched (cells_of s.plan.shape.fields e.event) ≡ flags_to h s (q + 1) =
+    said_flags b.touched e.event s.plan.shape.fields (flags_length b s h q r) ∙ ap (λ z. touched_after z e.event) r.touched ∙ n.flags low in
     subst (λ (o : Option (List Cell)). RowAt (stepped b o) s h (q + 1)) (sym (ap (λ z. slice_get z 0) held))
     (record { row = row; touched = flags; later = ap (drop 1) held ∙ ap (said s) n.rest })
 
@@ -156,7 +156,7 @@ change_is b s h st more =
     let at : (due b).last - length (due b).later ≡ next_place s = omega (arith, (due_keeps b).last, st.last, later_length (due b) s h (next_place s) r st.within, low) in
     ap (λ t. taken.Change (told_cells t (due b).row) ((due b).last - length (due b).later)) r.touched
     ∙ ap (λ z. taken.Change (told_cells (flags_to h s (next_place s)) z) ((due b).last - length (due b).later)) r.row
-    ∙ ap (λ n. taken.Change (told_cells (flags_to h s (next_place s)) (merged s.plan.fields h (next_place s))) n) at
+    ∙ ap (λ n. taken.Change (told_cells (flags_to h s (next_place s)) (merged s.plan.shape.fields h (next_place s))) n) at
 
 -- what it tells next is the next cut
 pub merge_head_is_cut : (b : Pending) (s : Slot) (h : List Entry) → StandsMerge b s h → merge_head b ≡ cut h s
@@ -188,8 +188,8 @@ merge_longer b s h more st =
       within = omega (arith, st.within, length-append h more);
       owed = st.owed;
       row_at = record {
-        row = st.row_at.row ∙ sym (merged-append s.plan.fields h more (row_number s) high);
-        touched = st.row_at.touched ∙ ap (touched_after_all (replicate s.plan.fields (not s.given))) (sym (between-append h more s.place (row_number s) high));
+        row = st.row_at.row ∙ sym (merged-append s.plan.shape.fields h more (row_number s) high);
+        touched = st.row_at.touched ∙ ap (touched_after_all (replicate s.plan.shape.fields (not s.given))) (sym (between-append h more s.place (row_number s) high));
         later = st.row_at.later ∙ ap (said s) (sym (between-append h more (row_number s) s.last st.within));
       };
     }
@@ -200,7 +200,7 @@ passed_more b s h st more =
     let r : RowAt (due b) s h to = due_is b s h st more in
     let high : to ≤ s.last = omega (arith, more, st.some) in
     let at : max (max to s.plan.base) (s.last - s.plan.size) ≡ to = omega (arith, st.near, st.behind) in
-    let flags : replicate (length (due b).touched) false ≡ replicate s.plan.fields false = ap (λ n. replicate n false) (flags_length (due b) s h to r) in
+    let flags : replicate (length (due b).touched) false ≡ replicate s.plan.shape.fields false = ap (λ n. replicate n false) (flags_length (due b) s h to r) in
     record {
       mode = st.mode;
       owes = st.owes;
@@ -214,8 +214,8 @@ passed_more b s h st more =
       within = st.within;
       owed = (due_keeps b).owed ∙ sym (not_below (max to (s.last - s.plan.size)) s.plan.base (omega (arith, st.near)));
       row_at = record {
-        row = r.row ∙ ap (merged s.plan.fields h) (sym at);
-        touched = flags ∙ ap (touched_after_all (replicate s.plan.fields false)) (sym (ap (between h to) at ∙ between_none h to to (omega arith) (omega (arith, high, st.within))));
+        row = r.row ∙ ap (merged s.plan.shape.fields h) (sym at);
+        touched = flags ∙ ap (touched_after_all (replicate s.plan.shape.fields false)) (sym (ap (between h to) at ∙ between_none h to to (omega arith) (omega (arith, high, st.within))));
         later = r.later ∙ ap (λ n. said s (between h n s.last)) (sym at);
       };
     }
@@ -233,10 +233,10 @@ merge_stands_passed b s h t st tells =
 with_event_at : (b : Pending) (s : Slot) (h : List Entry) (q : ℕ) (x : Stored) → RowAt b s h q → q ≤ s.last → IsNext s h x → RowAt (with_event b x.event) (enqueued s) h q
 with_event_at b s h q x r low next =
     let within : s.last ≤ length h = omega (arith, next.more) in
-    let grown : said s (between h q (s.last + 1)) ≡ said s (between h q s.last) ++ cells_of s.plan.fields next.entry.event ∷ [] =
-    ap (said s) (between-next h q s.last next.entry low within next.next) ∙ map-append (λ e. cells_of s.plan.fields e.event) (between h q s.last) (next.entry ∷ []) in
-    let one : cells_of (length b.row) x.event ≡ cells_of s.plan.fields next.entry.event =
-    ap (λ n. cells_of n x.event) (row_length b s h q r) ∙ ap (cells_of s.plan.fields) next.event in
+    let grown : said s (between h q (s.last + 1)) ≡ said s (between h q s.last) ++ cells_of s.plan.shape.fields next.entry.event ∷ [] =
+    ap (said s) (between-next h q s.last next.entry low within next.next) ∙ map-append (λ e. cells_of s.plan.shape.fields e.event) (between h q s.last) (next.entry ∷ []) in
+    let one : cells_of (length b.row) x.event ≡ cells_of s.plan.shape.fields next.entry.event =
+    ap (λ n. cells_of n x.event) (row_length b s h q r) ∙ ap (cells_of s.plan.shape.fields) next.event in
     record {
       row = r.row;
       touched = r.touched;
@@ -362,9 +362,9 @@ merge_fresh size base state owed p h some j =
       within = omega (arith, j.within, last);
       owed = is_owed owed ∙ ap (λ n. nat_lt (max place (n - p.size)) n) last;
       row_at = record {
-        row = j.state ∙ ap (merged p.fields h) (sym at);
-        touched = ap (λ n. replicate n true) (sym j.fields) ∙ sym (all_touched p.fields (between h place (max (max place p.base) (p.base - p.size))));
-        later = ap (map (λ e. cells_of p.fields e.event)) (sym (between_none h p.base (max (max place p.base) (p.base - p.size)) (omega (arith, at, last)) (omega (arith, j.within, last))));
+        row = j.state ∙ ap (merged p.shape.fields h) (sym at);
+        touched = ap (λ n. replicate n true) (sym j.fields) ∙ sym (all_touched p.shape.fields (between h place (max (max place p.base) (p.base - p.size))));
+        later = ap (map (λ e. cells_of p.shape.fields e.event)) (sym (between_none h p.base (max (max place p.base) (p.base - p.size)) (omega (arith, at, last)) (omega (arith, j.within, last))));
       };
     }
   where

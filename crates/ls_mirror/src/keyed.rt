@@ -58,8 +58,8 @@ impl Keyed {
         self.len() == 0
     }
 
-    /// Sets the row of a key. On `NoMemory` nothing has changed.
-    pub(crate) fn set(&mut self, key: String, row: Row) -> Result<(), NoMemory>
+    /// Sets the row of a key. After `NoMemory` nothing has changed.
+    pub fn set(&mut self, key: String, row: Row) -> Result<(), NoMemory>
         ensures ok { OnOk result (self.new ≡ finite.insert self.old (string_bytes key) row) }
         ensures err { OnErr result (self.new ≡ self.old) }
     {
@@ -67,15 +67,15 @@ impl Keyed {
         Ok(())
     }
 
-    /// Removes a key. Without that key nothing changes.
-    pub(crate) fn remove(&mut self, key: &str)
+    /// Removes a key. Without that key nothing changes. No memory is taken.
+    pub fn remove(&mut self, key: &str)
         ensures { self.new ≡ finite.remove self.old key.now }
     {
         self.rows.remove(key);
     }
 
-    /// Removes all keys.
-    pub(crate) fn clear(&mut self)
+    /// Removes all keys. No memory is taken.
+    pub fn clear(&mut self)
         ensures { self.new ≡ finite.empty }
     {
         self.rows.clear();

@@ -180,3 +180,19 @@ fn keys_follow_their_commands(rt: HostRuntime) -> Result<(), Fail> {
     }
     Ok(())
 }
+
+#[test]
+fn a_key_has_its_last_row(rt: HostRuntime) -> Result<(), Fail> {
+    let alloc = rt.alloc();
+    let mut keyed = Keyed::new(alloc);
+    for (key, fields) in [("a", 1), ("b", 2), ("a", 3)] {
+        let row = Row::nulls(alloc, fields)?;
+        keyed.set(String::from_str(alloc, key)?, row)?;
+    }
+    assert_eq!(rt; some_row(alloc, keyed.get("a"))?.as_str(), "#|#|#");
+    keyed.remove("a");
+    assert_eq!(rt; keyed.len(), 1);
+    keyed.clear();
+    assert!(rt; keyed.is_empty());
+    Ok(())
+}

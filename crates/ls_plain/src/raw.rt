@@ -1,10 +1,10 @@
 //! The next cut of mode RAW from the whole history.
-ghost use Rattle.std.specs.Prelude.{◌≡◌, ◌≤◌, ◌++◌, ℕ, IfOk, OnOk, OnErr, length};
-ghost use Rattle.ls_event.specs.Updates.{own_of, updates_between};
+ghost use Rattle.std.specs.Prelude.{◌≡◌, ◌≤◌, IfOk, length};
 ghost use Rattle.ls_event.specs.OwnCuts.{raw_cut, raw_taken};
 ghost use Rattle.ls_plain.specs.Plain.{raw_slot};
 
-use ls_event::{Entry, Event, OwnRow, Taken, own_row};
+use crate::updates::own_rows;
+use ls_event::{Entry, OwnRow, Taken};
 use ls_value::NoMemory;
 use std::alloc::Global;
 
@@ -29,35 +29,6 @@ pub fn plain_raw_cut(
             Ok(Some(taken))
         }
     }
-}
-
-/// The own rows of the updates numbered `from` + 1 to `to`.
-fn own_rows(
-    alloc: Global,
-    history: &[Entry],
-    from: usize,
-    to: usize,
-) -> Result<Vec<OwnRow>, NoMemory>
-    requires order { from ≤ to }
-    requires within { to ≤ length history.now }
-    ensures { IfOk result (λ rows. rows.items ≡ updates_between history.now from to) }
-{
-    let mut rows = Vec::new(alloc);
-    for i in from..to {
-        add(alloc, &mut rows, &history[i].event, i as u64 + 1)?;
-    }
-    Ok(rows)
-}
-
-/// Adds the own row of the event of a number, where it is an update.
-fn add(alloc: Global, rows: &mut Vec<OwnRow>, event: &Event, no: u64) -> Result<(), NoMemory>
-    ensures { OnOk result (rows.new.items ≡ rows.old.items ++ own_of no event.now) }
-{
-    if let Event::Update(cells) = event {
-        let row = own_row(alloc, cells)?;
-        rows.push(OwnRow { row, no })?;
-    }
-    Ok(())
 }
 
 /// What is told of an update, where so many before it were lost.

@@ -11,7 +11,7 @@ use crate::request::Add;
 use crate::values;
 use ls_event::{Mode, Snap};
 use ls_form::Params;
-use ls_value::{Names, NoMemory, Text, TextRefused};
+use ls_value::{Names, NoMemory, Text};
 use std::alloc::{AllocError, Global};
 
 /// The subscription's number.
@@ -30,7 +30,7 @@ fn mode(params: &Params) -> Option<Mode>
     ensures { result ≡ needed mode_of (text_under params.now (codes "LS_mode")) }
 {
     match params.find(b"LS_mode") {
-        Some(text) => values::mode(text.as_bytes()),
+        Some(text) => values::mode_of(text.as_bytes()),
         None => None,
     }
 }
@@ -89,12 +89,8 @@ fn words<'a>(alloc: Global, text: &'a str) -> Result<Vec<&'a str>, AllocError>
 fn text_of(alloc: Global, word: &str) -> Result<Text, NoMemory>
     ensures { IfOk result (λ text. text ≡ word.now) }
 {
-    match Text::of(alloc, word.as_bytes()) {
-        Ok(text) => Ok(text),
-        // A `str` is UTF-8.
-        Err(TextRefused::NotUtf8) => unreachable!(),
-        Err(TextRefused::NoMemory) => Err(NoMemory),
-    }
+    let string = String::from_str(alloc, word)?;
+    Ok(Text::from_string(string))
 }
 
 /// The names that words say: `None` exactly where one of them is empty.

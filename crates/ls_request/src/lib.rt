@@ -8,8 +8,9 @@ pub mod reading;
 pub mod request;
 mod values;
 
-pub use reading::read;
+pub use reading::{read, read_pairs};
 pub use request::{Add, Bind, Control, Create, LinkKind, Op, Request, RequestRefused};
+pub use values::mode_of;
 
 #[cfg(test)]
 mod tests;

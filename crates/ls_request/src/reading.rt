@@ -27,10 +27,27 @@ pub fn read(
     let Some(params) = form(alloc, params)? else {
         return Err(RequestRefused::Malformed { req: None });
     };
-    match request(alloc, link, name, &params)? {
+    read_pairs(alloc, link, name, &params)
+}
+
+/// A request, by its name and the pairs of its parameters, of which the first with a name counts (TLCP 2.1, requests; forms and
+/// limits are this project's profile).
+///
+/// `Malformed` exactly where they say no request.
+pub fn read_pairs(
+    alloc: Global,
+    link: LinkKind,
+    name: &[u8],
+    params: &Params,
+) -> Result<Request, RequestRefused>
+    ensures read { IfOk result (λ request. request_of link name.now params.now ≡ Some request) }
+    ensures fits { IfOk result RequestFits }
+    ensures refused { IfErr result (λ e. (e ≡ RequestRefused.NoMemory) ⊎ ((request_of link name.now params.now ≡ None) × (e ≡ RequestRefused.Malformed (req_behind name.now params.now)))) }
+{
+    match request(alloc, link, name, params)? {
         Some(request) => Ok(request),
         None => {
-            let req = own_name(alloc, name, &params)?;
+            let req = own_name(alloc, name, params)?;
             Err(RequestRefused::Malformed { req })
         }
     }

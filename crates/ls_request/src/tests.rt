@@ -1,6 +1,7 @@
 //! Requests of TLCP 2.1 in the form of its examples, and each parameter at its edges.
 use super::*;
 use ls_event::{Mode, Snap};
+use ls_form::{Pair, Params};
 use ls_value::{Names, Text};
 use std::alloc::Global;
 use std::test::Fail;
@@ -162,6 +163,11 @@ fn sessions_are_created(rt: HostRuntime) -> Result<(), Fail> {
             "create - 5000 1 50000000",
         ),
         ("LS_requested_max_bandwidth=0.0009", "malformed -"),
+        (
+            "LS_requested_max_bandwidth=999999999.999",
+            "create - 5000 999999999999 50000000",
+        ),
+        ("LS_requested_max_bandwidth=1000000000", "malformed -"),
         ("LS_requested_max_bandwidth=0", "malformed -"),
         ("LS_requested_max_bandwidth=", "malformed -"),
         ("LS_requested_max_bandwidth=Unlimited", "malformed -"),
@@ -186,6 +192,7 @@ fn sessions_are_created(rt: HostRuntime) -> Result<(), Fail> {
         ("LS_keepalive_millis=-1", "malformed -"),
         ("LS_content_length=0", "create - 5000 - 1000"),
         ("LS_content_length=999", "create - 5000 - 1000"),
+        ("LS_content_length=1000", "create - 5000 - 1000"),
         ("LS_content_length=1001", "create - 5000 - 1001"),
         (
             "LS_content_length=1152921504606846976",
@@ -229,6 +236,10 @@ fn sessions_are_bound(rt: HostRuntime) -> Result<(), Fail> {
         ),
         ("LS_session=S7&LS_recovery_from=", "malformed -"),
         ("LS_session=S7&LS_recovery_from=00", "malformed -"),
+        (
+            "LS_session=S7&LS_recovery_from=1152921504606846976",
+            "bind 7 1152921504606846976 5000 50000000",
+        ),
         (
             "LS_session=S7&LS_recovery_from=1152921504606846977",
             "malformed -",
@@ -319,6 +330,7 @@ fn sessions_are_changed(rt: HostRuntime) -> Result<(), Fail> {
             "LS_reqId=1&LS_op=force_rebind&LS_session=S3",
             "1 3 force_rebind",
         ),
+        ("LS_reqId=1&LS_op=destroy&LS_session=S03&a=b", "1 0 destroy"),
         ("LS_reqId=aZ09&LS_op=destroy", "aZ09 - destroy"),
         (
             "LS_reqId=abcdefghijklmnopqrstuvwxyz012345&LS_op=destroy",
@@ -504,6 +516,18 @@ fn subscriptions_are_added(rt: HostRuntime) -> Result<(), Fail> {
             "2 - add 1 raw [a,] [x,] no 1 -",
         ),
         (
+            "LS_mode=RAW&LS_group=a&LS_schema=x&LS_requested_buffer_size=999999998",
+            "2 - add 1 raw [a,] [x,] no 999999998 -",
+        ),
+        (
+            "LS_mode=RAW&LS_group=a&LS_schema=x&LS_requested_buffer_size=999999999",
+            "2 - add 1 raw [a,] [x,] no 999999999 -",
+        ),
+        (
+            "LS_mode=RAW&LS_group=a&LS_schema=x&LS_requested_buffer_size=1152921504606846976",
+            "2 - add 1 raw [a,] [x,] no 999999999 -",
+        ),
+        (
             "LS_mode=RAW&LS_group=a&LS_schema=x&LS_requested_buffer_size=0",
             "malformed '2'",
         ),
@@ -535,6 +559,18 @@ fn subscriptions_are_added(rt: HostRuntime) -> Result<(), Fail> {
             "LS_mode=RAW&LS_group=a&LS_schema=x&LS_requested_max_frequency=0.5",
             "2 - add 1 raw [a,] [x,] no - 500",
         ),
+        (
+            "LS_mode=RAW&LS_group=a&LS_schema=x&LS_requested_max_frequency=0.001",
+            "2 - add 1 raw [a,] [x,] no - 1",
+        ),
+        (
+            "LS_mode=RAW&LS_group=a&LS_schema=x&LS_requested_max_frequency=0.0009",
+            "malformed '2'",
+        ),
+        (
+            "LS_mode=RAW&LS_group=a&LS_schema=x&LS_Snapshot=x&ls_selector=s",
+            "2 - add 1 raw [a,] [x,] no - -",
+        ),
     ];
     for (params, want) in cases {
         let text = added(alloc, params)?;
@@ -547,5 +583,88 @@ fn subscriptions_are_added(rt: HostRuntime) -> Result<(), Fail> {
         "LS_reqId=3&LS_op=add&LS_mode=RAW&LS_group=a&LS_schema=x&LS_subId=0",
     )?;
     assert_eq!(rt; sub.as_str(), "malformed '3'");
+    Ok(())
+}
+
+/// A destroy with a further parameter that makes its form text of so many bytes.
+fn destroy_of(alloc: Global, bytes: usize) -> Result<String, Fail> {
+    let mut text = String::from_str(alloc, "LS_reqId=1&LS_op=destroy&LS_cause_message=")?;
+    for _ in text.len()..bytes {
+        text.push('b')?;
+    }
+    Ok(text)
+}
+
+#[test]
+fn parameters_have_at_most_50000_bytes(rt: HostRuntime) -> Result<(), Fail> {
+    let alloc = rt.alloc();
+    for (bytes, want) in [
+        (49_999, "1 - destroy"),
+        (50_000, "1 - destroy"),
+        (50_001, "malformed -"),
+    ] {
+        let params = destroy_of(alloc, bytes)?;
+        let text = over(alloc, LinkKind::Ws, "control", &params)?;
+        assert_eq!(rt; text.as_str(), want, "{bytes}");
+    }
+    Ok(())
+}
+
+/// What a control request of these pairs answers on a WebSocket, in words.
+fn paired(alloc: Global, texts: &[(&str, &str)]) -> Result<String, Fail> {
+    let mut pairs = Vec::new(alloc);
+    for (name, text) in texts {
+        let name = Text::from_string(String::from_str(alloc, name)?);
+        let text = Text::from_string(String::from_str(alloc, text)?);
+        pairs.push(Pair { name, text })?;
+    }
+    let answer = read_pairs(alloc, LinkKind::Ws, b"control", &Params::of(pairs));
+    told(alloc, &answer)
+}
+
+#[test]
+fn pairs_are_read_as_they_stand(rt: HostRuntime) -> Result<(), Fail> {
+    let alloc = rt.alloc();
+    let cases: [(&[(&str, &str)], &str); 9] = [
+        (&[], "malformed -"),
+        (&[("LS_reqId", "1")], "malformed '1'"),
+        (&[("LS_reqId", "a+1"), ("LS_op", "destroy")], "malformed -"),
+        (&[("LS_reqId", "1"), ("LS_op", "destroy")], "1 - destroy"),
+        (&[("LS_op", "destroy"), ("LS_reqId", "1")], "1 - destroy"),
+        (
+            &[("LS_reqId", "1"), ("LS_op", "%64estroy")],
+            "malformed '1'",
+        ),
+        (
+            &[("LS_reqId", "1"), ("LS_reqId", "2"), ("LS_op", "destroy")],
+            "1 - destroy",
+        ),
+        (
+            &[
+                ("LS_reqId", "9"),
+                ("LS_op", "add"),
+                ("LS_subId", "3"),
+                ("LS_mode", "RAW"),
+                ("LS_group", "a+b c%20d"),
+                ("LS_schema", "x&y"),
+            ],
+            "9 - add 3 raw [a+b,c%20d,] [x&y,] no - -",
+        ),
+        (
+            &[
+                ("LS_reqId", "9"),
+                ("LS_op", "add"),
+                ("LS_subId", "+3"),
+                ("LS_mode", "RAW"),
+                ("LS_group", "a"),
+                ("LS_schema", "x"),
+            ],
+            "malformed '9'",
+        ),
+    ];
+    for (texts, want) in cases {
+        let text = paired(alloc, texts)?;
+        assert_eq!(rt; text.as_str(), want, "{texts:?}");
+    }
     Ok(())
 }

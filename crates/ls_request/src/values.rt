@@ -127,8 +127,8 @@ pub(crate) fn sub(text: &[u8]) -> Option<u32>
     Some(n as u32)
 }
 
-/// LS_mode.
-pub(crate) fn mode(text: &[u8]) -> Option<Mode>
+/// The mode that a word says: `RAW`, `MERGE`, `DISTINCT` or `COMMAND`, and `None` exactly for other words (TLCP 2.1, LS_mode).
+pub fn mode_of(text: &[u8]) -> Option<Mode>
     ensures { result ≡ mode_of text.now }
 {
     if same_bytes(text, b"RAW") {

@@ -1,10 +1,9 @@
 -- What a line asks for fits what was known before it: proved on the definitions alone.
-use Rattle.std.proofs.Common.{◌≡◌, ◌==◌, ℕ, zero, suc, ◌+◌, ◌<◌, ◌≤◌, List, [], ◌∷◌, ◌++◌, length, refl, ap, arith, Bool, true, false, ◌&&◌, subst, map, cond, Option, Some, None, IfSome, option_map, codes, Ok}
+use Rattle.std.proofs.Common.{◌≡◌, ℕ, zero, suc, ◌+◌, ◌<◌, ◌≤◌, List, [], ◌∷◌, ◌++◌, length, refl, ap, arith, Bool, true, false, ◌&&◌, subst, map, cond, Option, Some, None, IfSome, option_map, codes, Ok}
 use Rattle.std.specs.Prelude.{nat_le, nat_lt, is_none, option_and_then}
 use Rattle.std.specs.Option.{option_or}
 use Rattle.std.specs.List.{list_all}
 use Rattle.std.proofs.lemmas.List.{length-map}
-use Rattle.std.proofs.lemmas.List.Splits.{length-slice_split}
 use Rattle.std.proofs.lemmas.Bool.Decides.{nat_tests}
 use Rattle.ls_value.specs.Values.{text_eq, place_of}
 use Rattle.ls_value.specs.declared.row.Cell.{Cell}
@@ -14,9 +13,11 @@ use Rattle.ls_words.specs.Words.{Halves, divided, split_once, is_name}
 use Rattle.ls_event.specs.declared.event.Event.TheVariants.{Clear as Cleared}
 use Rattle.ls_event.specs.declared.event_text.EventRefused.{EventRefused}
 use Rattle.ls_event.specs.declared.event_text.EventRefused.TheVariants as refused
-use Rattle.ls_event.specs.declared.item.Kind.{Kind}
 use Rattle.ls_event.specs.EventText.{event_of, update_of, first_cause, cause_in, cause_at, cells_of, cell_named, cell_said, value_said, halves_of, field_of, is_at, is_named, is_textual, pairs_of, table}
-use Rattle.ls_script.specs.Grammar.{Known, number_from, times_of, kind_of, link_of, are_fields, fields_said, is_new, item_names, item_of, connection_of, fields_of, once, so_often, set_line, item_line, tick_line, conn_line, open_line, behind, add_said, add_line, request_line, update_in, publish_line, clear_line, enqueue_line, take_line, lose_line, is, two_words, three_words, four_words, five_words, more_words, words_of, request_named, request_on, asked, line_of}
+use Rattle.ls_event.specs.declared.item.ItemDef.{ItemDef}
+use Rattle.ls_config.specs.Items.{kind_said, are_fields, is_item, item_said, may_follow}
+use Rattle.ls_config.proofs.Sound.{said_item}
+use Rattle.ls_script.specs.Grammar.{Known, number_from, times_of, link_of, is_new, item_names, item_of, connection_of, fields_of, once, so_often, set_line, new_item, item_line, tick_line, conn_line, open_line, behind, add_said, add_line, request_line, update_in, publish_line, clear_line, enqueue_line, take_line, lose_line, is, two_words, three_words, four_words, five_words, more_words, words_of, request_named, request_on, asked, line_of}
 use Rattle.ls_script.specs.Ranges.{Fits, RepeatFits, NewItem, NewConnection}
 use Rattle.ls_script.specs.declared.step.Step.{Step}
 use Rattle.ls_script.specs.declared.step.Step.TheVariants as step
@@ -74,28 +75,24 @@ below n m h = grind (arith, nat_tests)
 at_most : (n m : ℕ) → nat_le n m ≡ true → n ≤ m
 at_most n m h = grind (arith, nat_tests)
 
-new_connection : (k : Known) (name : List ℕ) → is_new 65536 k.connections name ≡ true → NewConnection k name
+new_connection : (k : Known) (name : List ℕ) → is_new k.connections name ≡ true → NewConnection k name
 new_connection k name h = record {
   few = below _ _ (and_left _ _ (and_left _ _ h));
   named = and_right _ _ (and_left _ _ h);
   new = none_of _ (and_right _ _ h);
 }
 
-some_piece : (divider : ℕ) (text : List ℕ) → 1 ≤ length (divided divider text)
-some_piece divider text = let e = length-slice_split (λ b. b == divider) text in omega (arith, e)
-
-new_item : (k : Known) (name : List ℕ) (kd : Kind) (fields : List (List ℕ)) → is_new 4096 (item_names k) name ≡ true → are_fields kd fields ≡ true → 1 ≤ length fields → NewItem k name kd fields
-new_item k name kd fields h f some =
-    let few : length (item_names k) < 4096 = below _ _ (and_left _ _ (and_left _ _ h)) in
-    let count : length (item_names k) ≡ length k.items = length-map k.items (λ i. i.name) in
+new_item_fits : (k : Known) (i : ItemDef) → is_item i ≡ true → may_follow k.items i.name ≡ true → NewItem k i.name i.kind i.fields
+new_item_fits k i f h =
+    let fields : are_fields i.fields ≡ true = and_right _ _ (and_left _ _ f) in
     record {
-      few = omega (arith, few, count);
-      named = and_right _ _ (and_left _ _ h);
+      few = below _ _ (and_left _ _ h);
+      named = and_left _ _ (and_left _ _ f);
       new = none_of _ (and_right _ _ h);
-      some = some;
-      most = at_most _ _ (and_left _ _ (and_left _ _ (and_left _ _ f)));
-      field_names = and_right _ _ (and_left _ _ (and_left _ _ f));
-      distinct = and_right _ _ (and_left _ _ f);
+      some = at_most 1 (length i.fields) (and_left _ _ (and_left _ _ (and_left _ _ fields)));
+      most = at_most (length i.fields) 64 (and_right _ _ (and_left _ _ (and_left _ _ fields)));
+      field_names = and_right _ _ fields;
+      distinct = and_right _ _ (and_left _ _ fields);
       keys = and_right _ _ f;
     }
 
@@ -158,20 +155,18 @@ set_fits k name = kept (Fits k) (is_name name) (step.Set name) (λ h. h)
 
 item_fits : (k : Known) (name word fields : List ℕ) → IfSome (item_line k name word fields) (Fits k)
 item_fits k name word fields =
-    chained (λ kd. Unit {0}) (Fits k) _ (kind_of word) (anything (kind_of word))
-    (λ kd u. chained (λ fs. (are_fields kd fs ≡ true) × (1 ≤ length fs)) (Fits k) _ (fields_said kd fields)
-    (kept (λ fs. (are_fields kd fs ≡ true) × (1 ≤ length fs)) (are_fields kd (divided 44 fields)) (divided 44 fields) (λ h. (h, some_piece 44 fields)))
-    (λ fs f. kept (Fits k) (is_new 4096 (item_names k) name) (step.Item name kd fs) (λ h. new_item k name kd fs h f.0 f.1)))
+    chained (λ i. is_item i ≡ true) (Fits k) (new_item k) (item_said name word fields) (said_item name (divided 44 fields) (kind_said word))
+    (λ i f. kept (Fits k) (may_follow k.items i.name) (step.Item i.name i.kind i.fields) (λ h. new_item_fits k i f h))
 
 tick_fits : (k : Known) (text : List ℕ) → IfSome (tick_line k text) (Fits k)
 tick_fits k text = made (Within k.tick 999999999999999999) (Fits k) (λ n. step.Tick n) (number_from k.tick text) (number_within k.tick 999999999999999999 text) (λ n w. record { later = w.0; most = w.1 })
 
 conn_fits : (k : Known) (name word : List ℕ) → IfSome (conn_line k name word) (Fits k)
 conn_fits k name word =
-    chained (λ l. Unit {0}) (Fits k) _ (link_of word) (anything (link_of word)) (λ l u. kept (Fits k) (is_new 65536 k.connections name) (step.Conn name l) (λ h. new_connection k name h))
+    chained (λ l. Unit {0}) (Fits k) _ (link_of word) (anything (link_of word)) (λ l u. kept (Fits k) (is_new k.connections name) (step.Conn name l) (λ h. new_connection k name h))
 
 open_fits : (k : Known) (name : List ℕ) → IfSome (open_line k name) (Fits k)
-open_fits k name = kept (Fits k) (is_new 65536 k.connections name) (step.Open name) (λ h. new_connection k name h)
+open_fits k name = kept (Fits k) (is_new k.connections name) (step.Open name) (λ h. new_connection k name h)
 
 add_fits : (k : Known) (c sub items fields word : List ℕ) (words : List (List ℕ)) → IfSome (add_line k c sub items fields word words) (Fits k)
 add_fits k c sub items fields word words =

@@ -1,2 +1,3 @@
-pub mod Among
+pub mod Beginnings
 pub mod Fitting
+pub mod Utf8

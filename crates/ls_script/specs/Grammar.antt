@@ -1,20 +1,20 @@
 -- The lines of a script: what each asks for, by the names that the lines before it declared (this project's profile).
-use Rattle.std.specs.Prelude.{◌==◌, ℕ, List, [], ◌∷◌, ◌++◌, length, map, Bool, true, false, ◌&&◌, Option, None, Some, is_some, is_none, Result, Ok, Err, nat_le, nat_lt, codes, if◌then◌else◌, take, drop, slice_get, option_map, option_and_then}
+use Rattle.std.specs.Prelude.{ℕ, List, [], ◌∷◌, ◌++◌, length, Bool, true, false, ◌&&◌, Option, None, Some, is_none, Result, Ok, Err, nat_le, nat_lt, codes, if◌then◌else◌, take, drop, slice_get, option_map, option_and_then}
 use Rattle.std.specs.Option.{option_map_or}
-use Rattle.std.specs.List.{list_all}
 use Rattle.ls_value.specs.Values.{text_eq, place_of}
 use Rattle.ls_value.specs.declared.row.Cell.{Cell}
 use Rattle.ls_words.specs.Numbers.{number_in}
 use Rattle.ls_words.specs.Words.{Halves, divided, split_once, is_name}
 use Rattle.ls_event.specs.declared.item.ItemDef.{ItemDef}
-use Rattle.ls_event.specs.declared.item.Kind.{Kind}
-use Rattle.ls_event.specs.declared.item.Kind.TheVariants as kind
 use Rattle.ls_event.specs.declared.event.Mode.{Mode}
-use Rattle.ls_event.specs.declared.event.Mode.TheVariants as mode
 use Rattle.ls_event.specs.declared.event.Event.{Event}
 use Rattle.ls_event.specs.declared.event.Event.TheVariants.{Update, Clear as Cleared}
 use Rattle.ls_event.specs.declared.event_text.EventRefused.{EventRefused}
 use Rattle.ls_event.specs.EventText.{event_of}
+use Rattle.ls_config.specs.Items.{item_said, may_follow, names_of}
+-- an empty line and a comment, which begins with `#`, ask for nothing
+pub use Rattle.ls_config.specs.Configs.{is_skipped}
+use Rattle.ls_request.specs.Values.{mode_of}
 use Rattle.ls_request.specs.declared.request.LinkKind.{LinkKind}
 use Rattle.ls_request.specs.declared.request.LinkKind.TheVariants as link
 use Rattle.ls_script.specs.declared.extras.Extras.{Extras}
@@ -41,49 +41,15 @@ number_from low text = number_in low 999999999999999999 text
 abbrev pub times_of : List ℕ → Option ℕ
 times_of text = number_in 1 1000 text
 
-abbrev pub kind_of : List ℕ → Option Kind
-kind_of word =
-    if text_eq word (codes "MERGE") then Some kind.Merge
-    else if text_eq word (codes "DISTINCT") then Some kind.Distinct
-    else if text_eq word (codes "COMMAND") then Some kind.Command
-    else None
-
-abbrev pub mode_of : List ℕ → Option Mode
-mode_of word =
-    if text_eq word (codes "RAW") then Some mode.Raw
-    else if text_eq word (codes "MERGE") then Some mode.Merge
-    else if text_eq word (codes "DISTINCT") then Some mode.Distinct
-    else if text_eq word (codes "COMMAND") then Some mode.Command
-    else None
-
 abbrev pub link_of : List ℕ → Option LinkKind
 link_of word = if text_eq word (codes "ws") then Some link.Ws else if text_eq word (codes "http") then Some link.Http else None
 
--- no text stands twice
-abbrev pub are_distinct : List (List ℕ) → Bool
-are_distinct [] = true
-are_distinct (t ∷ ts) = is_none (place_of ts t) && are_distinct ts
-
--- a COMMAND item has the fields `key` and `command`
-abbrev pub has_keys : Kind → List (List ℕ) → Bool
-has_keys kind.Merge fields = true
-has_keys kind.Distinct fields = true
-has_keys kind.Command fields = is_some (place_of fields (codes "key")) && is_some (place_of fields (codes "command"))
-
--- 1 to 64 distinct names, divided by commas
-abbrev pub are_fields : Kind → List (List ℕ) → Bool
-are_fields k fields = nat_le (length fields) 64 && list_all is_name fields && are_distinct fields && has_keys k fields
-
--- the fields that a text names, divided by commas
-abbrev pub fields_said : Kind → List ℕ → Option (List (List ℕ))
-fields_said k text = if are_fields k (divided 44 text) then Some (divided 44 text) else None
-
--- a new name, where fewer than so many are declared
-abbrev pub is_new : ℕ → List (List ℕ) → List ℕ → Bool
-is_new most names name = nat_lt (length names) most && is_name name && is_none (place_of names name)
+-- a new connection's name: fewer than 65,536 are declared, and none has it
+abbrev pub is_new : List (List ℕ) → List ℕ → Bool
+is_new names name = nat_lt (length names) 65536 && is_name name && is_none (place_of names name)
 
 abbrev pub item_names : Known → List (List ℕ)
-item_names k = map (λ i. i.name) k.items
+item_names k = names_of k.items
 
 -- a declared item's number, and a declared connection's
 abbrev pub item_of : Known → List ℕ → Option ℕ
@@ -110,18 +76,20 @@ where_holds test s = if test then Some s else None
 abbrev pub set_line : List ℕ → Option Step
 set_line name = where_holds (is_name name) (step.Set name)
 
+abbrev pub new_item : Known → ItemDef → Option Step
+new_item k i = where_holds (may_follow k.items i.name) (step.Item i.name i.kind i.fields)
+
 abbrev pub item_line : Known → List ℕ → List ℕ → List ℕ → Option Step
-item_line k name word fields =
-    option_and_then (λ kd. option_and_then (λ fs. where_holds (is_new 4096 (item_names k) name) (step.Item name kd fs)) (fields_said kd fields)) (kind_of word)
+item_line k name word fields = option_and_then (new_item k) (item_said name word fields)
 
 abbrev pub tick_line : Known → List ℕ → Option Step
 tick_line k ms = option_map (λ n. step.Tick n) (number_from k.tick ms)
 
 abbrev pub conn_line : Known → List ℕ → List ℕ → Option Step
-conn_line k name word = option_and_then (λ l. where_holds (is_new 65536 k.connections name) (step.Conn name l)) (link_of word)
+conn_line k name word = option_and_then (λ l. where_holds (is_new k.connections name) (step.Conn name l)) (link_of word)
 
 abbrev pub open_line : Known → List ℕ → Option Step
-open_line k name = where_holds (is_new 65536 k.connections name) (step.Open name)
+open_line k name = where_holds (is_new k.connections name) (step.Open name)
 
 -- the text behind a word's beginning
 abbrev pub behind : List ℕ → List ℕ → Option (List ℕ)
@@ -265,11 +233,6 @@ asked k line (Some rest) = once (request_on k (split_once 32 rest))
 -- what a line asks for, that is neither empty nor a comment
 abbrev pub line_of : Known → List ℕ → Option Repeat
 line_of k line = asked k line (behind (codes "req ") line)
-
--- an empty line and a comment, which begins with `#`, ask for nothing
-abbrev pub is_skipped : List ℕ → Bool
-is_skipped [] = true
-is_skipped (b ∷ bs) = b == 35
 
 -- what is known after a step
 abbrev pub known_after : Known → Step → Known

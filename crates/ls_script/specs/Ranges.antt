@@ -6,7 +6,8 @@ use Rattle.ls_value.specs.declared.row.Cell.{Cell}
 use Rattle.ls_words.specs.Words.{is_name}
 use Rattle.ls_event.specs.declared.item.Kind.{Kind}
 use Rattle.ls_event.specs.EventText.{is_textual}
-use Rattle.ls_script.specs.Grammar.{Known, item_names, fields_of, are_distinct, has_keys}
+use Rattle.ls_config.specs.Items.{are_distinct, has_needed}
+use Rattle.ls_script.specs.Grammar.{Known, item_names, fields_of}
 use Rattle.ls_script.specs.declared.step.Repeat.{Repeat}
 use Rattle.ls_script.specs.declared.step.Step.{Step}
 use Rattle.ls_script.specs.declared.step.Step.TheVariants as step
@@ -20,7 +21,7 @@ pub record NewItem (k : Known) (name : List ℕ) (kind : Kind) (fields : List (L
   pub most : length fields ≤ 64
   pub field_names : list_all is_name fields ≡ true
   pub distinct : are_distinct fields ≡ true
-  pub keys : has_keys kind fields ≡ true
+  pub keys : has_needed kind fields ≡ true
 
 -- a new connection: fewer than 65,536 are declared, and none has its name
 pub record NewConnection (k : Known) (name : List ℕ) : Type 0 where

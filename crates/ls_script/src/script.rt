@@ -1,26 +1,22 @@
 //! A script's lines: what each asks for, by the names that the lines before it declared (this project's profile).
-ghost use Rattle.std.specs.Prelude.{◌≡◌, ◌<◌, ◌≤◌, [], ◌∷◌, ◌++◌, Option, Some, None, Ok, Err, IfOk, IfSome, OnOk, OnErr, IsErrOf, length, map, true, false, option_map};
+ghost use Rattle.std.specs.Prelude.{◌≡◌, ◌<◌, ◌≤◌, [], ◌∷◌, ◌++◌, Option, Some, None, Ok, Err, IfOk, IfSome, OnOk, OnErr, IsErrOf, length, map, true, false, option_map, if◌then◌else◌};
 ghost use Rattle.ls_event.specs.EventText.{event_of};
 ghost use Rattle.ls_words.specs.Words.{split_once};
 ghost use Rattle.ls_words.specs.Numbers.{number_in};
-ghost use Rattle.ls_script.specs.Grammar.{Known, nothing, item_of, connection_of, fields_of, add_said, set_line, item_line, tick_line, conn_line, open_line, add_line, request_line, update_in, publish_line, clear_line, enqueue_line, take_line, lose_line, two_words, three_words, four_words, five_words, six_words, more_words, words_of, request_on, line_of, is_skipped, known_after};
+ghost use Rattle.ls_script.specs.Grammar.{Known, nothing, item_of, connection_of, fields_of, add_said, set_line, item_line, tick_line, conn_line, is_new, open_line, add_line, request_line, update_in, publish_line, clear_line, enqueue_line, take_line, lose_line, two_words, three_words, four_words, five_words, six_words, more_words, words_of, request_on, line_of, is_skipped, known_after};
 ghost use Rattle.ls_script.specs.Ranges.{Fits, RepeatFits};
 
 use crate::extras::read_extras;
-use crate::fields::{copied_names, fields_said};
-use crate::names::Declared;
+use crate::names::copied_names;
 use crate::step::{AddWords, Repeat, Step};
-use crate::words::{
-    behind, is_skipped, is_word, kind_of, link_of, mode_of, number_from, once, so_often, times_of,
-};
+use crate::words::{behind, is_word, link_of, number_from, once, so_often, times_of};
+use ls_config::{Declared, Items, is_skipped, item_said};
 use ls_event::{Event, EventRefused, ItemDef, Kind, read_event};
+use ls_request::mode_of;
 use ls_value::{Bytes, Cells, Names, NoMemory, Text, same_bytes};
 use ls_words::{divided, name_of, number_in, split_once};
-use std::alloc::{AllocError, Global};
+use std::alloc::Global;
 use std::marker::Model;
-
-/// The most items of a script (this project's profile).
-const MOST_ITEMS: usize = 4096;
 
 /// The most connections of a script (this project's profile).
 const MOST_CONNECTIONS: usize = 65_536;
@@ -51,9 +47,7 @@ pub struct Script {
     /// What memory is taken from.
     alloc: Global,
     /// The items, in the order of their numbers.
-    items: Vec<ItemDef>,
-    /// Their names, in the same order.
-    item_names: Declared,
+    items: Items,
     /// The connections' names, in the order of their numbers.
     connections: Declared,
     /// The last tick in milliseconds.
@@ -61,14 +55,14 @@ pub struct Script {
 }
 
 impl Model for Script {
-    ghost use Rattle.std.specs.Prelude.{◌≡◌, ◌≤◌, length, map};
+    ghost use Rattle.std.specs.Prelude.{◌≤◌, length};
     ghost use Rattle.ls_script.specs.Grammar.{Known};
 
     ghost Value = { Known };
 
-    ghost view = { λ s. record { items = s.items.items; connections = s.connections; tick = s.tick } };
+    ghost view = { λ s. record { items = s.items; connections = s.connections; tick = s.tick } };
 
-    ghost invariant = { λ s. (s.item_names ≡ map (λ i. i.name) s.items.items) × (length s.items.items ≤ 4096) × (length s.connections ≤ 65536) };
+    ghost invariant = { λ s. length s.connections ≤ 65536 };
 }
 
 impl Script {
@@ -78,8 +72,7 @@ impl Script {
     {
         Ok(Script {
             alloc,
-            items: Vec::new(alloc),
-            item_names: Declared::new(alloc),
+            items: Items::new(alloc),
             connections: Declared::new(alloc),
             tick: 0,
         })
@@ -139,9 +132,7 @@ impl Script {
             kind,
             fields: copied_names(self.alloc, fields)?,
         };
-        self.items.reserve(1)?;
-        self.item_names.add(self.alloc, name.as_bytes())?;
-        self.items.push_reserved(item);
+        self.items.add(self.alloc, item)?;
         Ok(())
     }
 
@@ -341,15 +332,13 @@ impl Script {
     fn item_line(&self, name: &[u8], word: &[u8], fields: &[u8]) -> Result<Option<Step>, NoMemory>
         ensures { IfOk result (λ step. step ≡ item_line self.now name.now word.now fields.now) }
     {
-        let Some(kind) = kind_of(word) else {
+        let Some(item) = item_said(self.alloc, name, word, fields)? else {
             return Ok(None);
         };
-        let Some(fields) = fields_said(self.alloc, kind, fields)? else {
+        if !self.items.may_follow(item.name.as_bytes()) {
             return Ok(None);
-        };
-        let Some(name) = self.item_names.new_name(self.alloc, MOST_ITEMS, name)? else {
-            return Ok(None);
-        };
+        }
+        let ItemDef { name, kind, fields } = item;
         Ok(Some(Step::Item { name, kind, fields }))
     }
 
@@ -368,23 +357,28 @@ impl Script {
         let Some(link) = link_of(word) else {
             return Ok(None);
         };
-        let Some(name) = self
-            .connections
-            .new_name(self.alloc, MOST_CONNECTIONS, name)?
-        else {
+        let Some(name) = self.new_connection(name)? else {
             return Ok(None);
         };
         Ok(Some(Step::Conn { name, link }))
+    }
+
+    /// The name of a new connection that a text is.
+    fn new_connection(&self, text: &[u8]) -> Result<Option<Text>, NoMemory>
+        ensures { IfOk result (λ name. name ≡ (if is_new self.now.connections text.now then Some text.now else None)) }
+    {
+        if self.connections.len() >= MOST_CONNECTIONS || self.connections.find(text).is_some() {
+            return Ok(None);
+        }
+        let name = name_of(self.alloc, text)?;
+        Ok(name)
     }
 
     /// `open`.
     fn open_line(&self, name: &[u8]) -> Result<Option<Step>, NoMemory>
         ensures { IfOk result (λ step. step ≡ open_line self.now name.now) }
     {
-        match self
-            .connections
-            .new_name(self.alloc, MOST_CONNECTIONS, name)?
-        {
+        match self.new_connection(name)? {
             Some(name) => Ok(Some(Step::Open { name })),
             None => Ok(None),
         }
@@ -427,7 +421,12 @@ impl Script {
         let Some(item) = self.item(item) else {
             return Ok(None);
         };
-        let Some(cells) = update_in(self.alloc, event, &self.items[item as usize].fields)? else {
+        let Some(cells) = update_in(
+            self.alloc,
+            event,
+            &self.items.as_slice()[item as usize].fields,
+        )?
+        else {
             return Ok(None);
         };
         Ok(Some(Step::Publish {
@@ -483,8 +482,7 @@ impl Script {
         ensures first { result ≡ item_of self.now name.now }
         ensures within { IfSome result (λ i. i < length self.now.items) }
     {
-        let place = self.item_names.find(name)?;
-        Some(place as u32)
+        self.items.find(name)
     }
 
     /// The number of the connection of a name.

@@ -1,6 +1,7 @@
 //! Each kind of line at its edges, the lines of whole scripts, and printed lines.
 use super::*;
 use ls_event::{Kind, Mode};
+use ls_form::Params;
 use ls_request::LinkKind;
 use ls_value::{Bytes, Cell, Cells, Names, Text};
 use std::alloc::Global;
@@ -421,6 +422,99 @@ fn scripts_are_read(rt: HostRuntime) -> Result<(), Fail> {
     Ok(())
 }
 
+/// The pairs as `name=text` with `;` behind each.
+fn pairs_text(alloc: Global, params: &Params) -> Result<String, Fail> {
+    let mut text = String::new(alloc);
+    for place in 0..params.len() {
+        if let Some(pair) = params.get(place) {
+            write!(text, "{}={};", pair.name.as_str(), pair.text.as_str())?;
+        }
+    }
+    Ok(text)
+}
+
+/// The parameters of an `add` step, in words.
+fn params_words(alloc: Global, line: u64, step: &Step) -> Result<String, Fail> {
+    match step {
+        Step::Add {
+            connection: _,
+            words,
+        } => match add_params(alloc, line, words)? {
+            Some(params) => pairs_text(alloc, &params),
+            None => Ok(format!(in alloc; "none")?),
+        },
+        _ => Ok(format!(in alloc; "no add")?),
+    }
+}
+
+/// The parameters of an `add` line, in words.
+fn handed_on(alloc: Global, line: u64, text: &[u8]) -> Result<String, Fail> {
+    let mut script = begun(alloc)?;
+    match script.read(text)? {
+        Some(asked) => params_words(alloc, line, &asked.step),
+        None => Ok(format!(in alloc; "skipped")?),
+    }
+}
+
+#[test]
+fn words_are_handed_on(rt: HostRuntime) -> Result<(), Fail> {
+    let alloc = rt.alloc();
+    let cases: [(u64, &[u8], &str); 15] = [
+        (
+            4,
+            b"add c 1 q x,y MERGE",
+            "LS_reqId=4;LS_op=add;LS_subId=1;LS_mode=MERGE;LS_group=q;LS_schema=x y;",
+        ),
+        (
+            18446744073709551615,
+            b"add h 7 q,d x RAW",
+            "LS_reqId=18446744073709551615;LS_op=add;LS_subId=7;LS_mode=RAW;LS_group=q d;LS_schema=x;",
+        ),
+        (
+            0,
+            b"add e +1 a+b%20c&d=,e %41 DISTINCT",
+            "LS_reqId=0;LS_op=add;LS_subId=+1;LS_mode=DISTINCT;LS_group=a+b%20c&d= e;LS_schema=%41;",
+        ),
+        (
+            10,
+            b"add c 1,2 q x COMMAND snapshot=a,b&c buffer=%31 frequency=+2.0",
+            "LS_reqId=10;LS_op=add;LS_subId=1,2;LS_mode=COMMAND;LS_group=q;LS_schema=x;LS_snapshot=a,b&c;LS_requested_buffer_size=%31;LS_requested_max_frequency=+2.0;",
+        ),
+        (
+            1,
+            b"add c 1 q x RAW snapshot=",
+            "LS_reqId=1;LS_op=add;LS_subId=1;LS_mode=RAW;LS_group=q;LS_schema=x;LS_snapshot=;",
+        ),
+        (
+            1,
+            b"add c 1 q x RAW buffer=unlimited",
+            "LS_reqId=1;LS_op=add;LS_subId=1;LS_mode=RAW;LS_group=q;LS_schema=x;LS_requested_buffer_size=unlimited;",
+        ),
+        (
+            1,
+            b"add c 1 q x RAW frequency=unfiltered",
+            "LS_reqId=1;LS_op=add;LS_subId=1;LS_mode=RAW;LS_group=q;LS_schema=x;LS_requested_max_frequency=unfiltered;",
+        ),
+        (
+            1,
+            b"add c 1 ,, \xC3\xA9,\xE2\x82\xAC,\xF0\x90\x8D\x88 RAW",
+            "LS_reqId=1;LS_op=add;LS_subId=1;LS_mode=RAW;LS_group=  ;LS_schema=\u{e9} \u{20ac} \u{10348};",
+        ),
+        (1, b"add c \xFF q x RAW", "none"),
+        (1, b"add c 1 \xC3,\xA9 x RAW", "none"),
+        (1, b"add c 1 q x\xC3 RAW", "none"),
+        (1, b"add c 1 q x RAW snapshot=\x80", "none"),
+        (1, b"add c 1 q x RAW buffer=\xED\xA0\x80", "none"),
+        (1, b"add c 1 q x RAW frequency=\xC0\x80", "none"),
+        (1, b"take c", "no add"),
+    ];
+    for (line, text, want) in cases {
+        let given = handed_on(alloc, line, text)?;
+        assert_eq!(rt; given.as_str(), want, "of {text:?}");
+    }
+    Ok(())
+}
+
 /// A line with so many times a piece in it.
 fn with_many(alloc: Global, front: &str, many: usize, back: &str) -> Result<String, Fail> {
     let mut line = String::from_str(alloc, front)?;
@@ -489,6 +583,170 @@ fn declarations_are_limited(rt: HostRuntime) -> Result<(), Fail> {
     let alloc = rt.alloc();
     assert_eq!(rt; declared(alloc, "item i", 5000, " MERGE x")?, 4096);
     assert_eq!(rt; declared(alloc, "open c", 70_000, "")?, 65_536);
+    Ok(())
+}
+
+/// How many lines of a script are read before one that isn't, and whether all are.
+fn walked(alloc: Global, text: &[u8]) -> Result<(usize, bool), Fail> {
+    let mut script = Script::new(alloc)?;
+    let mut steps: usize = 0;
+    for line in text.split(|b| *b == b'\n') {
+        if !is_read(&mut script, line)? {
+            return Ok((steps, false));
+        }
+        steps = steps.saturating_add(1);
+    }
+    Ok((steps, true))
+}
+
+#[test]
+fn whole_scripts_are_read(rt: HostRuntime) -> Result<(), Fail> {
+    let alloc = rt.alloc();
+    let cases: [(&[u8], usize, bool); 25] = [
+        // A quote.
+        (
+            b"item quote MERGE last,time\nopen c\nadd c 1 quote last,time MERGE\npub 1 1 quote last=3.04&time=20:00:33\nenq c 1 1\ntake c 9",
+            6,
+            true,
+        ),
+        // Unchanged rows in RAW.
+        (
+            b"item q MERGE x\nopen c\nadd c 1 q x RAW\npub 1 1 q x=1\npub 1 2 q x=1\nenq c 1 1\nenq c 1 1\ntake c 9",
+            8,
+            true,
+        ),
+        // A silent cut.
+        (
+            b"item q MERGE x\nopen c\nadd c 1 q x MERGE buffer=1\npub 1 1 q x=A\nenq c 1 1\ntake c\npub 1 2 q x=B\npub 1 3 q x=A\nenq c 1 1 2\ntake c",
+            10,
+            true,
+        ),
+        // Two updates at once.
+        (
+            b"item s MERGE a,b,c\nopen c\nadd c 1 s a,b,c MERGE buffer=2\npub 1 1 s a=1\npub 1 2 s b=2\npub 1 3 s c=3\nenq c 1 1 3\ntake c\ntake c\ntake c",
+            10,
+            true,
+        ),
+        // The last two rows.
+        (
+            b"item d DISTINCT m\nopen c\nadd c 1 d m DISTINCT buffer=2\npub 1 1 d m=1\npub 1 2 d m=2\npub 1 3 d m=3\npub 1 4 d m=4\npub 1 5 d m=5\nenq c 1 1 5\ntake c 9",
+            10,
+            true,
+        ),
+        // Lost updates.
+        (
+            b"item q MERGE x\nopen c\nadd c 1 q x RAW\npub 1 1 q x=1\nenq c 1 1\npub 1 300 q x=300\nenq c 1 1\ntake c 1000",
+            8,
+            true,
+        ),
+        // A key that came and went.
+        (
+            b"item book COMMAND key,command,qty\nopen c\nadd c 1 book key,command,qty COMMAND\npub 1 1 book key=k&command=ADD&qty=5\npub 1 2 book key=k&command=DELETE\nenq c 1 1 2\ntake c 9\npub 1 3 book key=k&command=ADD&qty=7\nenq c 1 1\ntake c 9",
+            10,
+            true,
+        ),
+        // A snapshot that is cleared.
+        (
+            b"item book COMMAND key,command,qty\nopen c\npub 1 1 book key=a&command=ADD&qty=1\npub 1 2 book key=b&command=ADD&qty=2\nadd c 1 book key,command,qty COMMAND snapshot=true\nclear 1 3 book\npub 1 4 book key=b&command=ADD&qty=9\nenq c 1 1\nenq c 1 1\ntake c 9",
+            10,
+            true,
+        ),
+        // A table without a snapshot.
+        (
+            b"item o COMMAND key,command,qty,px\nopen c\npub 1 1 o key=a&command=ADD&qty=1&px=9\nadd c 1 o key,command,qty,px COMMAND\npub 1 2 o key=a&command=UPDATE&qty=3\nenq c 1 1\ntake c\npub 1 3 o key=a&command=UPDATE&qty=4\nenq c 1 1\ntake c\npub 1 4 o key=a&command=DELETE\nenq c 1 1\ntake c",
+            13,
+            true,
+        ),
+        // A frequency.
+        (
+            b"item q MERGE x\nopen c\nadd c 1 q x MERGE frequency=2.0\npub 1 1 q x=1\nenq c 1 1\ntake c 9\ntick 499\npub 1 2 q x=2\nenq c 1 1\ntake c\ntick 500\ntake c",
+            12,
+            true,
+        ),
+        // Recoveries.
+        (
+            b"item q MERGE x\nopen c\nadd c 1 q x MERGE\npub 1 1028 q x=1028\nenq c 1 1\ntake c 1\nconn d ws\nreq d bind_session LS_session=S1&LS_recovery_from=6\ntake d 5\nreq d bind_session LS_session=S1&LS_recovery_from=1030\ntake d 9\nreq d bind_session LS_session=S1&LS_recovery_from=1031\nreq d bind_session LS_session=S1&LS_recovery_from=5",
+            13,
+            true,
+        ),
+        // A lost stream.
+        (
+            b"item quote MERGE last,time\nopen c\nadd c 1 quote last,time MERGE\npub 1 1 quote last=3.04&time=20:00:33\nenq c 1 1\ntake c 9\nlose c\ntake c\nconn d ws\nreq d bind_session LS_session=S1&LS_recovery_from=2\ntake d 9\ntake c",
+            12,
+            true,
+        ),
+        // Refusals.
+        (
+            b"item q MERGE x\nitem d DISTINCT y\nopen c\nreq c control LS_reqId=1&LS_session=S9&LS_op=destroy\nreq c control LS_reqId=1&LS_op=add&LS_subId=1&LS_mode=MERGE&LS_group=d&LS_schema=y\nreq c control LS_reqId=1&LS_op=add&LS_subId=1&LS_mode=MERGE&LS_group=nope&LS_schema=z\nreq c control LS_reqId=1&LS_op=add&LS_subId=1&LS_mode=MERGE&LS_group=q&LS_schema=z\nreq c control LS_reqId=1&LS_op=add&LS_subId=1&LS_mode=MERGE&LS_group=q&LS_schema=x\nreq c control LS_reqId=1&LS_op=add&LS_subId=1&LS_mode=MERGE&LS_group=nope&LS_schema=x\nreq c control LS_reqId=1&LS_op=add&LS_subId=x&LS_mode=MERGE&LS_group=q&LS_schema=x\nreq c control LS_reqId=1&LS_op=delete&LS_subId=9",
+            11,
+            true,
+        ),
+        // The requests of the protocol's examples.
+        (
+            b"item item1 MERGE stock_name,last_price,time\nitem item2 MERGE stock_name,last_price,time\npub 1 1 item1 stock_name=Anduct&last_price=3.04&time=20:00:33\npub 1 1 item2 stock_name=Ations%20Europe&last_price=16.09&time=20:00:30\nconn w ws\nreq w wsok\nreq w create_session LS_cid=mgQkwtwdysogQz2BJ4Ji%20kOj2Bg&LS_adapter_set=DEFAULT&LS_cause=api&LS_user=u\nreq w control LS_reqId=2&LS_op=add&LS_subId=1&LS_mode=MERGE&LS_group=item1+item2&LS_schema=last_price+time+stock_name&LS_data_adapter=QUOTE_ADAPTER&LS_snapshot=true&LS_requested_max_frequency=3.0\ntake w 20",
+            9,
+            true,
+        ),
+        // A repeated seq.
+        (
+            b"item q MERGE x\nopen c\npub 1 5 q x=1\npub 1 5 q x=1\nadd c 1 q x MERGE\npub 1 6 q x=1\nenq c 1 1\npub 1 69 q x=1",
+            8,
+            true,
+        ),
+        // Many lines waiting.
+        (
+            b"item q MERGE x\nopen c\nadd c 1 q x MERGE\nreq c control LS_reqId=3&LS_op=reconf&LS_subId=1&LS_requested_max_frequency=unlimited\nreq c control LS_reqId=9&LS_op=add&LS_subId=2&LS_mode=MERGE&LS_group=q&LS_schema=x",
+            5,
+            true,
+        ),
+        // A cleared item.
+        (
+            b"item q MERGE x\nopen c\npub 1 1 q x=1\nclear 1 2 q\nadd c 1 q x MERGE snapshot=true\ntake c 9\nitem empty MERGE x\nadd c 2 empty x MERGE snapshot=true\ntake c 9",
+            9,
+            true,
+        ),
+        // A bandwidth.
+        (
+            b"item q MERGE x\nopen c\nadd c 1 q x RAW\nreq c control LS_reqId=9&LS_op=constrain&LS_requested_max_bandwidth=0.08\npub 1 1 q x=1\npub 1 2 q x=2\npub 1 3 q x=3\nenq c 1 1 3\ntake c 20\ntick 800\ntake c\ntick 801\ntake c",
+            13,
+            true,
+        ),
+        // A time-out.
+        (
+            b"item q MERGE x\nopen c\nreq c control LS_reqId=5&LS_op=force_rebind\ntake c 9\nreq c bind_session LS_session=S1\ntake c 9\nlose c\ntick 30000\nreq c control LS_reqId=6&LS_op=destroy",
+            9,
+            true,
+        ),
+        // An unknown item.
+        (b"item q MERGE x\npub 1 1 ghost x=1", 1, false),
+        // An unknown field.
+        (b"item q MERGE x\npub 1 1 q z=1", 1, false),
+        // Events that the item refuses.
+        (
+            b"item book COMMAND key,command,qty\npub 1 9 book qty=1\npub 1 10 book key=k&command=GO\nopen c\nadd c 1 book key,command,qty COMMAND\nenq c 1 1",
+            6,
+            true,
+        ),
+        // An escaped text.
+        (
+            b"item q MERGE x\nopen c\nadd c 1 q x MERGE\npub 1 1 q x=%23\nenq c 1 1\ntake c 9",
+            6,
+            true,
+        ),
+        // An event before the subscription.
+        (
+            b"item q MERGE x\npub 1 1 q x=%23\nopen c\nadd c 1 q x MERGE\nenq c 1 1\ntake c 9",
+            6,
+            true,
+        ),
+        // No request.
+        (b"conn w ws\nreq w nonsense", 2, true),
+    ];
+    for (text, steps, whole) in cases {
+        let (read, all) = walked(alloc, text)?;
+        assert_eq!(rt; read, steps, "of {text:?}");
+        assert_eq!(rt; all, whole, "of {text:?}");
+    }
     Ok(())
 }
 

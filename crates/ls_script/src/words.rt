@@ -1,25 +1,14 @@
 //! Single words of a script's lines.
 ghost use Rattle.std.specs.Prelude.{◌≡◌, ◌≤◌, Some, None, IfSome, option_map};
-ghost use Rattle.ls_script.specs.Grammar.{number_from as from_number, times_of, kind_of, mode_of, link_of, behind, is_skipped, is_word, once, so_often};
+ghost use Rattle.ls_script.specs.Grammar.{number_from as from_number, times_of, link_of, behind, is_word, once, so_often};
 
 use crate::step::{Repeat, Step};
-use ls_event::{Kind, Mode};
 use ls_request::LinkKind;
 use ls_value::same_bytes;
 use ls_words::number_in;
 
 /// The greatest number of a script: 18 digits (this project's profile).
 const GREATEST: u64 = 999_999_999_999_999_999;
-
-/// Whether a line asks for nothing: it is empty, or a comment.
-pub(crate) fn is_skipped(line: &[u8]) -> bool
-    ensures { result ≡ is_skipped line.now }
-{
-    match line {
-        [] => true,
-        [first, ..] => *first == b'#',
-    }
-}
 
 /// Whether a word isn't empty.
 pub(crate) fn is_word(word: &[u8]) -> bool
@@ -32,7 +21,7 @@ pub(crate) fn is_word(word: &[u8]) -> bool
 }
 
 /// The text behind a word's beginning, where the word begins so.
-#[tactic(auto, using(crate::proofs::Among::none_behind))]
+#[tactic(auto, using(crate::proofs::Beginnings::none_behind))]
 pub(crate) fn behind<'a>(begin: &[u8], word: &'a [u8]) -> Option<&'a [u8]>
     ensures { option_map (λ t. t.now) result ≡ behind begin.now word.now }
 {
@@ -59,38 +48,6 @@ pub(crate) fn times_of(text: &[u8]) -> Option<u32>
 {
     let times = number_in(text, 1, 1000)?;
     Some(times as u32)
-}
-
-/// The kind of items that a word says.
-pub(crate) fn kind_of(word: &[u8]) -> Option<Kind>
-    ensures { result ≡ kind_of word.now }
-{
-    if same_bytes(word, b"MERGE") {
-        Some(Kind::Merge)
-    } else if same_bytes(word, b"DISTINCT") {
-        Some(Kind::Distinct)
-    } else if same_bytes(word, b"COMMAND") {
-        Some(Kind::Command)
-    } else {
-        None
-    }
-}
-
-/// The mode that a word says (TLCP 2.1, LS_mode).
-pub(crate) fn mode_of(word: &[u8]) -> Option<Mode>
-    ensures { result ≡ mode_of word.now }
-{
-    if same_bytes(word, b"RAW") {
-        Some(Mode::Raw)
-    } else if same_bytes(word, b"MERGE") {
-        Some(Mode::Merge)
-    } else if same_bytes(word, b"DISTINCT") {
-        Some(Mode::Distinct)
-    } else if same_bytes(word, b"COMMAND") {
-        Some(Mode::Command)
-    } else {
-        None
-    }
 }
 
 /// The kind of connections that a word says.

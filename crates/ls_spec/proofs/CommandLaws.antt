@@ -1,7 +1,7 @@
 -- What is true of a slot of mode COMMAND stays true.
-use Rattle.std.proofs.Common.{◌≡◌, ◌==◌, ◌⊎◌, ℕ, suc, ◌+◌, ◌-◌, ◌<◌, ◌≤◌, List, [], ◌∷◌, ◌++◌, length, map, take, drop, get_or, refl, sym, ◌∙◌, ap, arith, Bool, true, false, not, ◌&&◌, ◌||◌, cond, subst, Option, Some, None, is_some, nat_lt, nat_le, option_map, slice_get, unwrap_or, codes, inl, inr}
-use Rattle.std.proofs.lemmas.List.{length-append, length-map, take_more, drop-drop, take-take, take-append-drop}
-use Rattle.std.proofs.lemmas.Bool.{eqb-true, leb-true, leb-false}
+use Rattle.std.proofs.Common.{◌≡◌, ◌==◌, ◌⊎◌, ℕ, suc, ◌+◌, ◌-◌, ◌<◌, ◌≤◌, List, [], ◌∷◌, ◌++◌, length, map, take, drop, get_or, refl, sym, ◌∙◌, ap, arith, Bool, true, false, not, ◌&&◌, ◌||◌, cond, subst, Option, Some, None, is_some, nat_lt, option_map, slice_get, unwrap_or, codes, inl, inr}
+use Rattle.std.proofs.lemmas.List.{length-append, length-map, take_more, take-take, take-append-drop}
+use Rattle.std.proofs.lemmas.Bool.{eqb-true}
 use Rattle.ls_value.specs.declared.row.Value.{Value}
 use Rattle.ls_value.specs.Values.{projected, text_eq, row_eq}
 use Rattle.ls_value.proofs.Rows.{and_right, text_eq_true, row_eq_true}
@@ -11,25 +11,29 @@ use Rattle.ls_event.specs.declared.event.Entry.{Entry}
 use Rattle.ls_event.specs.declared.event.Taken.{Taken}
 use Rattle.ls_event.specs.declared.event.Taken.TheVariants as taken
 use Rattle.ls_event.specs.History.{between}
+use Rattle.ls_event.specs.declared.snapshot.KeyedRow.{KeyedRow}
+use Rattle.ls_event.specs.Shapes.{Shape}
 use Rattle.ls_event.specs.Slots.{Plan, Slot, enqueued}
 use Rattle.ls_event.specs.Updates.{last_of, clear_of, clear_from, last_clear, clear_or}
-use Rattle.ls_event.specs.Keyed.{Keyed, key_of, row_at, keyed_after, keyed_after_all, keyed}
+use Rattle.ls_event.specs.Keyed.{key_of, row_at, keyed_after, keyed_after_all, keyed}
 use Rattle.ls_event.specs.CommandCuts.{has_key, place_of, queue_after, queue_from, queue_since, owed_keys, command_queue, key_taken, command_told, command_cut}
-use Rattle.ls_event.proofs.UpdatesBetween.{ClearIn, last_clear_is, last_clear-next, last_of_length, last_of_short}
-use Rattle.ls_mirror.specs.Client.{Row, End}
+use Rattle.ls_event.proofs.UpdatesBetween.{ClearIn, last_clear_is, last_clear-next, last_of_short}
+use Rattle.ls_mirror.specs.Client.{Row, Cleared, End}
 use Rattle.ls_spec.specs.Came.{Came, whats}
-use Rattle.ls_spec.specs.Tables.{table_at, key_told, projected_row, with_word, delete_row}
-use Rattle.ls_spec.specs.Cutting.{Wanted, command_with, schema_of, accepted}
-use Rattle.ls_spec.specs.CommandMode.{IsKeyed, noted_at, AgreesAt, NoTurn, NeverFall, LawfulCommand}
+use Rattle.ls_spec.specs.Tables.{place_in, table_at, key_told, projected_row, with_word, delete_row}
+use Rattle.ls_event.specs.Joining.{command_joined}
+use Rattle.ls_spec.specs.Cutting.{Wanted, schema_of, accepted}
+use Rattle.ls_spec.specs.CommandMode.{IsKeyed, noted_at, AgreesAt, NoTurn, KeyTold, HadKey, KeyLines, LawfulCommand}
 use Rattle.ls_spec.proofs.Keeps.{Keeps, AfterCut, by_cut, no_cut}
 use Rattle.ls_spec.proofs.DistinctLaws.{last_clear-append}
+use Rattle.ls_spec.proofs.Queues.{keys_next}
 use Rattle.ls_spec.proofs.Updates.{between-front}
 use Rattle.ls_spec.proofs.Keys.{IfRow, keyed_row, keyed-longer, table_self, table_other, word_key, word_kept, delete_key, delete_kept}
 
 -- changes that leave the client's table
 agrees_longer : (h more : List Entry) (w : Wanted) (p : Plan) (place last : ℕ) (cs : List Came) (k : List ℕ) (o : Option ℕ) → last ≤ length h → AgreesAt h w p place last cs k o → AgreesAt (h ++ more) w p place last cs k o
 agrees_longer h more w p place last cs k None within a = a
-agrees_longer h more w p place last cs k (Some q) within a = (a.0, a.1, a.2 ∙ ap (λ ks. projected_row w.places (row_at k ks)) (sym (keyed-longer p h more q (omega (arith, a.1, within)))))
+agrees_longer h more w p place last cs k (Some q) within a = (a.0, a.1, a.2 ∙ ap (λ ks. projected_row w.places (row_at k ks)) (sym (keyed-longer p.shape h more q (omega (arith, a.1, within)))))
 
 agrees_later : (h : List Entry) (w : Wanted) (p : Plan) (place last : ℕ) (cs : List Came) (k : List ℕ) (o : Option ℕ) → AgreesAt h w p place last cs k o → AgreesAt h w p place (last + 1) cs k o
 agrees_later h w p place last cs k None a = a
@@ -39,15 +43,36 @@ agrees_same : (h : List Entry) (w : Wanted) (p : Plan) (place last : ℕ) (cs ds
 agrees_same h w p place last cs ds k None e a = e ∙ a
 agrees_same h w p place last cs ds k (Some q) e a = (a.0, a.1, e ∙ a.2)
 
-never_later : (low high : ℕ) (cs : List Came) → low ≤ high → NeverFall low cs → NeverFall high cs
-never_later low high [] le n = tt
-never_later low high (c ∷ cs) le n = (omega (arith, le, n.0), n.1, n.2)
+-- and changes that leave the lines
+had_longer : (p : Shape) (h more : List Entry) (places : List ℕ) (i : ℕ) (r : List Value) → HadKey p h places i r → HadKey p (h ++ more) places i r
+had_longer p h more places i r l =
+    record {
+      within = omega (arith, l.within, length-append h more);
+      key = l.key;
+      told = subst (λ ks. KeyTold (record { key = place_in p.key places; command = place_in p.command places }) places l.key (row_at l.key ks) r) (sym (keyed-longer p h more i l.within)) l.told;
+    }
+
+lines_longer : (p : Shape) (h more : List Entry) (places : List ℕ) (top : ℕ) (cs : List Came) → KeyLines p h places top cs → KeyLines p (h ++ more) places top cs
+lines_longer p h more places top [] l = tt
+lines_longer p h more places top (c ∷ cs) l = (
+  l.0,
+  record {
+    reached = l.1.reached;
+    within = omega (arith, l.1.within, length-append h more);
+    rows = λ r is. ((l.1.rows r is).0, had_longer p h more places c.upto r (l.1.rows r is).1);
+  },
+  lines_longer p h more places c.at cs l.2,
+)
+
+lines_later : (p : Shape) (h : List Entry) (places : List ℕ) (low high : ℕ) (cs : List Came) → low ≤ high → KeyLines p h places low cs → KeyLines p h places high cs
+lines_later p h places low high [] le l = tt
+lines_later p h places low high (c ∷ cs) le l = (omega (arith, le, l.0), l.1, l.2)
 
 no_turn_longer : (h more : List Entry) (w : Wanted) (p : Plan) (place last owed : ℕ) (k : List ℕ) → p.base ≤ place → place ≤ last → last ≤ length h → NoTurn h w p place last owed k → NoTurn (h ++ more) w p place last owed k
 no_turn_longer h more w p place last owed k low le within (inl a) = inl a
 no_turn_longer h more w p place last owed k low le within (inr (inl a)) =
-    inr (inl (ap (λ ks. has_key (last_of owed (map (λ (x : Keyed). x.key) ks)) k) (keyed-longer p h more p.base (omega (arith, low, le, within))) ∙ a))
-no_turn_longer h more w p place last owed k low le within (inr (inr (inl a))) = inr (inr (inl (ap (row_at k) (keyed-longer p h more place (omega (arith, le, within))) ∙ a)))
+    inr (inl (ap (λ ks. has_key (last_of owed (map (λ (x : KeyedRow). x.key) ks)) k) (keyed-longer p.shape h more p.base (omega (arith, low, le, within))) ∙ a))
+no_turn_longer h more w p place last owed k low le within (inr (inr (inl a))) = inr (inr (inl (ap (row_at k) (keyed-longer p.shape h more place (omega (arith, le, within))) ∙ a)))
 no_turn_longer h more w p place last owed k low le within (inr (inr (inr a))) = inr (inr (inr (a.0, last_clear-append h more place last within ∙ a.1)))
 
 -- a Clear that waits goes on waiting
@@ -65,7 +90,7 @@ no_turn_later h w p place last owed k le more (inr (inr (inr a))) =
     let r = clear_later (last_clear h place last) (last + 1) (get_or h last (record { adapter = 0; seq = 0; event = Clear })).event a.0 a.1 in
     inr (inr (inr (r.0, next ∙ r.1)))
 
-no_turn_owed : (h : List Entry) (w : Wanted) (p : Plan) (place last owed owed' : ℕ) (k : List ℕ) → (has_key (last_of owed (map (λ (x : Keyed). x.key) (keyed p h p.base))) k ≡ true → NoTurn h w p place last owed' k)
+no_turn_owed : (h : List Entry) (w : Wanted) (p : Plan) (place last owed owed' : ℕ) (k : List ℕ) → (has_key (last_of owed (map (λ (x : KeyedRow). x.key) (keyed p.shape h p.base))) k ≡ true → NoTurn h w p place last owed' k)
     → NoTurn h w p place last owed k → NoTurn h w p place last owed' k
 no_turn_owed h w p place last owed owed' k f (inl a) = inl a
 no_turn_owed h w p place last owed owed' k f (inr (inl a)) = f a
@@ -80,7 +105,7 @@ longer h more w s cs l =
       within = omega (arith, l.within, length-append h more);
       agrees = λ k. agrees_longer h more w s.plan s.place s.last cs k (noted_at k s.noted) l.within (l.agrees k);
       first = λ k n. no_turn_longer h more w s.plan s.place s.last s.owed k l.begun l.behind l.within (l.first k n);
-      never = l.never;
+      lines = lines_longer s.plan.shape h more w.places s.last cs l.lines;
     }
 
 enqueue : (h : List Entry) (w : Wanted) (s : Slot) (cs : List Came) → s.last < length h → LawfulCommand h w s cs → LawfulCommand h w (enqueued s) cs
@@ -92,21 +117,21 @@ enqueue h w s cs more l =
       within = omega (arith, more);
       agrees = λ k. agrees_later h w s.plan s.place s.last cs k (noted_at k s.noted) (l.agrees k);
       first = λ k n. no_turn_later h w s.plan s.place s.last s.owed k l.behind more (l.first k n);
-      never = never_later s.last (s.last + 1) cs (omega arith) l.never;
+      lines = lines_later s.plan.shape h w.places s.last (s.last + 1) cs (omega arith) l.lines;
     }
 
 -- what is owed besides this key stays owed
 abbrev Leaves : List Entry → Plan → List ℕ → ℕ → Type 0
 Leaves h p k owed =
-    (j : List ℕ) → text_eq k j ≡ false → has_key (last_of owed (map (λ (x : Keyed). x.key) (keyed p h p.base))) j ≡ true → has_key (last_of (owed - 1) (map (λ (x : Keyed). x.key) (keyed p h p.base))) j ≡ true
+    (j : List ℕ) → text_eq k j ≡ false → has_key (last_of owed (map (λ (x : KeyedRow). x.key) (keyed p.shape h p.base))) j ≡ true → has_key (last_of (owed - 1) (map (λ (x : KeyedRow). x.key) (keyed p.shape h p.base))) j ≡ true
 
 -- a key had its turn, where the client then has the item's row and no other key is touched
-turn_of : (h : List Entry) (w : Wanted) (s : Slot) (cs ds : List Came) (k : List ℕ) → LawfulCommand h w s cs → Leaves h s.plan k s.owed → NeverFall s.last ds
-    → table_at (schema_of w s.plan) k (whats ds) ≡ projected_row w.places (row_at k (keyed s.plan h s.last))
+turn_of : (h : List Entry) (w : Wanted) (s : Slot) (cs ds : List Came) (k : List ℕ) → LawfulCommand h w s cs → Leaves h s.plan k s.owed → KeyLines s.plan.shape h w.places s.last ds
+    → table_at (schema_of w s.plan) k (whats ds) ≡ projected_row w.places (row_at k (keyed s.plan.shape h s.last))
     → ((j : List ℕ) → text_eq k j ≡ false → table_at (schema_of w s.plan) j (whats ds) ≡ table_at (schema_of w s.plan) j (whats cs))
     → LawfulCommand h w (record s { owed = s.owed - 1; noted = record { key = k; place = s.last } ∷ s.noted }) ds
-turn_of h w s cs ds k l leaves never here other =
-    record { sound = l.sound; begun = l.begun; behind = l.behind; within = l.within; agrees = λ j. by_test j (text_eq k j) refl; first = λ j n. first_by j (text_eq k j) refl n; never = never }
+turn_of h w s cs ds k l leaves lines here other =
+    record { sound = l.sound; begun = l.begun; behind = l.behind; within = l.within; agrees = λ j. by_test j (text_eq k j) refl; first = λ j n. first_by j (text_eq k j) refl n; lines = lines }
   where
     first_by : (j : List ℕ) (b : Bool) → text_eq k j ≡ b → cond b (Some s.last) (noted_at j s.noted) ≡ None → NoTurn h w s.plan s.place s.last (s.owed - 1) j
     first_by j true t n = absurd (let x : Some s.last ≡ None = n in cc)
@@ -116,41 +141,57 @@ turn_of h w s cs ds k l leaves never here other =
     by_test j true t = subst (λ (x : List ℕ). AgreesAt h w s.plan s.place s.last ds x (Some s.last)) (text_eq_true k j t) (l.behind, omega arith, here)
     by_test j false t = agrees_same h w s.plan s.place s.last cs ds j (noted_at j s.noted) (other j t) (l.agrees j)
 
+-- a line that tells a key adds to the lines
+row_line : (h : List Entry) (w : Wanted) (s : Slot) (cs : List Came) (k : List ℕ) (r : List Value) (o : Option (List Value)) → LawfulCommand h w s cs → row_at k (keyed s.plan.shape h s.last) ≡ o → KeyTold (schema_of w s.plan) w.places k o r
+    → KeyLines s.plan.shape h w.places s.last (record { what = Row r; before = s.place; upto = s.last; at = s.last } ∷ cs)
+row_line h w s cs k r o l row says = (
+  omega arith,
+  record {
+    reached = omega arith;
+    within = l.within;
+    rows = λ x is. (refl, record { within = l.within; key = k; told = subst (λ y. KeyTold (schema_of w s.plan) w.places k y x) (sym row) (subst (λ y. KeyTold (schema_of w s.plan) w.places k o y) (same x is) says) });
+  },
+  l.lines,
+)
+  where
+    same : (x : List Value) → Row r ≡ Row x → r ≡ x
+    same x is = cc
+
 -- a line that tells the key's row
-told_row : (h : List Entry) (w : Wanted) (s : Slot) (cs : List Came) (k word : List ℕ) (r : List Value) → LawfulCommand h w s cs → Leaves h s.plan k s.owed → row_at k (keyed s.plan h s.last) ≡ Some r → IfRow s.plan k (Some r) → text_eq word (codes "DELETE") ≡ false
+told_row : (h : List Entry) (w : Wanted) (s : Slot) (cs : List Came) (k word : List ℕ) (r : List Value) → LawfulCommand h w s cs → Leaves h s.plan k s.owed → row_at k (keyed s.plan.shape h s.last) ≡ Some r → IfRow s.plan k (Some r) → text_eq word (codes "DELETE") ≡ false → KeyTold (schema_of w s.plan) w.places k (Some r) (with_word (schema_of w s.plan) word (projected r w.places))
     → LawfulCommand h w (record s { owed = s.owed - 1; noted = record { key = k; place = s.last } ∷ s.noted }) (record { what = Row (with_word (schema_of w s.plan) word (projected r w.places)); before = s.place; upto = s.last; at = s.last } ∷ cs)
-told_row h w s cs k word r l leaves row good other =
+told_row h w s cs k word r l leaves row good other says =
     let at = word_key s.plan w k word r l.sound good in
-    turn_of h w s cs (record { what = Row (with_word (schema_of w s.plan) word (projected r w.places)); before = s.place; upto = s.last; at = s.last } ∷ cs) k l leaves (omega arith, omega arith, l.never)
+    turn_of h w s cs (record { what = Row (with_word (schema_of w s.plan) word (projected r w.places)); before = s.place; upto = s.last; at = s.last } ∷ cs) k l leaves (row_line h w s cs k (with_word (schema_of w s.plan) word (projected r w.places)) (Some r) l row says)
     (table_self (schema_of w s.plan) k (with_word (schema_of w s.plan) word (projected r w.places)) (table_at (schema_of w s.plan) k (whats cs)) at
     ∙ word_kept s.plan w k word r l.sound good other ∙ sym (ap (projected_row w.places) row))
     (λ j t. table_other (schema_of w s.plan) k j (with_word (schema_of w s.plan) word (projected r w.places)) (table_at (schema_of w s.plan) j (whats cs)) at t)
 
 -- the client's row and the item's at the key, by cases
-told : (h : List Entry) (w : Wanted) (s : Slot) (cs : List Came) (k : List ℕ) (a b : Option (List Value)) → LawfulCommand h w s cs → Leaves h s.plan k s.owed → table_at (schema_of w s.plan) k (whats cs) ≡ a → row_at k (keyed s.plan h s.last) ≡ b → IfRow s.plan k b
-    → AfterCut LawfulCommand h w s cs (taken.Key k (row_at k (keyed s.plan h s.last)) s.last) (key_told (schema_of w s.plan) (length w.places) k a (projected_row w.places b))
-told h w s cs k None None l leaves has row good = turn_of h w s cs cs k l leaves l.never (has ∙ sym (ap (projected_row w.places) row)) (λ j t. refl)
-told h w s cs k None (Some r) l leaves has row good = told_row h w s cs k (codes "ADD") r l leaves row good refl
+told : (h : List Entry) (w : Wanted) (s : Slot) (cs : List Came) (k : List ℕ) (a b : Option (List Value)) → LawfulCommand h w s cs → Leaves h s.plan k s.owed → table_at (schema_of w s.plan) k (whats cs) ≡ a → row_at k (keyed s.plan.shape h s.last) ≡ b → IfRow s.plan k b
+    → AfterCut LawfulCommand h w s cs (taken.Key k (row_at k (keyed s.plan.shape h s.last)) s.last) (key_told (schema_of w s.plan) (length w.places) k a (projected_row w.places b))
+told h w s cs k None None l leaves has row good = turn_of h w s cs cs k l leaves l.lines (has ∙ sym (ap (projected_row w.places) row)) (λ j t. refl)
+told h w s cs k None (Some r) l leaves has row good = told_row h w s cs k (codes "ADD") r l leaves row good refl (inl refl)
 told h w s cs k (Some old) None l leaves has row good =
     let at = delete_key s.plan w k l.sound in
-    turn_of h w s cs (record { what = Row (delete_row (schema_of w s.plan) (length w.places) k); before = s.place; upto = s.last; at = s.last } ∷ cs) k l leaves (omega arith, omega arith, l.never)
+    turn_of h w s cs (record { what = Row (delete_row (schema_of w s.plan) (length w.places) k); before = s.place; upto = s.last; at = s.last } ∷ cs) k l leaves (row_line h w s cs k (delete_row (schema_of w s.plan) (length w.places) k) None l row refl)
     (table_self (schema_of w s.plan) k (delete_row (schema_of w s.plan) (length w.places) k) (table_at (schema_of w s.plan) k (whats cs)) at
     ∙ delete_kept s.plan w k l.sound ∙ sym (ap (projected_row w.places) row))
     (λ j t. table_other (schema_of w s.plan) k j (delete_row (schema_of w s.plan) (length w.places) k) (table_at (schema_of w s.plan) j (whats cs)) at t)
 told h w s cs k (Some old) (Some r) l leaves has row good = by_test (row_eq old (projected r w.places)) refl
   where
     by_test : (b : Bool) → row_eq old (projected r w.places) ≡ b
-        → AfterCut LawfulCommand h w s cs (taken.Key k (row_at k (keyed s.plan h s.last)) s.last) (cond b None (Some (Row (with_word (schema_of w s.plan) (codes "UPDATE") (projected r w.places)))))
-    by_test true t = turn_of h w s cs cs k l leaves l.never (has ∙ ap Some (row_eq_true old (projected r w.places) t) ∙ sym (ap (projected_row w.places) row)) (λ j u. refl)
-    by_test false t = told_row h w s cs k (codes "UPDATE") r l leaves row good refl
+        → AfterCut LawfulCommand h w s cs (taken.Key k (row_at k (keyed s.plan.shape h s.last)) s.last) (cond b None (Some (Row (with_word (schema_of w s.plan) (codes "UPDATE") (projected r w.places)))))
+    by_test true t = turn_of h w s cs cs k l leaves l.lines (has ∙ ap Some (row_eq_true old (projected r w.places) t) ∙ sym (ap (projected_row w.places) row)) (λ j u. refl)
+    by_test false t = told_row h w s cs k (codes "UPDATE") r l leaves row good refl (inr refl)
 
 pass_key : (h : List Entry) (w : Wanted) (s : Slot) (cs : List Came) (t : Taken) (k : List ℕ) → Some (key_taken h s k) ≡ Some t → Leaves h s.plan k s.owed → LawfulCommand h w s cs → AfterCut LawfulCommand h w s cs t (accepted w s cs t)
 pass_key h w s cs t k is leaves l =
-    by_cut LawfulCommand h w s cs (taken.Key k (row_at k (keyed s.plan h s.last)) s.last) t is
-    (told h w s cs k (table_at (schema_of w s.plan) k (whats cs)) (row_at k (keyed s.plan h s.last)) l leaves refl refl (keyed_row s.plan w.places h s.last k l.sound))
+    by_cut LawfulCommand h w s cs (taken.Key k (row_at k (keyed s.plan.shape h s.last)) s.last) t is
+    (told h w s cs k (table_at (schema_of w s.plan) k (whats cs)) (row_at k (keyed s.plan.shape h s.last)) l leaves refl refl (keyed_row s.plan w.places h s.last k l.sound))
 
 -- the end of the snapshot
-ended : (h : List Entry) (w : Wanted) (s : Slot) (cs : List Came) (t : Taken) → ((k : List ℕ) → has_key (last_of s.owed (map (λ (x : Keyed). x.key) (keyed s.plan h s.plan.base))) k ≡ true → NoTurn h w s.plan s.place s.last 0 k)
+ended : (h : List Entry) (w : Wanted) (s : Slot) (cs : List Came) (t : Taken) → ((k : List ℕ) → has_key (last_of s.owed (map (λ (x : KeyedRow). x.key) (keyed s.plan.shape h s.plan.base))) k ≡ true → NoTurn h w s.plan s.place s.last 0 k)
     → Some taken.EndOfSnapshot ≡ Some t → LawfulCommand h w s cs → AfterCut LawfulCommand h w s cs t (accepted w s cs t)
 ended h w s cs t drops is l =
     by_cut LawfulCommand h w s cs taken.EndOfSnapshot t is
@@ -161,7 +202,7 @@ ended h w s cs t drops is l =
       within = l.within;
       agrees = λ k. agrees_same h w s.plan s.place s.last cs (record { what = End; before = s.place; upto = s.place; at = s.last } ∷ cs) k (noted_at k s.noted) refl (l.agrees k);
       first = λ k n. no_turn_owed h w s.plan s.place s.last s.owed 0 k (drops k) (l.first k n);
-      never = (omega arith, l.behind, l.never);
+      lines = (omega arith, record { reached = l.behind; within = l.within; rows = λ r e. absurd (let x : End ≡ Row r = e in cc) }, l.lines);
     })
 
 -- at a Clear no key is there
@@ -169,30 +210,30 @@ take_none : (es : List Entry) → take 0 es ≡ []
 take_none [] = refl
 take_none (e ∷ es) = refl
 
-abbrev Emptied : Plan → List Keyed → List Entry → ℕ → ℕ → Type 0
+abbrev Emptied : Shape → List KeyedRow → List Entry → ℕ → ℕ → Type 0
 Emptied p ks es n c = (m : ℕ) × (c ≡ n + m) × (keyed_after_all p ks (take m es) ≡ [])
 
-emptied_step : (p : Plan) (e : Entry) (es : List Entry) (ks : List Keyed) (o : Option ℕ) (n c : ℕ) (event : Event) → e.event ≡ event → (clear_of o (n + 1) event ≡ Some c) ⊎ Emptied p (keyed_after p ks e.event) es (n + 1) c → (o ≡ Some c) ⊎ Emptied p ks (e ∷ es) n c
+emptied_step : (p : Shape) (e : Entry) (es : List Entry) (ks : List KeyedRow) (o : Option ℕ) (n c : ℕ) (event : Event) → e.event ≡ event → (clear_of o (n + 1) event ≡ Some c) ⊎ Emptied p (keyed_after p ks e.event) es (n + 1) c → (o ≡ Some c) ⊎ Emptied p ks (e ∷ es) n c
 emptied_step p e es ks o n c event is (inr (m, at, empty)) = inr (suc m, omega (arith, at), empty)
 emptied_step p e es ks o n c (Update cells) is (inl same) = inl same
 emptied_step p e es ks o n c Clear is (inl same) =
     let at : n + 1 ≡ c = ap (λ x. unwrap_or x c) same in
     inr (suc 0, omega (arith, at), ap (keyed_after_all p (keyed_after p ks e.event)) (take_none es) ∙ ap (keyed_after p ks) is)
 
-emptied : (p : Plan) (es : List Entry) (ks : List Keyed) (o : Option ℕ) (n c : ℕ) → clear_from o n es ≡ Some c → (o ≡ Some c) ⊎ Emptied p ks es n c
+emptied : (p : Shape) (es : List Entry) (ks : List KeyedRow) (o : Option ℕ) (n c : ℕ) → clear_from o n es ≡ Some c → (o ≡ Some c) ⊎ Emptied p ks es n c
 emptied p [] ks o n c is = inl is
 emptied p (e ∷ es) ks o n c is = emptied_step p e es ks o n c e.event refl (emptied p es (keyed_after p ks e.event) (clear_of o (n + 1) e.event) (n + 1) c is)
 
-after_all_append : (p : Plan) (ks : List Keyed) (xs ys : List Entry) → keyed_after_all p ks (xs ++ ys) ≡ keyed_after_all p (keyed_after_all p ks xs) ys
+after_all_append : (p : Shape) (ks : List KeyedRow) (xs ys : List Entry) → keyed_after_all p ks (xs ++ ys) ≡ keyed_after_all p (keyed_after_all p ks xs) ys
 after_all_append p ks [] ys = refl
 after_all_append p ks (x ∷ xs) ys = after_all_append p (keyed_after p ks x.event) xs ys
 
-pub keyed-between : (p : Plan) (h : List Entry) (q l : ℕ) → q ≤ l → keyed p h l ≡ keyed_after_all p (keyed p h q) (between h q l)
+pub keyed-between : (p : Shape) (h : List Entry) (q l : ℕ) → q ≤ l → keyed p h l ≡ keyed_after_all p (keyed p h q) (between h q l)
 keyed-between p h q l le =
     ap (keyed_after_all p []) (sym (take-append-drop q (take l h)) ∙ ap (λ r. r ++ drop q (take l h)) (take-take q l h le))
     ∙ after_all_append p [] (take q h) (between h q l)
 
-keyed_cleared : (p : Plan) (h : List Entry) (q l c : ℕ) → q ≤ l → l ≤ length h → last_clear h q l ≡ Some c → keyed p h c ≡ []
+keyed_cleared : (p : Shape) (h : List Entry) (q l c : ℕ) → q ≤ l → l ≤ length h → last_clear h q l ≡ Some c → keyed p h c ≡ []
 keyed_cleared p h q l c le within is = by_case (emptied p (between h q l) (keyed p h q) None q c is)
   where
     by_case : (None ≡ Some c) ⊎ Emptied p (keyed p h q) (between h q l) q c → keyed p h c ≡ []
@@ -211,10 +252,10 @@ Begins x queue = (rest : List (List ℕ)) × (queue ≡ x ∷ rest)
 
 after_begins : (s : Slot) (x : List ℕ) (queue : List (List ℕ)) (n : ℕ) (event : Event) → Begins x (queue_after s (x ∷ queue) n event)
 after_begins s x queue n Clear = (queue, refl)
-after_begins s x queue n (Update cells) = by_test (nat_lt (place_of s.noted s.place (key_of s.plan cells)) n && not (has_key (x ∷ queue) (key_of s.plan cells)))
+after_begins s x queue n (Update cells) = by_test (nat_lt (place_of s.noted s.place (key_of s.plan.shape cells)) n && not (has_key (x ∷ queue) (key_of s.plan.shape cells)))
   where
-    by_test : (b : Bool) → Begins x (cond b ((x ∷ queue) ++ key_of s.plan cells ∷ []) (x ∷ queue))
-    by_test true = (queue ++ key_of s.plan cells ∷ [], refl)
+    by_test : (b : Bool) → Begins x (cond b ((x ∷ queue) ++ key_of s.plan.shape cells ∷ []) (x ∷ queue))
+    by_test true = (queue ++ key_of s.plan.shape cells ∷ [], refl)
     by_test false = (queue, refl)
 
 pub queue_begins : (s : Slot) (x : List ℕ) (queue : List (List ℕ)) (n : ℕ) (es : List Entry) → Begins x (queue_from s (x ∷ queue) n es)
@@ -226,18 +267,11 @@ queue_begins s x queue n (e ∷ es) =
 
 -- the turn of the first leaves the others that are owed
 rest_owed : (keys rest : List (List ℕ)) (x j : List ℕ) (owed : ℕ) → last_of owed keys ≡ x ∷ rest → has_key (x ∷ rest) j ≡ true → has_key rest j ≡ true → has_key (last_of (owed - 1) keys) j ≡ true
-rest_owed keys rest x j owed is all more = by_test (nat_le owed (length keys)) refl
+rest_owed keys rest x j owed is all more = by_next (keys_next keys owed x rest is)
   where
-    by_test : (b : Bool) → nat_le owed (length keys) ≡ b → has_key (last_of (owed - 1) keys) j ≡ true
-    by_test true t =
-        let few : owed ≤ length keys = leb-true owed (length keys) t in
-        let long : suc (length rest) ≡ owed = sym (ap length is) ∙ last_of_length owed keys ∙ omega (arith, few) in
-        let e : last_of (owed - 1) keys ≡ rest
-        = ap (λ n. drop n keys) {x = length keys - (owed - 1)} {y = length keys - owed + 1} (omega (arith, few, long)) ∙ sym (drop-drop 1 (length keys - owed) keys) ∙ ap (drop 1) is in
-        ap (λ ks. has_key ks j) e ∙ more
-    by_test false t =
-        let many : length keys < owed = leb-false owed (length keys) t in
-        ap (λ n. has_key (drop n keys) j) {x = length keys - (owed - 1)} {y = length keys - owed} (omega (arith, many)) ∙ ap (λ ks. has_key ks j) is ∙ all
+    by_next : (last_of (owed - 1) keys ≡ rest) ⊎ (last_of (owed - 1) keys ≡ x ∷ rest) → has_key (last_of (owed - 1) keys) j ≡ true
+    by_next (inl e) = ap (λ ks. has_key ks j) e ∙ more
+    by_next (inr e) = ap (λ ks. has_key ks j) e ∙ all
 
 leaves : (s : Slot) (keys queue : List (List ℕ)) (n : ℕ) (es : List Entry) (k j : List ℕ) (owed : ℕ) → last_of owed keys ≡ queue → slice_get (queue_from s queue n es) 0 ≡ Some k → text_eq k j ≡ false → has_key queue j ≡ true → has_key (last_of (owed - 1) keys) j ≡ true
 leaves s keys [] n es k j owed is head other has = absurd (let x : false ≡ true = has in cc)
@@ -261,25 +295,25 @@ pass_clear h w s cs t n false found is l =
       behind = c.reached;
       within = l.within;
       agrees = λ k. refl;
-      first = λ k a. inr (inr (inl (ap (row_at k) (keyed_cleared s.plan h s.place s.last n l.behind l.within found))));
-      never = (omega arith, c.reached, l.never);
+      first = λ k a. inr (inr (inl (ap (row_at k) (keyed_cleared s.plan.shape h s.place s.last n l.behind l.within found))));
+      lines = (omega arith, record { reached = c.reached; within = l.within; rows = λ r e. absurd (let x : Cleared ≡ Row r = e in cc) }, l.lines);
     })
 
 pass_head : (h : List Entry) (w : Wanted) (s : Slot) (cs : List Came) (t : Taken) (o : Option (List ℕ)) → last_clear h s.place s.last ≡ None → slice_get (command_queue h s) 0 ≡ o → option_map (key_taken h s) o ≡ Some t → LawfulCommand h w s cs
     → AfterCut LawfulCommand h w s cs t (accepted w s cs t)
 pass_head h w s cs t None none head is l = no_cut t is
 pass_head h w s cs t (Some k) none head is l =
-    let e : owed_keys h s ≡ last_of s.owed (map (λ (x : Keyed). x.key) (keyed s.plan h s.plan.base))
-    = ap (λ (c : Option ℕ). cond (is_some c) [] (last_of s.owed (map (λ (x : Keyed). x.key) (keyed s.plan h s.plan.base)))) none in
+    let e : owed_keys h s ≡ last_of s.owed (map (λ (x : KeyedRow). x.key) (keyed s.plan.shape h s.plan.base))
+    = ap (λ (c : Option ℕ). cond (is_some c) [] (last_of s.owed (map (λ (x : KeyedRow). x.key) (keyed s.plan.shape h s.plan.base)))) none in
     pass_key h w s cs t k is
-    (λ j other has. leaves s (map (λ (x : Keyed). x.key) (keyed s.plan h s.plan.base)) (last_of s.owed (map (λ (x : Keyed). x.key) (keyed s.plan h s.plan.base)))
+    (λ j other has. leaves s (map (λ (x : KeyedRow). x.key) (keyed s.plan.shape h s.plan.base)) (last_of s.owed (map (λ (x : KeyedRow). x.key) (keyed s.plan.shape h s.plan.base)))
     (clear_or h s.place s.last) (between h (clear_or h s.place s.last) s.last) k j s.owed refl (ap (λ q. slice_get (queue_since h s q) 0) (sym e) ∙ head) other has) l
 
 pass_quiet : (h : List Entry) (w : Wanted) (s : Slot) (cs : List Came) (t : Taken) (b : Bool) → (s.ends && (s.owed == 0)) ≡ b → last_clear h s.place s.last ≡ None
     → cond b (Some taken.EndOfSnapshot) (option_map (key_taken h s) (slice_get (command_queue h s) 0)) ≡ Some t → LawfulCommand h w s cs → AfterCut LawfulCommand h w s cs t (accepted w s cs t)
 pass_quiet h w s cs t true over none is l =
     let zero_owed : s.owed ≡ 0 = eqb-true s.owed 0 (and_right s.ends (s.owed == 0) over) in
-    ended h w s cs t (λ k a. inr (inl (ap (λ n. has_key (last_of n (map (λ (x : Keyed). x.key) (keyed s.plan h s.plan.base))) k) (sym zero_owed) ∙ a))) is l
+    ended h w s cs t (λ k a. inr (inl (ap (λ n. has_key (last_of n (map (λ (x : KeyedRow). x.key) (keyed s.plan.shape h s.plan.base))) k) (sym zero_owed) ∙ a))) is l
 pass_quiet h w s cs t false over none is l = pass_head h w s cs t (slice_get (command_queue h s) 0) none refl is l
 
 pass : (h : List Entry) (w : Wanted) (s : Slot) (cs : List Came) (t : Taken) → command_cut h s ≡ Some t → LawfulCommand h w s cs → AfterCut LawfulCommand h w s cs t (accepted w s cs t)
@@ -293,24 +327,24 @@ pub command_keeps : Keeps command_cut LawfulCommand
 command_keeps = record { longer = longer; enqueue = enqueue; pass = pass }
 
 -- a slot that joins
-row_has : (ks : List Keyed) (k : List ℕ) (r : List Value) → row_at k ks ≡ Some r → has_key (map (λ (x : Keyed). x.key) ks) k ≡ true
+row_has : (ks : List KeyedRow) (k : List ℕ) (r : List Value) → row_at k ks ≡ Some r → has_key (map (λ (x : KeyedRow). x.key) ks) k ≡ true
 row_has [] k r is = absurd (let x : None ≡ Some r = is in cc)
 row_has (x ∷ ks) k r is = by_test (text_eq x.key k) is (λ e. row_has ks k r e)
   where
-    by_test : (b : Bool) → cond b (Some x.row) (row_at k ks) ≡ Some r → (row_at k ks ≡ Some r → has_key (map (λ (x : Keyed). x.key) ks) k ≡ true) → (b || has_key (map (λ (x : Keyed). x.key) ks) k) ≡ true
+    by_test : (b : Bool) → cond b (Some x.row) (row_at k ks) ≡ Some r → (row_at k ks ≡ Some r → has_key (map (λ (x : KeyedRow). x.key) ks) k ≡ true) → (b || has_key (map (λ (x : KeyedRow). x.key) ks) k) ≡ true
     by_test true e more = refl
     by_test false e more = more e
 
-joins_first : (w : Wanted) (p : Plan) (h : List Entry) (owed : ℕ) (k : List ℕ) (o : Option (List Value)) → row_at k (keyed p h p.base) ≡ o → owed ≡ length (keyed p h p.base) → NoTurn h w p p.base p.base owed k
+joins_first : (w : Wanted) (p : Plan) (h : List Entry) (owed : ℕ) (k : List ℕ) (o : Option (List Value)) → row_at k (keyed p.shape h p.base) ≡ o → owed ≡ length (keyed p.shape h p.base) → NoTurn h w p p.base p.base owed k
 joins_first w p h owed k None is all = inr (inr (inl is))
 joins_first w p h owed k (Some r) is all =
-    let e : last_of owed (map (λ (x : Keyed). x.key) (keyed p h p.base)) ≡ map (λ (x : Keyed). x.key) (keyed p h p.base)
-    = last_of_short owed (map (λ (x : Keyed). x.key) (keyed p h p.base)) (omega (arith, all, length-map (keyed p h p.base) (λ (x : Keyed). x.key))) in
-    inr (inl (ap (λ ks. has_key ks k) e ∙ row_has (keyed p h p.base) k r is))
+    let e : last_of owed (map (λ (x : KeyedRow). x.key) (keyed p.shape h p.base)) ≡ map (λ (x : KeyedRow). x.key) (keyed p.shape h p.base)
+    = last_of_short owed (map (λ (x : KeyedRow). x.key) (keyed p.shape h p.base)) (omega (arith, all, length-map (keyed p.shape h p.base) (λ (x : KeyedRow). x.key))) in
+    inr (inl (ap (λ ks. has_key ks k) e ∙ row_has (keyed p.shape h p.base) k r is))
 
-joins_with : (places : List ℕ) (p : Plan) (h : List Entry) (o : Option ℕ) → IsKeyed p places → p.base ≡ length h → LawfulCommand h (record { places = places; snapshot = o }) (command_with p h o) []
+joins_with : (places : List ℕ) (p : Plan) (h : List Entry) (o : Option ℕ) → IsKeyed p places → p.base ≡ length h → LawfulCommand h (record { places = places; snapshot = o }) (command_joined p h o) []
 joins_with places p h None sound base =
-    record { sound = sound; begun = omega (arith, base); behind = omega (arith, base); within = omega (arith, base); agrees = λ k. refl; first = λ k n. inl (sym base, refl); never = tt }
+    record { sound = sound; begun = omega (arith, base); behind = omega (arith, base); within = omega (arith, base); agrees = λ k. refl; first = λ k n. inl (refl, refl); lines = tt }
 joins_with places p h (Some asked) sound base =
     record {
       sound = sound;
@@ -318,9 +352,9 @@ joins_with places p h (Some asked) sound base =
       behind = omega arith;
       within = omega (arith, base);
       agrees = λ k. refl;
-      first = λ k n. joins_first (record { places = places; snapshot = Some asked }) p h (length (keyed p h (length h))) k (row_at k (keyed p h p.base)) refl (ap (λ i. length (keyed p h i)) (sym base));
-      never = tt;
+      first = λ k n. joins_first (record { places = places; snapshot = Some asked }) p h (length (keyed p.shape h p.base)) k (row_at k (keyed p.shape h p.base)) refl refl;
+      lines = tt;
     }
 
-pub command_joins : (w : Wanted) (p : Plan) (h : List Entry) → IsKeyed p w.places → p.base ≡ length h → LawfulCommand h w (command_with p h w.snapshot) []
+pub command_joins : (w : Wanted) (p : Plan) (h : List Entry) → IsKeyed p w.places → p.base ≡ length h → LawfulCommand h w (command_joined p h w.snapshot) []
 command_joins w p h sound base = joins_with w.places p h w.snapshot sound base

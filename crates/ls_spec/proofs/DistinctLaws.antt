@@ -15,7 +15,8 @@ use Rattle.ls_event.proofs.Cuts.{between-append}
 use Rattle.ls_event.proofs.UpdatesBetween.{ClearIn, last_clear_is, updates_between-append, last_of_length}
 use Rattle.ls_mirror.specs.Client.{What, Row, Lost, Cleared, End}
 use Rattle.ls_spec.specs.Came.{Came}
-use Rattle.ls_spec.specs.Cutting.{Wanted, Ask, plan_of, distinct_with, distinct_joined, accepted}
+use Rattle.ls_event.specs.Joining.{distinct_joined}
+use Rattle.ls_spec.specs.Cutting.{Wanted, accepted}
 use Rattle.ls_spec.specs.DistinctMode.{snapshot_rows, Stays, SnapTold, DistinctSays, IsDistinctLine, DistinctTold, SnapGoing, SnapDone, DistinctLines, LawfulDistinct}
 use Rattle.ls_spec.proofs.Keeps.{Keeps, AfterCut, by_cut, no_cut}
 use Rattle.ls_spec.proofs.Updates.{Reached, reached}
@@ -256,9 +257,9 @@ pass h w s cs t is l = by_clear (last_clear h s.place s.last) refl is
 pub distinct_keeps : Keeps distinct_cut LawfulDistinct
 distinct_keeps = record { longer = longer; enqueue = enqueue; pass = pass }
 
-joins_with : (places : List ℕ) (p : Plan) (h : List Entry) (o : Option ℕ) → p.base ≡ length h → 0 < p.size → LawfulDistinct h (record { places = places; snapshot = o }) (distinct_with p h o) []
+joins_with : (places : List ℕ) (p : Plan) (h : List Entry) (o : Option ℕ) → p.base ≡ length h → 0 < p.size → LawfulDistinct h (record { places = places; snapshot = o }) (distinct_joined p h o) []
 joins_with places p h None base some =
-    record { some = some; begun = omega (arith, base); behind = omega (arith, base); within = omega (arith, base); lines = (refl, sym base) }
+    record { some = some; begun = omega (arith, base); behind = omega (arith, base); within = omega (arith, base); lines = (refl, refl) }
 joins_with places p h (Some asked) base some =
     record {
       some = some;
@@ -267,10 +268,10 @@ joins_with places p h (Some asked) base some =
       within = omega (arith, base);
       lines = record {
         stays = refl;
-        rest = omega (arith, ap (λ i. length (snapshot_rows h i asked)) base ∙ last_of_length asked (recent_rows h (length h)));
+        rest = omega (arith, last_of_length asked (recent_rows h p.base));
         told = tt;
       };
     }
 
-pub distinct_joins : (fields : ℕ) (h : List Entry) (a : Ask) → LawfulDistinct h a.wanted (distinct_joined fields h a) []
-distinct_joins fields h a = joins_with a.wanted.places (plan_of fields h a) h a.wanted.snapshot refl (omega arith)
+pub distinct_joins : (p : Plan) (h : List Entry) (w : Wanted) → p.base ≡ length h → 0 < p.size → LawfulDistinct h w (distinct_joined p h w.snapshot) []
+distinct_joins p h w base some = joins_with w.places p h w.snapshot base some

@@ -6,6 +6,7 @@ use Rattle.ls_value.specs.Values.{projected}
 use Rattle.ls_event.specs.declared.event.Entry.{Entry}
 use Rattle.ls_event.specs.declared.event.Mode.{Mode}
 use Rattle.ls_event.specs.declared.event.Mode.TheVariants as mode
+use Rattle.ls_event.specs.Shapes.{Shape}
 use Rattle.ls_event.specs.Slots.{Plan, Slot}
 use Rattle.ls_event.specs.Updates.{updates_between, recent_rows}
 use Rattle.ls_mirror.specs.Client.{What, Row, End}
@@ -122,8 +123,8 @@ had_of places p h c r (inr (inr l)) is = by_says (subst (λ (what : What). Disti
         = reached h c.before c.at (length (updates_between h c.before c.at) - p.size) u (omega (arith, low, l.reached)) l.within first in
         inl (record { within = omega (arith, l.reached, l.within); update = u; is = subst (λ (n : ℕ). updates_between h (n - 1) n ≡ u ∷ []) number at.at; row = row })
 
-pub told_distinct : (fields : ℕ) (h : List Entry) (w : Wanted) (s : Slot) (cs : List Came) → LawfulDistinct h w s cs → IsTrueOf mode.Distinct fields h w.places cs
-told_distinct fields h w s cs l =
+pub told_distinct : (p : Shape) (h : List Entry) (w : Wanted) (s : Slot) (cs : List Came) → LawfulDistinct h w s cs → IsTrueOf mode.Distinct p h w.places cs
+told_distinct p h w s cs l =
     record {
       had = λ c r in_cs is. had_of w.places s.plan h c r (each_contains (IsLine w.places s.plan h) c cs (distinct_each h w s cs l) in_cs) is;
       rise = λ newer between older late early is. leads_rise s.place newer between older late early (subst (Leads s.place) is (lines_lead w.places s.plan h w.snapshot s.place s.owed s.ends cs l.lines));

@@ -2,22 +2,25 @@
 use Rattle.std.proofs.Common.{◌≡◌, ◌==◌, ℕ, zero, suc, ◌+◌, ◌<◌, List, [], ◌∷◌, ◌++◌, length, map, refl, sym, ◌∙◌, ap, arith, subst, cond, Bool, true, false, ◌&&◌, ◌||◌, Option, Some, None, nat_lt, append-nil}
 use Rattle.std.proofs.lemmas.Bool.{ltb-true, eq-eqb, ne_eqb}
 use Rattle.std.proofs.lemmas.Bool.Decides.{nat_tests}
-use Rattle.ls_value.proofs.Rows.{and_left, and_right}
 use Rattle.ls_event.specs.declared.event.Entry.{Entry}
-use Rattle.ls_event.specs.Slots.{Slot, enqueued}
+use Rattle.ls_event.specs.declared.event.Mode.TheVariants as mode
+use Rattle.ls_event.specs.Slots.{Plan, Slot, enqueued}
 use Rattle.ls_spec.specs.Came.{Came}
-use Rattle.ls_spec.specs.Cutting.{Ask, Wanted, Turn, turn, joined, is_built}
+use Rattle.ls_event.specs.Joining.{plan_of}
+use Rattle.ls_spec.specs.Tables.{InSchema}
+use Rattle.ls_spec.specs.CommandMode.{IsKeyed}
+use Rattle.ls_spec.specs.Cutting.{Ask, Wanted, Turn, turn}
 use Rattle.ls_spec.specs.Lines.{Line, Begins, Configures, Tells, came}
-use Rattle.ls_spec.specs.World.{Item, Live, Board, Told, Round, history_of, fields_of, change, is_at, is_of, is_used, joined_all, all_declared, all_built, added, enqueue_slot, enqueue_at, enqueued_in, live_turn, turn_if, met_by, asked, given_by, taken_in}
+use Rattle.ls_spec.specs.World.{Item, Live, Board, Told, Round, history_of, shape_at, joined_slot, keys_shown, are_filtered, change, is_at, is_of, is_used, joined_all, added, enqueue_slot, enqueue_at, enqueued_in, live_turn, turn_if, met_by, asked, given_by, taken_in}
 use Rattle.ls_spec.specs.Steps.{grown}
 use Rattle.ls_spec.specs.Lawful.{Each, Apart, LawfulSlot, LawfulLive, LawfulBoard}
 use Rattle.ls_spec.proofs.Each.{each_map, each_mapped, each_append, each_both}
-use Rattle.ls_spec.proofs.Modes.{keeps, joined_fields, joins, AfterTurn, turn_keeps, turn_plan}
+use Rattle.ls_spec.proofs.Modes.{keeps, joined_plan, joins, AfterTurn, turn_keeps, turn_plan}
 
--- an item that remains: it has its fields, and its history begins with the former one
+-- an item that remains: it has its shape, and its history begins with the former one
 pub record Remains (items items' : List Item) (n : ℕ) : Type 0 where
   pub declared : n < length items'
-  pub fields : fields_of items' n ≡ fields_of items n
+  pub shape : shape_at items' n ≡ shape_at items n
   pub more : List Entry
   pub history : history_of items' n ≡ history_of items n ++ more
 
@@ -26,17 +29,17 @@ abbrev pub Later : List Item → List Item → Type 0
 Later items items' = (n : ℕ) → n < length items → Remains items items' n
 
 remains_behind : (i j : Item) (items items' : List Item) (n : ℕ) → Remains items items' n → Remains (i ∷ items) (j ∷ items') (suc n)
-remains_behind i j items items' n s = record { declared = omega (arith, s.declared); fields = s.fields; more = s.more; history = s.history }
+remains_behind i j items items' n s = record { declared = omega (arith, s.declared); shape = s.shape; more = s.more; history = s.history }
 
 remains_first : (i : Item) (items items' : List Item) → Remains (i ∷ items) (i ∷ items') zero
-remains_first i items items' = record { declared = omega arith; fields = refl; more = []; history = sym (append-nil i.history) }
+remains_first i items items' = record { declared = omega arith; shape = refl; more = []; history = sym (append-nil i.history) }
 
 remains_same : (items : List Item) (n : ℕ) → n < length items → Remains items items n
-remains_same items n l = record { declared = l; fields = refl; more = []; history = sym (append-nil (history_of items n)) }
+remains_same items n l = record { declared = l; shape = refl; more = []; history = sym (append-nil (history_of items n)) }
 
 pub later_grown : (items : List Item) (k : ℕ) (e : Entry) → Later items (change k (grown e) items)
 later_grown [] k e n l = absurd (omega (arith, l))
-later_grown (i ∷ items) zero e zero l = record { declared = l; fields = refl; more = e ∷ []; history = refl }
+later_grown (i ∷ items) zero e zero l = record { declared = l; shape = refl; more = e ∷ []; history = refl }
 later_grown (i ∷ items) zero e (suc n) l = remains_behind i (grown e i) items items n (remains_same items n (omega (arith, l)))
 later_grown (i ∷ items) (suc k) e zero l = remains_first i items (change k (grown e) items)
 later_grown (i ∷ items) (suc k) e (suc n) l = remains_behind i i items (change k (grown e) items) n (later_grown items k e n (omega (arith, l)))
@@ -51,7 +54,7 @@ live_later items items' lines later v l =
     let s = later v.item l.declared in
     record {
       declared = s.declared;
-      fields = l.fields ∙ sym s.fields;
+      shape = l.shape ∙ sym s.shape;
       told = subst (λ (h : List Entry). LawfulSlot h v.wanted v.slot (came v.sub v.place lines)) (sym s.history)
           ((keeps v.slot.plan.mode).longer (history_of items v.item) s.more v.wanted v.slot (came v.sub v.place lines) l.told);
     }
@@ -68,7 +71,7 @@ enqueue_slot_keeps items lines v l = by_test (nat_lt v.slot.last (length (histor
     by_test true t =
         record {
           declared = l.declared;
-          fields = l.fields;
+          shape = l.shape;
           told = (keeps v.slot.plan.mode).enqueue (history_of items v.item) v.wanted v.slot (came v.sub v.place lines) (ltb-true v.slot.last (length (history_of items v.item)) t) l.told;
         }
     by_test false t = l
@@ -117,7 +120,7 @@ enqueue_keeps items sub place s l =
 elsewhere : (lines : List Line) (items : List Item) (sub place : ℕ) (c : Came) (v : Live) → is_at sub place v ≡ false → LawfulLive items lines v → LawfulLive items (Tells sub place c ∷ lines) v
 elsewhere lines items sub place c v other l =
     let e : came v.sub v.place (Tells sub place c ∷ lines) ≡ came v.sub v.place lines = ap (λ (b : Bool). cond b (c ∷ came v.sub v.place lines) (came v.sub v.place lines)) other in
-    record { declared = l.declared; fields = l.fields; told = subst (λ (cs : List Came). LawfulSlot (history_of items v.item) v.wanted v.slot cs) (sym e) l.told }
+    record { declared = l.declared; shape = l.shape; told = subst (λ (cs : List Came). LawfulSlot (history_of items v.item) v.wanted v.slot cs) (sym e) l.told }
 
 eqb_self : (n : ℕ) → (n == n) ≡ true
 eqb_self n = eq-eqb n n refl
@@ -128,12 +131,12 @@ eqb_swap m n = grind (arith, nat_tests)
 is_at_swap : (v u : Live) → is_at v.sub v.place u ≡ false → is_at u.sub u.place v ≡ false
 is_at_swap v u h = rw (eqb_swap u.sub v.sub, eqb_swap u.place v.place) h
 
-here : (lines : List Line) (items : List Item) (c : Came) (v : Live) → v.item < length items → v.slot.plan.fields ≡ fields_of items v.item → LawfulSlot (history_of items v.item) v.wanted v.slot (c ∷ came v.sub v.place lines)
+here : (lines : List Line) (items : List Item) (c : Came) (v : Live) → v.item < length items → v.slot.plan.shape ≡ shape_at items v.item → LawfulSlot (history_of items v.item) v.wanted v.slot (c ∷ came v.sub v.place lines)
     → LawfulLive items (Tells v.sub v.place c ∷ lines) v
-here lines items c v declared fields l =
+here lines items c v declared shape l =
     let e : ((v.sub == v.sub) && (v.place == v.place)) ≡ true = rw (eqb_self v.sub, eqb_self v.place) in
     let f : came v.sub v.place (Tells v.sub v.place c ∷ lines) ≡ c ∷ came v.sub v.place lines = ap (λ (b : Bool). cond b (c ∷ came v.sub v.place lines) (came v.sub v.place lines)) e in
-    record { declared = declared; fields = fields; told = subst (λ (cs : List Came). LawfulSlot (history_of items v.item) v.wanted v.slot cs) (sym f) l }
+    record { declared = declared; shape = shape; told = subst (λ (cs : List Came). LawfulSlot (history_of items v.item) v.wanted v.slot cs) (sym f) l }
 
 -- the round after it was asked
 abbrev ToldIs : List Item → List Line → Option Told → List Live → Type 0
@@ -152,14 +155,14 @@ record LawfulRound (items : List Item) (lines : List Line) (slots : List Live) (
   away : (v : Live) → Each (λ u. is_at v.sub v.place u ≡ false) slots → Each (λ u. is_at v.sub v.place u ≡ false) r.kept × AwayFrom v r.told
 
 met_keeps : (items : List Item) (lines : List Line) (v : Live) (s : Slot) (o : Option Came) (vs : List Live) (r : Round)
-    → v.item < length items → s.plan.fields ≡ fields_of items v.item → AfterTurn (history_of items v.item) v.wanted (came v.sub v.place lines) s o
+    → v.item < length items → s.plan.shape ≡ shape_at items v.item → AfterTurn (history_of items v.item) v.wanted (came v.sub v.place lines) s o
     → Each (LawfulLive items lines) vs → Each (λ u. is_at v.sub v.place u ≡ false) vs → Apart vs → LawfulRound items lines vs r
     → LawfulRound items lines (v ∷ vs) (met_by (record v { slot = s }) o vs r)
-met_keeps items lines v s (Some c) vs r declared fields l each away apart rest =
-    record { kept = each; apart = apart; told = (here lines items c (record v { slot = s }) declared fields l, away); away = λ x k. (k.1, k.0) }
-met_keeps items lines v s None vs r declared fields l each away apart rest =
+met_keeps items lines v s (Some c) vs r declared shape l each away apart rest =
+    record { kept = each; apart = apart; told = (here lines items c (record v { slot = s }) declared shape l, away); away = λ x k. (k.1, k.0) }
+met_keeps items lines v s None vs r declared shape l each away apart rest =
     record {
-      kept = (record { declared = declared; fields = fields; told = l }, rest.kept);
+      kept = (record { declared = declared; shape = shape; told = l }, rest.kept);
       apart = ((rest.away v away).0, rest.apart);
       told = told_more r.told rest.told (rest.away v away).1;
       away = λ x k. ((k.0, (rest.away x k.1).0), (rest.away x k.1).1);
@@ -181,7 +184,7 @@ asked_keeps : (due : Live → Bool) (items : List Item) (lines : List Line) (vs 
 asked_keeps due items lines [] e a = record { kept = tt; apart = tt; told = tt; away = λ v k. (tt, tt) }
 asked_keeps due items lines (v ∷ vs) e a =
     met_keeps items lines v (live_turn due items lines v).slot (live_turn due items lines v).told vs (asked due items lines vs) e.0.declared
-    (ap (λ p. p.fields) (if_plan (due v) v.slot (turn (history_of items v.item) v.wanted v.slot (came v.sub v.place lines)) (turn_plan (history_of items v.item) v.wanted v.slot (came v.sub v.place lines))) ∙ e.0.fields)
+    (ap (λ (p : Plan). p.shape) (if_plan (due v) v.slot (turn (history_of items v.item) v.wanted v.slot (came v.sub v.place lines)) (turn_plan (history_of items v.item) v.wanted v.slot (came v.sub v.place lines))) ∙ e.0.shape)
     (if_keeps (due v) (history_of items v.item) v.wanted v.slot (came v.sub v.place lines) (turn (history_of items v.item) v.wanted v.slot (came v.sub v.place lines)) e.0.told (turn_keeps (history_of items v.item) v.wanted v.slot (came v.sub v.place lines) e.0.told))
     e.1 a.0 a.1 (asked_keeps due items lines vs e.1 a.1)
 
@@ -225,25 +228,31 @@ pub unused_each : (sub : ℕ) (vs : List Live) → is_used sub vs ≡ false → 
 unused_each sub [] h = tt
 unused_each sub (v ∷ vs) h = (or_left (is_of sub v) (is_used sub vs) h, unused_each sub vs (or_right (is_of sub v) (is_used sub vs) h))
 
-begun_keeps : (items : List Item) (lines : List Line) (sub n fields : ℕ) (v : Live) → is_of sub v ≡ false → LawfulLive items lines v → LawfulLive items (Configures sub ∷ Begins sub n fields ∷ lines) v
-begun_keeps items lines sub n fields v other l =
+begun_keeps : (items : List Item) (lines : List Line) (sub : ℕ) (filtered : Bool) (n fields : ℕ) (keys : Option InSchema) (v : Live) → is_of sub v ≡ false → LawfulLive items lines v → LawfulLive items (Configures sub filtered ∷ Begins sub n fields keys ∷ lines) v
+begun_keeps items lines sub filtered n fields keys v other l =
     record {
       declared = l.declared;
-      fields = l.fields;
+      shape = l.shape;
       told = subst (λ (cs : List Came). LawfulSlot (history_of items v.item) v.wanted v.slot cs) (sym (ap (λ (b : Bool). cond b [] (came v.sub v.place lines)) other)) l.told;
     }
 
-joined_keeps : (items : List Item) (free : ℕ → ℕ) (lines : List Line) (sub n fields place : ℕ) (asks : List Ask) → all_declared (length items) asks ≡ true → all_built asks ≡ true
-    → Each (LawfulLive items (Configures sub ∷ Begins sub n fields ∷ lines)) (joined_all items free sub place asks)
-joined_keeps items free lines sub n fields place [] declared built = tt
-joined_keeps items free lines sub n fields place (a ∷ asks) declared built = (
+-- what is asked of a slot that may join
+pub record MayJoin (items : List Item) (a : Ask) : Type 0 where
+  pub declared : a.item < length items
+  pub some : 0 < a.size
+  pub keys : a.mode ≡ mode.Command → IsKeyed (plan_of (shape_at items a.item) (history_of items a.item) a.mode a.size) a.wanted.places
+
+joined_keeps : (items : List Item) (free : ℕ → ℕ) (lines : List Line) (sub : ℕ) (filtered : Bool) (n fields : ℕ) (keys : Option InSchema) (place : ℕ) (asks : List Ask) → Each (MayJoin items) asks
+    → Each (LawfulLive items (Configures sub filtered ∷ Begins sub n fields keys ∷ lines)) (joined_all items free sub place asks)
+joined_keeps items free lines sub filtered n fields keys place [] may = tt
+joined_keeps items free lines sub filtered n fields keys place (a ∷ asks) may = (
   record {
-    declared = ltb-true a.item (length items) (and_left (nat_lt a.item (length items)) (all_declared (length items) asks) declared);
-    fields = joined_fields a.mode (fields_of items a.item) (history_of items a.item) a;
-    told = subst (λ (cs : List Came). LawfulSlot (history_of items a.item) a.wanted (joined (fields_of items a.item) (history_of items a.item) a) cs) (sym (ap (λ (b : Bool). cond b [] (came sub place lines)) (eqb_self sub)))
-        (joins (fields_of items a.item) (history_of items a.item) a (and_left (is_built a.mode) (all_built asks) built));
+    declared = may.0.declared;
+    shape = ap (λ (p : Plan). p.shape) (joined_plan (plan_of (shape_at items a.item) (history_of items a.item) a.mode a.size) (history_of items a.item) a.wanted.snapshot);
+    told = subst (λ (cs : List Came). LawfulSlot (history_of items a.item) a.wanted (joined_slot items a) cs) (sym (ap (λ (b : Bool). cond b [] (came sub place lines)) (eqb_self sub)))
+        (joins (plan_of (shape_at items a.item) (history_of items a.item) a.mode a.size) (history_of items a.item) a.wanted refl may.0.some may.0.keys);
   },
-  joined_keeps items free lines sub n fields (place + 1) asks (and_right (nat_lt a.item (length items)) (all_declared (length items) asks) declared) (and_right (is_built a.mode) (all_built asks) built),
+  joined_keeps items free lines sub filtered n fields keys (place + 1) asks may.1,
 )
 
 not_equal : (m n : ℕ) → m < n → (m == n) ≡ false
@@ -264,13 +273,14 @@ joined_away : (items : List Item) (free : ℕ → ℕ) (sub place : ℕ) (asks :
 joined_away items free sub place [] v h = tt
 joined_away items free sub place (a ∷ asks) v h = (and_false (v.sub == sub) (v.place == place) (eqb_swap v.sub sub ∙ h), joined_away items free sub (place + 1) asks v h)
 
-pub add_keeps : (items : List Item) (free : ℕ → ℕ) (sub fields : ℕ) (asks : List Ask) (b : Board) → is_used sub b.round ≡ false → all_declared (length items) asks ≡ true → all_built asks ≡ true → LawfulBoard items b → LawfulBoard items (added items free sub fields asks b)
-add_keeps items free sub fields asks b new declared built l =
+pub add_keeps : (items : List Item) (free : ℕ → ℕ) (sub fields : ℕ) (asks : List Ask) (b : Board) → is_used sub b.round ≡ false → Each (MayJoin items) asks → LawfulBoard items b → LawfulBoard items (added items free sub fields asks b)
+add_keeps items free sub fields asks b new may l =
     let away = unused_each sub b.round new in
     record {
       apart = apart_append b.round (joined_all items free sub 1 asks) l.apart (joined_apart items free sub 1 asks)
           (each_map (λ v. is_of sub v ≡ false) (λ v. Each (λ u. is_at v.sub v.place u ≡ false) (joined_all items free sub 1 asks)) b.round (λ v h. joined_away items free sub 1 asks v h) away);
-      slots = each_append (LawfulLive items (Configures sub ∷ Begins sub (length asks) fields ∷ b.lines)) b.round (joined_all items free sub 1 asks)
-          (each_map (λ v. (is_of sub v ≡ false) × LawfulLive items b.lines v) (LawfulLive items (Configures sub ∷ Begins sub (length asks) fields ∷ b.lines)) b.round (λ v h. begun_keeps items b.lines sub (length asks) fields v h.0 h.1) (each_both (λ v. is_of sub v ≡ false) (LawfulLive items b.lines) b.round away l.slots))
-          (joined_keeps items free b.lines sub (length asks) fields 1 asks declared built);
+      slots = each_append (LawfulLive items (added items free sub fields asks b).lines) b.round (joined_all items free sub 1 asks)
+          (each_map (λ v. (is_of sub v ≡ false) × LawfulLive items b.lines v) (LawfulLive items (added items free sub fields asks b).lines) b.round
+          (λ v h. begun_keeps items b.lines sub (are_filtered asks) (length asks) fields (keys_shown items asks) v h.0 h.1) (each_both (λ v. is_of sub v ≡ false) (LawfulLive items b.lines) b.round away l.slots))
+          (joined_keeps items free b.lines sub (are_filtered asks) (length asks) fields (keys_shown items asks) 1 asks may);
     }

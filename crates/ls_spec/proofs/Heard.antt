@@ -1,5 +1,5 @@
 -- What a client decodes by the lines of a session.
-use Rattle.std.proofs.Common.{◌≡◌, ◌==◌, ℕ, ◌<◌, ◌≤◌, ◌^◌, List, [], ◌∷◌, length, refl, sym, ◌∙◌, ap, subst, cond, Bool, true, false, ◌&&◌, Option, Some, All}
+use Rattle.std.proofs.Common.{◌≡◌, ◌==◌, ℕ, ◌<◌, ◌≤◌, ◌^◌, List, [], ◌∷◌, length, refl, sym, ◌∙◌, ap, subst, cond, Bool, true, false, ◌&&◌, Option, None, Some, All}
 use Rattle.std.proofs.lemmas.Bool.{eqb-true}
 use Rattle.std.proofs.lemmas.List.Elements.{All-nil, All-cons}
 use Rattle.ls_value.proofs.Rows.{and_left, and_right}
@@ -53,9 +53,10 @@ here_or_not sub place s p lines c hs true t e =
 
 heard_wires : (sub place : ℕ) (lines : List Line) → heard sub place (wires lines) ≡ coded (whats (came sub place lines))
 heard_wires sub place [] = refl
-heard_wires sub place (Begins s items fields ∷ lines) = started (s == sub) (heard sub place (wires lines)) (came sub place lines) (heard_wires sub place lines)
+heard_wires sub place (Begins s items fields None ∷ lines) = started (s == sub) (heard sub place (wires lines)) (came sub place lines) (heard_wires sub place lines)
+heard_wires sub place (Begins s items fields (Some at) ∷ lines) = started (s == sub) (heard sub place (wires lines)) (came sub place lines) (heard_wires sub place lines)
 heard_wires sub place (Ends s ∷ lines) = started (s == sub) (heard sub place (wires lines)) (came sub place lines) (heard_wires sub place lines)
-heard_wires sub place (Configures s ∷ lines) = heard_wires sub place lines
+heard_wires sub place (Configures s filtered ∷ lines) = heard_wires sub place lines
 heard_wires sub place (Tells s p c ∷ lines) =
     tells_heard (last_row (came s p lines)) sub place s p c.what (heard sub place (wires lines))
     ∙ here_or_not sub place s p lines c (heard sub place (wires lines)) ((s == sub) && (p == place)) refl (heard_wires sub place lines)
@@ -125,9 +126,10 @@ tells_no_message prev s p Cleared = refl
 tells_no_message prev s p End = refl
 
 no_message : (lines : List Line) (l : Line) → is_of_message (wire lines l) ≡ false
-no_message lines (Begins s items fields) = refl
+no_message lines (Begins s items fields None) = refl
+no_message lines (Begins s items fields (Some at)) = refl
 no_message lines (Ends s) = refl
-no_message lines (Configures s) = refl
+no_message lines (Configures s filtered) = refl
 no_message lines (Tells s p c) = tells_no_message (last_row (came s p lines)) s p c.what
 
 pub are_read : (lines : List Line) → CanWrite lines → AreRead (texts lines) (wires lines)

@@ -11,8 +11,10 @@ use Rattle.ls_value.proofs.Rows.{applied_length, text_eq_true, text_eq_same}
 use Rattle.ls_event.specs.declared.event.Event.{Event}
 use Rattle.ls_event.specs.declared.event.Event.TheVariants.{Update, Clear}
 use Rattle.ls_event.specs.declared.event.Entry.{Entry}
+use Rattle.ls_event.specs.declared.snapshot.KeyedRow.{KeyedRow}
+use Rattle.ls_event.specs.Shapes.{Shape}
 use Rattle.ls_event.specs.Slots.{Plan}
-use Rattle.ls_event.specs.Keyed.{Keyed, is_before, text_of, key_of, deletes, row_at, with_row, without, row_with, keyed_after, keyed_after_all, keyed}
+use Rattle.ls_event.specs.Keyed.{is_before, text_of, key_of, deletes, row_at, with_row, without, row_with, keyed_after, keyed_after_all, keyed}
 use Rattle.ls_mirror.specs.Client.{Row}
 use Rattle.ls_spec.specs.Tables.{InSchema, place_in, text_in, kept_of, table_or, with_word, delete_row}
 use Rattle.ls_spec.specs.Cutting.{Wanted, schema_of}
@@ -30,23 +32,23 @@ place_is field (p ∷ places) within = by_test (p == field) refl within (λ l. p
     by_test false e l more =
         ap (λ n. get_or (p ∷ places) n 0) {x = place_in field places + 1} {y = suc (place_in field places)} (omega arith) ∙ more (omega (arith, l))
 
-apart_in : (p : Plan) (places : List ℕ) → IsKeyed p places → place_in p.key places ≡ place_in p.command places → ⊥
-apart_in p places i e = i.apart (sym (place_is p.key places i.key_shown) ∙ ap (λ n. get_or places n 0) e ∙ place_is p.command places i.command_shown)
+apart_in : (p : Plan) (places : List ℕ) → IsKeyed p places → place_in p.shape.key places ≡ place_in p.shape.command places → ⊥
+apart_in p places i e = i.apart (sym (place_is p.shape.key places i.key_shown) ∙ ap (λ n. get_or places n 0) e ∙ place_is p.shape.command places i.command_shown)
 
 -- the row of a key names the key and no command
 pub record IsRowOf (p : Plan) (k : List ℕ) (r : List Value) : Type 0 where
-  pub long : length r ≡ p.fields
-  pub key : text_in (value_at r p.key) ≡ k
-  pub command : value_at r p.command ≡ value.Null
+  pub long : length r ≡ p.shape.fields
+  pub key : text_in (value_at r p.shape.key) ≡ k
+  pub command : value_at r p.shape.command ≡ value.Null
 
 abbrev pub IfRow : Plan → List ℕ → Option (List Value) → Type 0
 IfRow p k None = Unit {0}
 IfRow p k (Some r) = IsRowOf p k r
 
-abbrev Rows : Plan → List Keyed → Type 0
-Rows p ks = Each (λ (x : Keyed). IsRowOf p x.key x.row) ks
+abbrev Rows : Plan → List KeyedRow → Type 0
+Rows p ks = Each (λ (x : KeyedRow). IsRowOf p x.key x.row) ks
 
-row_is : (p : Plan) (k : List ℕ) (ks : List Keyed) → Rows p ks → IfRow p k (row_at k ks)
+row_is : (p : Plan) (k : List ℕ) (ks : List KeyedRow) → Rows p ks → IfRow p k (row_at k ks)
 row_is p k [] e = tt
 row_is p k (x ∷ ks) e = by_test (text_eq x.key k) refl (row_is p k ks e.1)
   where
@@ -54,7 +56,7 @@ row_is p k (x ∷ ks) e = by_test (text_eq x.key k) refl (row_is p k ks e.1)
     by_test true t more = subst (λ (y : List ℕ). IsRowOf p y x.row) (text_eq_true x.key k t) e.0
     by_test false t more = more
 
-with_rows : (p : Plan) (k : List ℕ) (r : List Value) (ks : List Keyed) → IsRowOf p k r → Rows p ks → Rows p (with_row k r ks)
+with_rows : (p : Plan) (k : List ℕ) (r : List Value) (ks : List KeyedRow) → IsRowOf p k r → Rows p ks → Rows p (with_row k r ks)
 with_rows p k r [] i e = (i, tt)
 with_rows p k r (x ∷ ks) i e = by_test (text_eq x.key k) (is_before k x.key) (with_rows p k r ks i e.1)
   where
@@ -63,7 +65,7 @@ with_rows p k r (x ∷ ks) i e = by_test (text_eq x.key k) (is_before k x.key) (
     by_test false true more = (i, e)
     by_test false false more = (e.0, more)
 
-without_rows : (p : Plan) (k : List ℕ) (ks : List Keyed) → Rows p ks → Rows p (without k ks)
+without_rows : (p : Plan) (k : List ℕ) (ks : List KeyedRow) → Rows p ks → Rows p (without k ks)
 without_rows p k [] e = tt
 without_rows p k (x ∷ ks) e = by_test (text_eq x.key k) (without_rows p k ks e.1)
   where
@@ -93,41 +95,41 @@ nulls_at zero i = refl
 nulls_at (suc n) zero = refl
 nulls_at (suc n) (suc i) = nulls_at n i
 
-base_long : (p : Plan) (k : List ℕ) (o : Option (List Value)) → IfRow p k o → length (unwrap_or o (nulls p.fields)) ≡ p.fields
-base_long p k None i = length-replicate p.fields value.Null
+base_long : (p : Plan) (k : List ℕ) (o : Option (List Value)) → IfRow p k o → length (unwrap_or o (nulls p.shape.fields)) ≡ p.shape.fields
+base_long p k None i = length-replicate p.shape.fields value.Null
 base_long p k (Some r) i = i.long
 
-base_key : (p : Plan) (cells : List Cell) (o : Option (List Value)) → IfRow p (key_of p cells) o → text_in (kept_or_taken (value_at (unwrap_or o (nulls p.fields)) p.key) (cell_at cells p.key)) ≡ key_of p cells
-base_key p cells None i = null_key (value_at (nulls p.fields) p.key) (cell_at cells p.key) (nulls_at p.fields p.key)
-base_key p cells (Some r) i = text_taken (value_at r p.key) (cell_at cells p.key) i.key
+base_key : (p : Plan) (cells : List Cell) (o : Option (List Value)) → IfRow p (key_of p.shape cells) o → text_in (kept_or_taken (value_at (unwrap_or o (nulls p.shape.fields)) p.shape.key) (cell_at cells p.shape.key)) ≡ key_of p.shape cells
+base_key p cells None i = null_key (value_at (nulls p.shape.fields) p.shape.key) (cell_at cells p.shape.key) (nulls_at p.shape.fields p.shape.key)
+base_key p cells (Some r) i = text_taken (value_at r p.shape.key) (cell_at cells p.shape.key) i.key
 
-row_made : (p : Plan) (places : List ℕ) (cells : List Cell) (o : Option (List Value)) → IsKeyed p places → IfRow p (key_of p cells) o → IsRowOf p (key_of p cells) (row_with p o cells)
+row_made : (p : Plan) (places : List ℕ) (cells : List Cell) (o : Option (List Value)) → IsKeyed p places → IfRow p (key_of p.shape cells) o → IsRowOf p (key_of p.shape cells) (row_with p.shape o cells)
 row_made p places cells o i g =
-    let long : length (unwrap_or o (nulls p.fields)) ≡ p.fields = base_long p (key_of p cells) o g in
-    let n : length (applied (unwrap_or o (nulls p.fields)) cells) ≡ p.fields = applied_length (unwrap_or o (nulls p.fields)) cells ∙ long in
+    let long : length (unwrap_or o (nulls p.shape.fields)) ≡ p.shape.fields = base_long p (key_of p.shape cells) o g in
+    let n : length (applied (unwrap_or o (nulls p.shape.fields)) cells) ≡ p.shape.fields = applied_length (unwrap_or o (nulls p.shape.fields)) cells ∙ long in
     record {
-      long = length-set (applied (unwrap_or o (nulls p.fields)) cells) p.command value.Null ∙ n;
-      key = ap text_in (get_or-set_other (applied (unwrap_or o (nulls p.fields)) cells) p.command p.key value.Null value.Null i.apart ∙ applied_at (unwrap_or o (nulls p.fields)) cells p.key (omega (arith, i.key, long)))
+      long = length-set (applied (unwrap_or o (nulls p.shape.fields)) cells) p.shape.command value.Null ∙ n;
+      key = ap text_in (get_or-set_other (applied (unwrap_or o (nulls p.shape.fields)) cells) p.shape.command p.shape.key value.Null value.Null i.apart ∙ applied_at (unwrap_or o (nulls p.shape.fields)) cells p.shape.key (omega (arith, i.key, long)))
           ∙ base_key p cells o g;
-      command = get_or-set_same (applied (unwrap_or o (nulls p.fields)) cells) p.command value.Null value.Null (omega (arith, i.command, n));
+      command = get_or-set_same (applied (unwrap_or o (nulls p.shape.fields)) cells) p.shape.command value.Null value.Null (omega (arith, i.command, n));
     }
 
-rows_after : (p : Plan) (places : List ℕ) (ks : List Keyed) (event : Event) → IsKeyed p places → Rows p ks → Rows p (keyed_after p ks event)
-rows_after p places ks (Update cells) i e = by_test (deletes p cells)
+rows_after : (p : Plan) (places : List ℕ) (ks : List KeyedRow) (event : Event) → IsKeyed p places → Rows p ks → Rows p (keyed_after p.shape ks event)
+rows_after p places ks (Update cells) i e = by_test (deletes p.shape cells)
   where
-    by_test : (b : Bool) → Rows p (cond b (without (key_of p cells) ks) (with_row (key_of p cells) (row_with p (row_at (key_of p cells) ks) cells) ks))
-    by_test true = without_rows p (key_of p cells) ks e
-    by_test false = with_rows p (key_of p cells) (row_with p (row_at (key_of p cells) ks) cells) ks (row_made p places cells (row_at (key_of p cells) ks) i (row_is p (key_of p cells) ks e)) e
+    by_test : (b : Bool) → Rows p (cond b (without (key_of p.shape cells) ks) (with_row (key_of p.shape cells) (row_with p.shape (row_at (key_of p.shape cells) ks) cells) ks))
+    by_test true = without_rows p (key_of p.shape cells) ks e
+    by_test false = with_rows p (key_of p.shape cells) (row_with p.shape (row_at (key_of p.shape cells) ks) cells) ks (row_made p places cells (row_at (key_of p.shape cells) ks) i (row_is p (key_of p.shape cells) ks e)) e
 rows_after p places ks Clear i e = tt
 
-rows_after_all : (p : Plan) (places : List ℕ) (ks : List Keyed) (es : List Entry) → IsKeyed p places → Rows p ks → Rows p (keyed_after_all p ks es)
+rows_after_all : (p : Plan) (places : List ℕ) (ks : List KeyedRow) (es : List Entry) → IsKeyed p places → Rows p ks → Rows p (keyed_after_all p.shape ks es)
 rows_after_all p places ks [] i e = e
-rows_after_all p places ks (x ∷ es) i e = rows_after_all p places (keyed_after p ks x.event) es i (rows_after p places ks x.event i e)
+rows_after_all p places ks (x ∷ es) i e = rows_after_all p places (keyed_after p.shape ks x.event) es i (rows_after p places ks x.event i e)
 
-pub keyed_row : (p : Plan) (places : List ℕ) (h : List Entry) (n : ℕ) (k : List ℕ) → IsKeyed p places → IfRow p k (row_at k (keyed p h n))
-keyed_row p places h n k i = row_is p k (keyed p h n) (rows_after_all p places [] (take n h) i tt)
+pub keyed_row : (p : Plan) (places : List ℕ) (h : List Entry) (n : ℕ) (k : List ℕ) → IsKeyed p places → IfRow p k (row_at k (keyed p.shape h n))
+keyed_row p places h n k i = row_is p k (keyed p.shape h n) (rows_after_all p places [] (take n h) i tt)
 
-pub keyed-longer : (p : Plan) (h more : List Entry) (n : ℕ) → n ≤ length h → keyed p (h ++ more) n ≡ keyed p h n
+pub keyed-longer : (p : Shape) (h more : List Entry) (n : ℕ) → n ≤ length h → keyed p (h ++ more) n ≡ keyed p h n
 keyed-longer p h more n within = ap (keyed_after_all p []) (take-append-le n h more within)
 
 -- the client's table after a row
@@ -146,7 +148,7 @@ value_projected r (p ∷ places) (suc i) within = value_projected r places i (om
 pub word_key : (p : Plan) (w : Wanted) (k word : List ℕ) (r : List Value) → IsKeyed p w.places → IsRowOf p k r → text_in (value_at (with_word (schema_of w p) word (projected r w.places)) (schema_of w p).key) ≡ k
 word_key p w k word r i g =
     ap text_in (get_or-set_other (projected r w.places) (schema_of w p).command (schema_of w p).key (value.Text word) value.Null (apart_in p w.places i)
-    ∙ value_projected r w.places (schema_of w p).key i.key_shown ∙ ap (value_at r) (place_is p.key w.places i.key_shown))
+    ∙ value_projected r w.places (schema_of w p).key i.key_shown ∙ ap (value_at r) (place_is p.shape.key w.places i.key_shown))
     ∙ g.key
 
 pub word_kept : (p : Plan) (w : Wanted) (k word : List ℕ) (r : List Value) → IsKeyed p w.places → IsRowOf p k r → text_eq word (codes "DELETE") ≡ false → kept_of (schema_of w p) (with_word (schema_of w p) word (projected r w.places)) ≡ Some (projected r w.places)
@@ -155,7 +157,7 @@ word_kept p w k word r i g other =
     let at : value_at (with_word (schema_of w p) word (projected r w.places)) (schema_of w p).command ≡ value.Text word
     = get_or-set_same (projected r w.places) (schema_of w p).command (value.Text word) value.Null (omega (arith, i.command_shown, long)) in
     let none : value_at (projected r w.places) (schema_of w p).command ≡ value.Null
-    = value_projected r w.places (schema_of w p).command i.command_shown ∙ ap (value_at r) (place_is p.command w.places i.command_shown) ∙ g.command in
+    = value_projected r w.places (schema_of w p).command i.command_shown ∙ ap (value_at r) (place_is p.shape.command w.places i.command_shown) ∙ g.command in
     let back : set (with_word (schema_of w p) word (projected r w.places)) (schema_of w p).command value.Null ≡ projected r w.places
     = set-set (projected r w.places) (schema_of w p).command (value.Text word) value.Null ∙ ap (λ v. set (projected r w.places) (schema_of w p).command v) (sym none)
     ∙ set-get_or (projected r w.places) (schema_of w p).command value.Null in

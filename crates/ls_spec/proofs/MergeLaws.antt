@@ -14,7 +14,8 @@ use Rattle.ls_spec.specs.Came.{Came}
 use Rattle.ls_event.specs.Cuts.{touched_after_all, told_cells, flags_to, change_to, next_place, merge_cut}
 use Rattle.ls_event.proofs.Merged.{merged-append, merged-between, merged_length}
 use Rattle.ls_event.proofs.Cuts.{touched_after_all_length, told_cells_length}
-use Rattle.ls_spec.specs.Cutting.{Wanted, Ask, plan_of, merge_joined, client_row, accepted}
+use Rattle.ls_event.specs.Joining.{merge_joined}
+use Rattle.ls_spec.specs.Cutting.{Wanted, client_row, accepted}
 use Rattle.ls_spec.specs.Lawful.{MergeLines, LawfulMerge}
 use Rattle.ls_spec.proofs.Agrees.{Agrees, agrees_same, agrees_all, agrees_after_all, applied-told}
 use Rattle.ls_spec.proofs.MergeCut.{IsMergeCut, merge_cut_is}
@@ -26,7 +27,7 @@ lines_longer p w h more top [] l = tt
 lines_longer p w h more top (c ∷ cs) l = (
   l.0,
   record {
-    row = l.1.row ∙ ap (λ r. Row (projected r w.places)) (sym (merged-append p.fields h more c.upto (omega (arith, l.1.reached, l.1.within))));
+    row = l.1.row ∙ ap (λ r. Row (projected r w.places)) (sym (merged-append p.shape.fields h more c.upto (omega (arith, l.1.reached, l.1.within))));
     reached = l.1.reached;
     recent = l.1.recent;
     within = omega (arith, l.1.within, length-append h more);
@@ -46,7 +47,7 @@ longer h more w s cs l =
       behind = l.behind;
       within = omega (arith, l.within, length-append h more);
       before = l.before;
-      row = λ g. l.row g ∙ ap (λ r. projected r w.places) (sym (merged-append s.plan.fields h more s.place (omega (arith, l.behind, l.within))));
+      row = λ g. l.row g ∙ ap (λ r. projected r w.places) (sym (merged-append s.plan.shape.fields h more s.place (omega (arith, l.behind, l.within))));
       lines = lines_longer s.plan w h more (s.place + 1) cs l.lines;
     }
 
@@ -101,14 +102,14 @@ row_by fields given places h p q cs le st =
     ∙ ap (λ r. projected r places) (applied-told (touched_after_all (replicate fields (not given)) (between h p q)) st.row (merged fields h q) f)
 
 next_row : (h : List Entry) (w : Wanted) (s : Slot) (cs : List Came) → LawfulMerge h w s cs
-    → applied (client_row (length w.places) cs) (projected_cells (told_cells (flags_to h s (next_place s)) (merged s.plan.fields h (next_place s))) w.places) ≡ projected (merged s.plan.fields h (next_place s)) w.places
-next_row h w s cs l = row_by s.plan.fields s.given w.places h s.place (next_place s) cs (omega arith) (starts s.plan.fields s.given w.places h s.place cs l.before l.row)
+    → applied (client_row (length w.places) cs) (projected_cells (told_cells (flags_to h s (next_place s)) (merged s.plan.shape.fields h (next_place s))) w.places) ≡ projected (merged s.plan.shape.fields h (next_place s)) w.places
+next_row h w s cs l = row_by s.plan.shape.fields s.given w.places h s.place (next_place s) cs (omega arith) (starts s.plan.shape.fields s.given w.places h s.place cs l.before l.row)
 
 -- the next place is no further than the last number
 pub next_within : (s : Slot) → 0 < s.plan.size → s.place < s.last → next_place s ≤ s.last
 next_within s some behind = omega (arith, some, behind)
 
-passed_by : (h : List Entry) (w : Wanted) (s : Slot) (cs : List Came) (old new : List Value) (v : Bool) → (s.given && row_eq old new) ≡ v → old ≡ client_row (length w.places) cs → new ≡ projected (merged s.plan.fields h (next_place s)) w.places → s.place < s.last → LawfulMerge h w s cs
+passed_by : (h : List Entry) (w : Wanted) (s : Slot) (cs : List Came) (old new : List Value) (v : Bool) → (s.given && row_eq old new) ≡ v → old ≡ client_row (length w.places) cs → new ≡ projected (merged s.plan.shape.fields h (next_place s)) w.places → s.place < s.last → LawfulMerge h w s cs
     → AfterCut LawfulMerge h w s cs (change_to h s (next_place s)) (cond v None (Some (Row new)))
 passed_by h w s cs old new true t has row behind l =
     record {
@@ -137,16 +138,16 @@ pass : (h : List Entry) (w : Wanted) (s : Slot) (cs : List Came) (t : Taken) →
 pass h w s cs t is l =
     let c : IsMergeCut h s t = merge_cut_is h s t is in
     let old : List Value = client_row (length w.places) cs in
-    let new : List Value = applied (client_row (length w.places) cs) (projected_cells (told_cells (flags_to h s (next_place s)) (merged s.plan.fields h (next_place s))) w.places) in
+    let new : List Value = applied (client_row (length w.places) cs) (projected_cells (told_cells (flags_to h s (next_place s)) (merged s.plan.shape.fields h (next_place s))) w.places) in
     subst (λ (u : Taken). AfterCut LawfulMerge h w s cs u (accepted w s cs u)) (sym c.taken)
     (passed_by h w s cs (client_row (length w.places) cs) new (s.given && row_eq (client_row (length w.places) cs) new) refl refl (next_row h w s cs l) c.behind l)
 
 pub merge_keeps : Keeps merge_cut LawfulMerge
 merge_keeps = record { longer = longer; enqueue = enqueue; pass = pass }
 
-pub merge_joins : (fields : ℕ) (h : List Entry) (a : Ask) → LawfulMerge h a.wanted (merge_joined fields h a) []
-merge_joins fields h a = by_flag (is_some a.wanted.snapshot)
+pub merge_joins : (p : Plan) (h : List Entry) (w : Wanted) → p.base ≡ length h → 0 < p.size → LawfulMerge h w (merge_joined p w.snapshot) []
+merge_joins p h w base some = by_flag (is_some w.snapshot)
   where
-    by_flag : (v : Bool) → LawfulMerge h a.wanted (fresh (plan_of fields h a) (cond v (length h - 1) (length h))) []
-    by_flag true = record { some = omega arith; behind = omega arith; within = omega arith; before = λ f. refl; row = λ t. absurd (let x : false ≡ true = t in cc); lines = tt }
-    by_flag false = record { some = omega arith; behind = omega arith; within = omega arith; before = λ f. refl; row = λ t. absurd (let x : false ≡ true = t in cc); lines = tt }
+    by_flag : (v : Bool) → LawfulMerge h w (fresh p (cond v (p.base - 1) p.base)) []
+    by_flag true = record { some = some; behind = omega arith; within = omega (arith, base); before = λ f. refl; row = λ t. absurd (let x : false ≡ true = t in cc); lines = tt }
+    by_flag false = record { some = some; behind = omega arith; within = omega (arith, base); before = λ f. refl; row = λ t. absurd (let x : false ≡ true = t in cc); lines = tt }

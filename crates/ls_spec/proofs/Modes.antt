@@ -1,5 +1,5 @@
 -- Each mode keeps what is true of its slots, and so does a turn.
-use Rattle.std.proofs.Common.{◌≡◌, ◌+◌, ℕ, zero, suc, List, [], ◌∷◌, refl, sym, ◌∙◌, subst, true, Option, Some, None}
+use Rattle.std.proofs.Common.{◌≡◌, ◌+◌, ◌<◌, ℕ, zero, suc, List, [], ◌∷◌, length, refl, sym, ◌∙◌, subst, Option, Some, None}
 use Rattle.ls_event.specs.declared.event.Entry.{Entry}
 use Rattle.ls_event.specs.declared.event.Mode.{Mode}
 use Rattle.ls_event.specs.declared.event.Mode.TheVariants as mode
@@ -9,51 +9,48 @@ use Rattle.ls_event.specs.Slots.{Plan, Slot, passed}
 use Rattle.ls_mirror.specs.Client.{What}
 use Rattle.ls_spec.specs.Came.{Came, came_by}
 use Rattle.ls_event.specs.Cuts.{cut_of, cut}
-use Rattle.ls_spec.specs.Cutting.{Wanted, Ask, Turn, is_built, plan_of, distinct_with, joined_in, joined, accepted, told_or, turned, turn_within, turn}
+use Rattle.ls_event.specs.Joining.{distinct_joined, command_joined, joined_in, joined}
+use Rattle.ls_spec.specs.Cutting.{Wanted, Turn, accepted, told_or, turned, turn_within, turn}
+use Rattle.ls_spec.specs.CommandMode.{IsKeyed}
 use Rattle.ls_spec.specs.Lawful.{LawfulOf, LawfulSlot}
 use Rattle.ls_spec.proofs.Keeps.{Keeps, AfterCut}
 use Rattle.ls_spec.proofs.MergeLaws.{merge_keeps, merge_joins}
 use Rattle.ls_spec.proofs.RawLaws.{raw_keeps, raw_joins}
 use Rattle.ls_spec.proofs.DistinctLaws.{distinct_keeps, distinct_joins}
-
--- there is no slot of a mode that isn't built
-no_slot : (cut_at : List Entry → Slot → Option Taken) → Keeps cut_at (λ h w s cs. ⊥)
-no_slot cut_at = record { longer = λ h more w s cs l. l; enqueue = λ h w s cs more l. l; pass = λ h w s cs t is l. absurd l }
+use Rattle.ls_spec.proofs.CommandLaws.{command_keeps, command_joins}
 
 pub keeps : (m : Mode) → Keeps (cut_of m) (LawfulOf m)
 keeps mode.Merge = merge_keeps
 keeps mode.Raw = raw_keeps
 keeps mode.Distinct = distinct_keeps
-keeps mode.Command = no_slot (cut_of mode.Command)
+keeps mode.Command = command_keeps
 
-with_plan : {A : Type 0} (f : Plan → A) (p : Plan) (h : List Entry) (o : Option ℕ) → f (distinct_with p h o).plan ≡ f p
-with_plan f p h None = refl
-with_plan f p h (Some asked) = refl
+-- a slot joins with its plan
+distinct_plan : (p : Plan) (h : List Entry) (o : Option ℕ) → (distinct_joined p h o).plan ≡ p
+distinct_plan p h None = refl
+distinct_plan p h (Some asked) = refl
 
--- a slot joins in its mode, with its item's fields
-pub joined_mode : (m : Mode) (fields : ℕ) (h : List Entry) (a : Ask) → (joined_in m fields h a).plan.mode ≡ a.mode
-joined_mode mode.Merge fields h a = refl
-joined_mode mode.Raw fields h a = refl
-joined_mode mode.Distinct fields h a = with_plan (λ p. p.mode) (plan_of fields h a) h a.wanted.snapshot
-joined_mode mode.Command fields h a = refl
+command_plan : (p : Plan) (h : List Entry) (o : Option ℕ) → (command_joined p h o).plan ≡ p
+command_plan p h None = refl
+command_plan p h (Some asked) = refl
 
-pub joined_fields : (m : Mode) (fields : ℕ) (h : List Entry) (a : Ask) → (joined_in m fields h a).plan.fields ≡ fields
-joined_fields mode.Merge fields h a = refl
-joined_fields mode.Raw fields h a = refl
-joined_fields mode.Distinct fields h a = with_plan (λ p. p.fields) (plan_of fields h a) h a.wanted.snapshot
-joined_fields mode.Command fields h a = refl
-
-pub joins : (fields : ℕ) (h : List Entry) (a : Ask) → is_built a.mode ≡ true → LawfulSlot h a.wanted (joined fields h a) []
-joins fields h a built = by_plan (joined_mode a.mode fields h a) (by_mode a.mode built)
+pub joined_plan : (p : Plan) (h : List Entry) (o : Option ℕ) → (joined p h o).plan ≡ p
+joined_plan p h o = by_mode p.mode
   where
-    by_mode : (m : Mode) → is_built m ≡ true → LawfulOf m h a.wanted (joined_in m fields h a) []
-    by_mode mode.Merge b = merge_joins fields h a
-    by_mode mode.Raw b = raw_joins fields h a
-    by_mode mode.Distinct b = distinct_joins fields h a
-    by_mode mode.Command b = cc
+    by_mode : (m : Mode) → (joined_in m p h o).plan ≡ p
+    by_mode mode.Merge = refl
+    by_mode mode.Raw = refl
+    by_mode mode.Distinct = distinct_plan p h o
+    by_mode mode.Command = command_plan p h o
 
-    by_plan : (joined fields h a).plan.mode ≡ a.mode → LawfulOf a.mode h a.wanted (joined fields h a) [] → LawfulSlot h a.wanted (joined fields h a) []
-    by_plan e l = subst (λ (m : Mode). LawfulOf m h a.wanted (joined fields h a) []) (sym e) l
+pub joins : (p : Plan) (h : List Entry) (w : Wanted) → p.base ≡ length h → 0 < p.size → (p.mode ≡ mode.Command → IsKeyed p w.places) → LawfulSlot h w (joined p h w.snapshot) []
+joins p h w base some keyed = subst (λ (q : Plan). LawfulOf q.mode h w (joined p h w.snapshot) []) (sym (joined_plan p h w.snapshot)) (by_mode p.mode refl)
+  where
+    by_mode : (m : Mode) → p.mode ≡ m → LawfulOf m h w (joined_in m p h w.snapshot) []
+    by_mode mode.Merge is = merge_joins p h w base some
+    by_mode mode.Raw is = raw_joins p h w base
+    by_mode mode.Distinct is = distinct_joins p h w base some
+    by_mode mode.Command is = command_joins w p h (keyed is) base
 
 -- a cut keeps the plan
 pub passed_plan : (s : Slot) (t : Taken) → (passed s t).plan ≡ s.plan

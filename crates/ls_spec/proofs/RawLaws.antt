@@ -7,13 +7,14 @@ use Rattle.ls_event.specs.declared.event.Entry.{Entry}
 use Rattle.ls_event.specs.declared.event.Taken.{Taken}
 use Rattle.ls_event.specs.declared.event.Taken.TheVariants as taken
 use Rattle.ls_event.specs.declared.updates.OwnRow.{OwnRow}
-use Rattle.ls_event.specs.Slots.{Slot, enqueued}
+use Rattle.ls_event.specs.Slots.{Plan, Slot, enqueued}
 use Rattle.ls_event.specs.Updates.{updates_between}
 use Rattle.ls_event.specs.OwnCuts.{first_of_last, raw_taken, raw_cut}
 use Rattle.ls_event.proofs.UpdatesBetween.{updates_between-append}
 use Rattle.ls_mirror.specs.Client.{What, Row, Lost}
 use Rattle.ls_spec.specs.Came.{Came}
-use Rattle.ls_spec.specs.Cutting.{Wanted, Ask, raw_joined, accepted}
+use Rattle.ls_event.specs.Joining.{raw_joined}
+use Rattle.ls_spec.specs.Cutting.{Wanted, accepted}
 use Rattle.ls_spec.specs.RawMode.{RawSays, RowsAt, IsRawLine, RawLines, LawfulRaw}
 use Rattle.ls_spec.proofs.Keeps.{Keeps, AfterCut, by_cut, no_cut}
 use Rattle.ls_spec.proofs.Updates.{Reached, reached, reached_first, updates_few}
@@ -84,5 +85,5 @@ pass h w s cs t is l = by_first (first_of_last 256 (updates_between h s.place s.
 pub raw_keeps : Keeps raw_cut LawfulRaw
 raw_keeps = record { longer = longer; enqueue = enqueue; pass = pass }
 
-pub raw_joins : (fields : ℕ) (h : List Entry) (a : Ask) → LawfulRaw h a.wanted (raw_joined fields h a) []
-raw_joins fields h a = record { begun = omega arith; behind = omega arith; within = omega arith; lines = refl }
+pub raw_joins : (p : Plan) (h : List Entry) (w : Wanted) → p.base ≡ length h → LawfulRaw h w (raw_joined p) []
+raw_joins p h w base = record { begun = omega arith; behind = omega arith; within = omega (arith, base); lines = refl }

@@ -6,6 +6,7 @@ use Rattle.ls_event.specs.declared.event.Entry.{Entry}
 use Rattle.ls_event.specs.declared.event.Mode.{Mode}
 use Rattle.ls_event.specs.declared.event.Mode.TheVariants as mode
 use Rattle.ls_event.specs.declared.updates.OwnRow.{OwnRow}
+use Rattle.ls_event.specs.Shapes.{Shape}
 use Rattle.ls_event.specs.Slots.{Slot}
 use Rattle.ls_event.specs.Updates.{updates_between}
 use Rattle.ls_event.specs.OwnCuts.{raw_taken, raw_told}
@@ -41,8 +42,8 @@ had_update places h c r l is = by_says (subst (λ (what : What). RawSays places 
         let r : Reached h c.before c.upto 0 u = reached h c.before c.upto 0 u (omega (arith, low)) l.within (ap (λ us. slice_get us 0) one) in
         record { within = l.within; update = u; is = subst (λ (n : ℕ). updates_between h (n - 1) n ≡ u ∷ []) (at u one) r.at; row = row }
 
-pub told_raw : (fields : ℕ) (h : List Entry) (w : Wanted) (s : Slot) (cs : List Came) → LawfulRaw h w s cs → IsTrueOf mode.Raw fields h w.places cs
-told_raw fields h w s cs l =
+pub told_raw : (p : Shape) (h : List Entry) (w : Wanted) (s : Slot) (cs : List Came) → LawfulRaw h w s cs → IsTrueOf mode.Raw p h w.places cs
+told_raw p h w s cs l =
     record {
       had = λ c r in_cs is. had_update w.places h c r (each_contains (IsRawLine w.places h) c cs (raw_lines_each w.places h s.plan.base s.place cs l.lines) in_cs) is;
       rise = λ newer between older late early is. raw_lines_rise w.places h s.plan.base s.place newer between older late early (subst (λ (xs : List Came). RawLines w.places h s.plan.base s.place xs) is l.lines);

@@ -9,8 +9,8 @@ use Rattle.ls_spec.proofs.Frame.{Later, board_later, take_keeps}
 pub session_later : (items items' : List Item) → Later items items' → (s : Session) → LawfulSession items s → LawfulSession items' s
 session_later items items' later s l = record { board = board_later items items' later s.board l.board; sent = l.sent; streams = l.streams }
 
-pub opened_lawful : (items : List Item) (number : ℕ) → LawfulSession items (opened number)
-opened_lawful items number = record { board = record { apart = tt; slots = tt }; sent = omega arith; streams = (omega arith, (tt, tt)) }
+pub opened_lawful : (items : List Item) (number keepalive : ℕ) → LawfulSession items (opened number keepalive)
+opened_lawful items number keepalive = record { board = record { apart = tt; slots = tt }; sent = omega arith; streams = (omega arith, (tt, tt)) }
 
 -- a step of the board that takes no line away
 pub on_board_keeps : (items : List Item) (f : Board → Board) (s : Session) → (LawfulBoard items s.board → LawfulBoard items (f s.board)) → length s.board.lines ≤ length (f s.board).lines → LawfulSession items s → LawfulSession items (on_board f s)

@@ -1,30 +1,46 @@
 -- The rows that come to a client have its schema's fields, and their texts are UTF-8 where those of the history are.
-use Rattle.std.proofs.Common.{ℕ, zero, suc, ◌+◌, List, [], ◌∷◌, length, map, take, drop, sym, subst, ◌≡◌, ◌-◌, Some, slice_get, inl, inr}
-use Rattle.std.proofs.lemmas.List.{length-map}
+use Rattle.std.proofs.Common.{◌==◌, ℕ, zero, suc, ◌+◌, List, [], ◌∷◌, length, map, take, drop, set, refl, sym, ◌∙◌, ap, subst, cond, Bool, true, false, ◌&&◌, ◌≡◌, ◌-◌, Option, None, Some, IfSome, option_map, nat_lt, slice_get, codes, inl, inr}
+use Rattle.std.specs.List.{list_all}
+use Rattle.std.specs.Str.{IsAscii, IsUtf8}
+use Rattle.std.proofs.lemmas.Bool.{ltb-true}
+use Rattle.std.proofs.lemmas.List.{length-map, length-set, length-replicate}
+use Rattle.std.proofs.lemmas.Str.{IsUtf8-from_ascii}
+use Rattle.std.proofs.lemmas.Str.Ascii.{IsAscii-nil, IsAscii-cons}
 use Rattle.ls_value.specs.declared.row.Value.{Value}
+use Rattle.ls_value.specs.declared.row.Value.TheVariants as value
 use Rattle.ls_value.specs.declared.row.Cell.{Cell}
 use Rattle.ls_value.specs.declared.row.Cell.TheVariants as cell
-use Rattle.ls_value.specs.Values.{applied, kept_or_taken, nulls, value_at, projected}
+use Rattle.ls_value.specs.Values.{applied, kept_or_taken, nulls, value_at, projected, text_eq, row_eq}
+use Rattle.ls_value.proofs.Rows.{and_left, and_right, text_eq_true}
 use Rattle.ls_update.specs.Reading.{IsTextual as IsTextualValue}
 use Rattle.ls_event.specs.declared.event.Event.{Event}
 use Rattle.ls_event.specs.declared.event.Event.TheVariants.{Update, Clear}
 use Rattle.ls_event.specs.declared.event.Entry.{Entry}
 use Rattle.ls_event.specs.declared.event.Mode.{Mode}
 use Rattle.ls_event.specs.declared.event.Mode.TheVariants as mode
+use Rattle.ls_event.specs.declared.event.Taken.{Taken}
+use Rattle.ls_event.specs.declared.event.Taken.TheVariants as taken
+use Rattle.ls_event.specs.declared.snapshot.KeyedRow.{KeyedRow}
 use Rattle.ls_event.specs.declared.updates.OwnRow.{OwnRow}
 use Rattle.ls_event.specs.History.{row_after, row_after_all, merged, between}
-use Rattle.ls_event.specs.Updates.{own_value, own_row, own_of, own_from, updates_between, clear_or, recent_rows}
-use Rattle.ls_event.specs.Slots.{Plan, Slot}
+use Rattle.ls_event.specs.Updates.{own_value, own_row, own_of, own_from, updates_between, clear_or, last_clear, recent_rows}
+use Rattle.ls_event.specs.Shapes.{Shape}
+use Rattle.ls_event.specs.Keyed.{is_before, key_of, deletes, row_at, with_row, without, row_with, keyed_after, keyed_after_all, keyed}
+use Rattle.ls_event.specs.CommandCuts.{command_queue, key_taken, command_told, command_cut}
+use Rattle.ls_event.specs.Cuts.{cut, cut_of}
+use Rattle.ls_event.specs.Slots.{Plan, Slot, passed}
 use Rattle.ls_mirror.specs.Client.{What, Row, Lost, Cleared, End}
 use Rattle.ls_spec.specs.Came.{Came, whats}
-use Rattle.ls_spec.specs.Cutting.{Wanted}
-use Rattle.ls_spec.specs.RawMode.{RawSays, RawLines}
+use Rattle.ls_spec.specs.Tables.{InSchema, text_in, kept_of, table_at, with_word, delete_row, key_told, projected_row}
+use Rattle.ls_spec.specs.Cutting.{Wanted, schema_of, accepted, told_or, turned, turn_within, turn}
+use Rattle.ls_spec.specs.RawMode.{RawSays}
 use Rattle.ls_spec.specs.DistinctMode.{DistinctSays}
-use Rattle.ls_spec.specs.Lawful.{Each, IsMergeLine, MergeLines, LawfulOf, LawfulSlot}
+use Rattle.ls_spec.specs.Lawful.{Each, IsMergeLine, LawfulOf, LawfulSlot}
 use Rattle.ls_spec.specs.Ranges.{IsTextual}
 use Rattle.ls_spec.proofs.DistinctTold.{IsLine, distinct_each}
 use Rattle.ls_spec.proofs.Each.{each_append, each_at}
 use Rattle.ls_spec.proofs.Heard.{RowFits}
+use Rattle.ls_spec.proofs.Modes.{passed_plan}
 
 -- an entry whose texts are UTF-8
 abbrev pub TextualEvent : Event → Type 0
@@ -74,11 +90,7 @@ projected_textual row (p ∷ places) h = (at_textual row p h, projected_textual 
 merge_fits : (p : Plan) (w : Wanted) (h : List Entry) (c : Came) → Textual h → IsMergeLine p w h c → RowFits (length w.places) c.what
 merge_fits p w h c t l =
     subst (λ (what : What). RowFits (length w.places) what) (sym l.row)
-    (length-map w.places (value_at (merged p.fields h c.upto)), projected_textual (merged p.fields h c.upto) w.places (after_all_textual (nulls p.fields) (take c.upto h) (nulls_textual p.fields) (take_textual c.upto h t)))
-
-merge_lines_fit : (p : Plan) (w : Wanted) (h : List Entry) (top : ℕ) (cs : List Came) → Textual h → MergeLines p w h top cs → Each (RowFits (length w.places)) (whats cs)
-merge_lines_fit p w h top [] t l = tt
-merge_lines_fit p w h top (c ∷ cs) t l = (merge_fits p w h c t l.1, merge_lines_fit p w h c.upto cs t l.2)
+    (length-map w.places (value_at (merged p.shape.fields h c.upto)), projected_textual (merged p.shape.fields h c.upto) w.places (after_all_textual (nulls p.shape.fields) (take c.upto h) (nulls_textual p.shape.fields) (take_textual c.upto h t)))
 
 -- own rows
 
@@ -119,10 +131,6 @@ raw_fits places us (Lost k) t says = tt
 raw_fits places us Cleared t says = absurd says
 raw_fits places us End t says = absurd says
 
-raw_lines_fit : (places : List ℕ) (h : List Entry) (base place : ℕ) (cs : List Came) → Textual h → RawLines places h base place cs → Each (RowFits (length places)) (whats cs)
-raw_lines_fit places h base place [] t l = tt
-raw_lines_fit places h base place (c ∷ cs) t l = (raw_fits places (updates_between h c.before c.upto) c.what (updates_textual h c.before c.upto t) l.1.says, raw_lines_fit places h base c.before cs t l.2)
-
 -- the rows of a snapshot
 abbrev RowTextual : List Value → Type 0
 RowTextual row = Each IsTextualValue row
@@ -159,16 +167,185 @@ line_fits places p h c t (inl l) =
 line_fits places p h c t (inr (inl l)) = subst (RowFits (length places)) (sym l.says) tt
 line_fits places p h c t (inr (inr l)) = distinct_fits places p.size h c c.what t l.says
 
-whats_fit : (places : List ℕ) (p : Plan) (h : List Entry) (cs : List Came) → Textual h → Each (IsLine places p h) cs → Each (RowFits (length places)) (whats cs)
-whats_fit places p h [] t l = tt
-whats_fit places p h (c ∷ cs) t l = (line_fits places p h c t l.0, whats_fit places p h cs t l.1)
+-- a text of ASCII is UTF-8
+plain_ascii : (t : List ℕ) → list_all (λ b. nat_lt b 128) t ≡ true → IsAscii t
+plain_ascii [] h = IsAscii-nil
+plain_ascii (b ∷ bs) h = IsAscii-cons b bs (ltb-true b 128 (and_left (nat_lt b 128) (list_all (λ b. nat_lt b 128) bs) h)) (plain_ascii bs (and_right (nat_lt b 128) (list_all (λ b. nat_lt b 128) bs) h))
 
--- each row that came by a lawful slot fits
-pub slot_fits : (h : List Entry) (w : Wanted) (s : Slot) (cs : List Came) → Textual h → LawfulSlot h w s cs → Each (RowFits (length w.places)) (whats cs)
-slot_fits h w s cs t l = by_mode s.plan.mode l
+pub plain_utf8 : (t : List ℕ) → list_all (λ b. nat_lt b 128) t ≡ true → IsUtf8 t
+plain_utf8 t h = IsUtf8-from_ascii t (plain_ascii t h)
+
+-- keyed rows
+set_textual : (row : List Value) (i : ℕ) (v : Value) → IsTextualValue v → Each IsTextualValue row → Each IsTextualValue (set row i v)
+set_textual [] i v t k = tt
+set_textual (x ∷ row) zero v t k = (t, k.1)
+set_textual (x ∷ row) (suc i) v t k = (k.0, set_textual row i v t k.1)
+
+abbrev KeyTextual : KeyedRow → Type 0
+KeyTextual k = Each IsTextualValue k.row
+
+row_at_textual : (key : List ℕ) (ks : List KeyedRow) → Each KeyTextual ks → IfSome (row_at key ks) (Each IsTextualValue)
+row_at_textual key [] t = tt
+row_at_textual key (k ∷ ks) t = by_test (text_eq k.key key) (row_at key ks) (row_at_textual key ks t.1)
   where
-    by_mode : (m : Mode) → LawfulOf m h w s cs → Each (RowFits (length w.places)) (whats cs)
-    by_mode mode.Merge l = merge_lines_fit s.plan w h (s.place + 1) cs t l.lines
-    by_mode mode.Raw l = raw_lines_fit w.places h s.plan.base s.place cs t l.lines
-    by_mode mode.Distinct l = whats_fit w.places s.plan h cs t (distinct_each h w s cs l)
-    by_mode mode.Command l = absurd l
+    by_test : (v : Bool) (o : Option (List Value)) → IfSome o (Each IsTextualValue) → IfSome (cond v (Some k.row) o) (Each IsTextualValue)
+    by_test true o h = t.0
+    by_test false o h = h
+
+with_row_textual : (key : List ℕ) (row : List Value) (ks : List KeyedRow) → Each IsTextualValue row → Each KeyTextual ks → Each KeyTextual (with_row key row ks)
+with_row_textual key row [] r t = (r, tt)
+with_row_textual key row (k ∷ ks) r t = by_tests (text_eq k.key key) (is_before key k.key) (with_row_textual key row ks r t.1)
+  where
+    by_tests : (v w : Bool) → Each KeyTextual (with_row key row ks)
+        → Each KeyTextual (cond v (record { key = key; row = row } ∷ ks) (cond w (record { key = key; row = row } ∷ k ∷ ks) (k ∷ with_row key row ks)))
+    by_tests true w h = (r, t.1)
+    by_tests false true h = (r, t)
+    by_tests false false h = (t.0, h)
+
+without_textual : (key : List ℕ) (ks : List KeyedRow) → Each KeyTextual ks → Each KeyTextual (without key ks)
+without_textual key [] t = tt
+without_textual key (k ∷ ks) t = by_test (text_eq k.key key) (without_textual key ks t.1)
+  where
+    by_test : (v : Bool) → Each KeyTextual (without key ks) → Each KeyTextual (cond v ks (k ∷ without key ks))
+    by_test true h = t.1
+    by_test false h = (t.0, h)
+
+row_with_textual : (p : Shape) (row : Option (List Value)) (cells : List Cell) → IfSome row (Each IsTextualValue) → Each IsTextual cells → Each IsTextualValue (row_with p row cells)
+row_with_textual p None cells r t = set_textual (applied (nulls p.fields) cells) p.command value.Null tt (applied_textual (nulls p.fields) cells (nulls_textual p.fields) t)
+row_with_textual p (Some row) cells r t = set_textual (applied row cells) p.command value.Null tt (applied_textual row cells r t)
+
+keyed_after_textual : (p : Shape) (ks : List KeyedRow) (e : Event) → TextualEvent e → Each KeyTextual ks → Each KeyTextual (keyed_after p ks e)
+keyed_after_textual p ks (Update cells) t k = by_test (deletes p cells)
+  where
+    by_test : (v : Bool) → Each KeyTextual (cond v (without (key_of p cells) ks) (with_row (key_of p cells) (row_with p (row_at (key_of p cells) ks) cells) ks))
+    by_test true = without_textual (key_of p cells) ks k
+    by_test false = with_row_textual (key_of p cells) (row_with p (row_at (key_of p cells) ks) cells) ks (row_with_textual p (row_at (key_of p cells) ks) cells (row_at_textual (key_of p cells) ks k) t) k
+keyed_after_textual p ks Clear t k = tt
+
+keyed_all_textual : (p : Shape) (ks : List KeyedRow) (es : List Entry) → Textual es → Each KeyTextual ks → Each KeyTextual (keyed_after_all p ks es)
+keyed_all_textual p ks [] t k = k
+keyed_all_textual p ks (e ∷ es) t k = keyed_all_textual p (keyed_after p ks e.event) es t.1 (keyed_after_textual p ks e.event t.0 k)
+
+-- a key that the client has is the text of a row that came
+in_textual : (v : Value) → IsTextualValue v → IsUtf8 (text_in v)
+in_textual value.Null t = plain_utf8 [] refl
+in_textual (value.Text x) t = t
+
+table_key : (at : InSchema) (n : ℕ) (k : List ℕ) (ws : List What) → Each (RowFits n) ws → IfSome (table_at at k ws) (λ row. IsUtf8 k)
+table_key at n k [] t = tt
+table_key at n k (Row r ∷ ws) t = by_test (text_eq (text_in (value_at r at.key)) k) refl (table_at at k ws) (table_key at n k ws t.1)
+  where
+    named : (o : Option (List Value)) → text_eq (text_in (value_at r at.key)) k ≡ true → IfSome o (λ row. IsUtf8 k)
+    named None e = tt
+    named (Some row) e = subst IsUtf8 (text_eq_true (text_in (value_at r at.key)) k e) (in_textual (value_at r at.key) (at_textual r at.key t.0.1))
+
+    by_test : (v : Bool) → text_eq (text_in (value_at r at.key)) k ≡ v → (o : Option (List Value)) → IfSome o (λ row. IsUtf8 k) → IfSome (cond v (kept_of at r) o) (λ row. IsUtf8 k)
+    by_test true e o h = named (kept_of at r) e
+    by_test false e o h = h
+table_key at n k (Lost m ∷ ws) t = table_key at n k ws t.1
+table_key at n k (Cleared ∷ ws) t = tt
+table_key at n k (End ∷ ws) t = table_key at n k ws t.1
+
+-- a line of mode COMMAND counts no losses, and its row fits
+abbrev pub KeyLineFits : ℕ → What → Type 0
+KeyLineFits n (Row r) = RowFits n (Row r)
+KeyLineFits n (Lost k) = ⊥
+KeyLineFits n Cleared = Unit {0}
+KeyLineFits n End = Unit {0}
+
+pub key_line : (n : ℕ) (what : What) → KeyLineFits n what → RowFits n what
+key_line n (Row r) h = h
+key_line n (Lost k) h = tt
+key_line n Cleared h = tt
+key_line n End h = tt
+
+-- the row of a key's turn
+word_fits : (at : InSchema) (n : ℕ) (word : List ℕ) (row : List Value) → IsUtf8 word → RowFits n (Row row) → RowFits n (Row (with_word at word row))
+word_fits at n word row t h = (length-set row at.command (value.Text word) ∙ h.0, set_textual row at.command (value.Text word) t h.1)
+
+delete_fits : (at : InSchema) (n : ℕ) (k : List ℕ) → IsUtf8 k → RowFits n (Row (delete_row at n k))
+delete_fits at n k t =
+    word_fits at n (codes "DELETE") (set (nulls n) at.key (value.Text k)) (plain_utf8 (codes "DELETE") refl)
+    (length-set (nulls n) at.key (value.Text k) ∙ length-replicate n value.Null, set_textual (nulls n) at.key (value.Text k) t (nulls_textual n))
+
+key_told_fits : (at : InSchema) (n : ℕ) (k : List ℕ) (old new : Option (List Value)) → IfSome old (λ row. IsUtf8 k) → IfSome new (λ row. RowFits n (Row row)) → IfSome (key_told at n k old new) (KeyLineFits n)
+key_told_fits at n k None None h t = tt
+key_told_fits at n k None (Some row) h t = word_fits at n (codes "ADD") row (plain_utf8 (codes "ADD") refl) t
+key_told_fits at n k (Some old) None h t = delete_fits at n k h
+key_told_fits at n k (Some old) (Some row) h t = by_test (row_eq old row)
+  where
+    by_test : (v : Bool) → IfSome (cond v None (Some (Row (with_word at (codes "UPDATE") row)))) (KeyLineFits n)
+    by_test true = tt
+    by_test false = word_fits at n (codes "UPDATE") row (plain_utf8 (codes "UPDATE") refl) t
+
+-- what a cut of mode COMMAND tells
+abbrev KeyFits : Taken → Type 0
+KeyFits (taken.Row row upto) = ⊥
+KeyFits (taken.Lost count upto) = ⊥
+KeyFits (taken.Change cells upto) = ⊥
+KeyFits (taken.Key key row upto) = IfSome row (Each IsTextualValue)
+KeyFits (taken.Cleared upto) = Unit {0}
+KeyFits taken.EndOfSnapshot = Unit {0}
+
+command_fits : (h : List Entry) (s : Slot) → Textual h → IfSome (command_cut h s) KeyFits
+command_fits h s t = by_clear (last_clear h s.place s.last)
+  where
+    told : (c : ℕ) (v : Bool) → IfSome (cond v (Some taken.EndOfSnapshot) (Some (taken.Cleared c))) KeyFits
+    told c true = tt
+    told c false = tt
+
+    by_key : (o : Option (List ℕ)) → IfSome (option_map (key_taken h s) o) KeyFits
+    by_key None = tt
+    by_key (Some key) = row_at_textual key (keyed s.plan.shape h s.last) (keyed_all_textual s.plan.shape [] (take s.last h) (take_textual s.last h t) tt)
+
+    by_end : (v : Bool) → IfSome (cond v (Some taken.EndOfSnapshot) (option_map (key_taken h s) (slice_get (command_queue h s) 0))) KeyFits
+    by_end true = tt
+    by_end false = by_key (slice_get (command_queue h s) 0)
+
+    by_clear : (o : Option ℕ) → IfSome (command_told h s o) KeyFits
+    by_clear (Some c) = told c s.ends
+    by_clear None = by_end (s.ends && (s.owed == 0))
+
+accepted_fits : (w : Wanted) (s : Slot) (cs : List Came) (t : Taken) → Each (RowFits (length w.places)) (whats cs) → KeyFits t → IfSome (accepted w s cs t) (KeyLineFits (length w.places))
+accepted_fits w s cs (taken.Row row upto) h t = absurd t
+accepted_fits w s cs (taken.Lost count upto) h t = absurd t
+accepted_fits w s cs (taken.Change cells upto) h t = absurd t
+accepted_fits w s cs (taken.Key key row upto) h t =
+    key_told_fits (schema_of w s.plan) (length w.places) key (table_at (schema_of w s.plan) key (whats cs)) (projected_row w.places row)
+    (table_key (schema_of w s.plan) (length w.places) key (whats cs) h) (by_row row t)
+  where
+    by_row : (o : Option (List Value)) → IfSome o (Each IsTextualValue) → IfSome (projected_row w.places o) (λ r. RowFits (length w.places) (Row r))
+    by_row None t = tt
+    by_row (Some r) t = row_fits w.places r t
+accepted_fits w s cs (taken.Cleared upto) h t = tt
+accepted_fits w s cs taken.EndOfSnapshot h t = tt
+
+-- a turn of mode COMMAND
+told_fits : (n : ℕ) (h : List Entry) (w : Wanted) (s : Slot) (cs : List Came) → Textual h → s.plan.mode ≡ mode.Command → Each (RowFits (length w.places)) (whats cs)
+    → IfSome (turn_within n h w s cs).told (λ c. KeyLineFits (length w.places) c.what)
+told_fits zero h w s cs t is came = tt
+told_fits (suc n) h w s cs t is came =
+    by_cut (cut h s) (subst (λ (m : Mode). IfSome (cut_of m h s) KeyFits) (sym is) (command_fits h s t)) (λ x. told_fits n h w (passed s x) cs t (ap (λ (p : Plan). p.mode) (passed_plan s x) ∙ is) came)
+  where
+    by_what : (x : Taken) (o : Option What) → IfSome o (KeyLineFits (length w.places)) → IfSome (turn_within n h w (passed s x) cs).told (λ c. KeyLineFits (length w.places) c.what)
+        → IfSome (told_or s x o (turn_within n h w (passed s x) cs)).told (λ c. KeyLineFits (length w.places) c.what)
+    by_what x None f more = more
+    by_what x (Some what) f more = f
+
+    by_cut : (o : Option Taken) → IfSome o KeyFits → ((x : Taken) → IfSome (turn_within n h w (passed s x) cs).told (λ c. KeyLineFits (length w.places) c.what))
+        → IfSome (turned w s cs o (λ r. turn_within n h w r cs)).told (λ c. KeyLineFits (length w.places) c.what)
+    by_cut None k more = tt
+    by_cut (Some x) k more = by_what x (accepted w s cs x) (accepted_fits w s cs x came k) (more x)
+
+pub turn_fits : (h : List Entry) (w : Wanted) (s : Slot) (cs : List Came) → Textual h → s.plan.mode ≡ mode.Command → Each (RowFits (length w.places)) (whats cs) → IfSome (turn h w s cs).told (λ c. KeyLineFits (length w.places) c.what)
+turn_fits h w s cs t is came = told_fits (s.last + s.owed + 2) h w s cs t is came
+
+-- the row of a line of a lawful slot fits; in mode COMMAND its turn says so
+pub slot_fits : (h : List Entry) (w : Wanted) (s : Slot) (c : Came) (cs : List Came) → Textual h → LawfulSlot h w s (c ∷ cs) → (s.plan.mode ≡ mode.Command → RowFits (length w.places) c.what) → RowFits (length w.places) c.what
+slot_fits h w s c cs t l command = by_mode s.plan.mode refl l
+  where
+    by_mode : (m : Mode) → s.plan.mode ≡ m → LawfulOf m h w s (c ∷ cs) → RowFits (length w.places) c.what
+    by_mode mode.Merge is l = merge_fits s.plan w h c t l.lines.1
+    by_mode mode.Raw is l = raw_fits w.places (updates_between h c.before c.upto) c.what (updates_textual h c.before c.upto t) l.lines.1.says
+    by_mode mode.Distinct is l = line_fits w.places s.plan h c t (distinct_each h w s (c ∷ cs) l).0
+    by_mode mode.Command is l = command is

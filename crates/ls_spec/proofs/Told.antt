@@ -1,5 +1,5 @@
 -- What a client was told of an item is true of the item.
-use Rattle.std.proofs.Common.{◌≡◌, ℕ, ◌+◌, ◌<◌, ◌≤◌, refl, List, [], ◌∷◌, ◌++◌, length, sym, ◌∙◌, ap, arith, subst, true, false, ◌||◌, nat_lt}
+use Rattle.std.proofs.Common.{◌≡◌, ℕ, ◌+◌, ◌<◌, ◌≤◌, refl, List, [], ◌∷◌, ◌++◌, length, sym, ◌∙◌, ap, arith, subst, true, false, ◌||◌, None, nat_lt}
 use Rattle.std.proofs.lemmas.Bool.{ltb-false}
 use Rattle.std.specs.List.{Contains}
 use Rattle.ls_value.specs.Values.{projected}
@@ -8,14 +8,16 @@ use Rattle.ls_event.specs.declared.event.Entry.{Entry}
 use Rattle.ls_event.specs.declared.event.Mode.{Mode}
 use Rattle.ls_event.specs.declared.event.Mode.TheVariants as mode
 use Rattle.ls_event.specs.History.{merged}
+use Rattle.ls_event.specs.Shapes.{Shape}
 use Rattle.ls_event.specs.Slots.{Plan, Slot}
 use Rattle.ls_mirror.specs.Client.{Row}
 use Rattle.ls_spec.specs.Came.{Came}
 use Rattle.ls_event.specs.Cuts.{untold, pending, pending_of}
 use Rattle.ls_spec.specs.Lines.{came}
 use Rattle.ls_spec.specs.Cutting.{Wanted, client_row}
-use Rattle.ls_spec.specs.World.{World, Session, Live, history_of, fields_of}
+use Rattle.ls_spec.specs.World.{World, Session, Live, history_of, shape_at}
 use Rattle.ls_spec.specs.Lawful.{Each, IsMergeLine, MergeLines, LawfulMerge, LawfulOf, LawfulSlot, LawfulLive, LawfulSession, LawfulRecords}
+use Rattle.ls_spec.specs.CommandMode.{noted_at, AgreesAt, NoTurn, IsKeyLine, KeyLines, LawfulCommand}
 use Rattle.ls_spec.specs.Told.{HadState, IsTrueOf}
 use Rattle.ls_spec.proofs.Each.{each_contains}
 use Rattle.ls_spec.proofs.Frame.{or_right}
@@ -23,13 +25,13 @@ use Rattle.ls_spec.proofs.RawTold.{told_raw}
 use Rattle.ls_spec.proofs.DistinctTold.{told_distinct}
 
 -- once nothing waits, the client has the item's state at the last enqueue
-settled_merge : (h : List Entry) (w : Wanted) (s : Slot) (cs : List Came) → LawfulMerge h w s cs → untold s ≡ false → s.given ≡ true → client_row (length w.places) cs ≡ projected (merged s.plan.fields h s.last) w.places
+settled_merge : (h : List Entry) (w : Wanted) (s : Slot) (cs : List Came) → LawfulMerge h w s cs → untold s ≡ false → s.given ≡ true → client_row (length w.places) cs ≡ projected (merged s.plan.shape.fields h s.last) w.places
 settled_merge h w s cs l none given =
     let reached = ltb-false s.place s.last (or_right (nat_lt 0 s.owed || s.ends) (nat_lt s.place s.last) none) in
     let e : s.place ≡ s.last = omega (arith, reached, l.behind) in
-    l.row given ∙ ap (λ n. projected (merged s.plan.fields h n) w.places) e
+    l.row given ∙ ap (λ n. projected (merged s.plan.shape.fields h n) w.places) e
 
-pub settled : (h : List Entry) (w : Wanted) (s : Slot) (cs : List Came) → LawfulSlot h w s cs → s.plan.mode ≡ mode.Merge → pending h s ≡ false → s.given ≡ true → client_row (length w.places) cs ≡ projected (merged s.plan.fields h s.last) w.places
+pub settled : (h : List Entry) (w : Wanted) (s : Slot) (cs : List Came) → LawfulSlot h w s cs → s.plan.mode ≡ mode.Merge → pending h s ≡ false → s.given ≡ true → client_row (length w.places) cs ≡ projected (merged s.plan.shape.fields h s.last) w.places
 settled h w s cs l merge none given =
     settled_merge h w s cs (subst (λ (m : Mode). LawfulOf m h w s cs) merge l) (sym (ap (λ (m : Mode). pending_of m h s) merge) ∙ none) given
 
@@ -46,6 +48,13 @@ settled_place h w s cs l other none = by_mode s.plan.mode other l none
     by_mode mode.Distinct other k none = at_last s k.behind none
     by_mode mode.Command other k none = absurd (other refl)
 
+-- in mode COMMAND each key that had its turn is at the client as the item had it at the key's place, and another one is absent there: it waits, or there is nothing to tell of it
+pub told_key : (h : List Entry) (w : Wanted) (s : Slot) (cs : List Came) → LawfulSlot h w s cs → s.plan.mode ≡ mode.Command → (k : List ℕ)
+    → AgreesAt h w s.plan s.place s.last cs k (noted_at k s.noted) × (noted_at k s.noted ≡ None → NoTurn h w s.plan s.place s.last s.owed k)
+told_key h w s cs l command k =
+    let c : LawfulCommand h w s cs = subst (λ (m : Mode). LawfulOf m h w s cs) command l in
+    (c.agrees k, c.first k)
+
 -- each line is one of mode MERGE, and those behind another one have lower numbers
 merge_lines_each : (p : Plan) (w : Wanted) (h : List Entry) (top : ℕ) (cs : List Came) → MergeLines p w h top cs → Each (IsMergeLine p w h) cs
 merge_lines_each p w h top [] l = tt
@@ -59,29 +68,49 @@ merge_lines_rise : (p : Plan) (w : Wanted) (h : List Entry) (top : ℕ) (newer b
 merge_lines_rise p w h top [] between older late early l = below_top p w h late.upto between older early l.2
 merge_lines_rise p w h top (c ∷ newer) between older late early l = merge_lines_rise p w h c.upto newer between older late early l.2
 
-had_state : (p : Plan) (w : Wanted) (h : List Entry) (c : Came) (r : List Value) → IsMergeLine p w h c → c.what ≡ Row r → HadState p.fields h w.places c.upto r
+had_state : (p : Plan) (w : Wanted) (h : List Entry) (c : Came) (r : List Value) → IsMergeLine p w h c → c.what ≡ Row r → HadState p.shape h w.places c.upto r
 had_state p w h c r l is =
-    let e : Row r ≡ Row (projected (merged p.fields h c.upto) w.places) = sym is ∙ l.row in
+    let e : Row r ≡ Row (projected (merged p.shape.fields h c.upto) w.places) = sym is ∙ l.row in
     record { within = omega (arith, l.reached, l.within); row = cc }
 
-told_merge : (h : List Entry) (w : Wanted) (s : Slot) (cs : List Came) → LawfulMerge h w s cs → IsTrueOf mode.Merge s.plan.fields h w.places cs
+told_merge : (h : List Entry) (w : Wanted) (s : Slot) (cs : List Came) → LawfulMerge h w s cs → IsTrueOf mode.Merge s.plan.shape h w.places cs
 told_merge h w s cs l =
     record {
       had = λ c r in_cs is. had_state s.plan w h c r (each_contains (IsMergeLine s.plan w h) c cs (merge_lines_each s.plan w h (s.place + 1) cs l.lines) in_cs) is;
       rise = λ newer between older late early is. merge_lines_rise s.plan w h (s.place + 1) newer between older late early (subst (λ (xs : List Came). MergeLines s.plan w h (s.place + 1) xs) is l.lines);
     }
 
-told_slot : (h : List Entry) (w : Wanted) (s : Slot) (cs : List Came) → LawfulSlot h w s cs → IsTrueOf s.plan.mode s.plan.fields h w.places cs
+-- each line is one of mode COMMAND, and those behind another one came no later
+key_lines_each : (p : Shape) (h : List Entry) (places : List ℕ) (top : ℕ) (cs : List Came) → KeyLines p h places top cs → Each (IsKeyLine p h places) cs
+key_lines_each p h places top [] l = tt
+key_lines_each p h places top (c ∷ cs) l = (l.1, key_lines_each p h places c.at cs l.2)
+
+by_then : (p : Shape) (h : List Entry) (places : List ℕ) (top : ℕ) (between older : List Came) (early : Came) → KeyLines p h places top (between ++ early ∷ older) → early.at ≤ top
+by_then p h places top [] older early l = l.0
+by_then p h places top (c ∷ between) older early l = omega (arith, l.0, by_then p h places c.at between older early l.2)
+
+key_lines_rise : (p : Shape) (h : List Entry) (places : List ℕ) (top : ℕ) (newer between older : List Came) (late early : Came) → KeyLines p h places top (newer ++ late ∷ between ++ early ∷ older) → early.at ≤ late.at
+key_lines_rise p h places top [] between older late early l = by_then p h places late.at between older early l.2
+key_lines_rise p h places top (c ∷ newer) between older late early l = key_lines_rise p h places c.at newer between older late early l.2
+
+told_command : (h : List Entry) (w : Wanted) (s : Slot) (cs : List Came) → LawfulCommand h w s cs → IsTrueOf mode.Command s.plan.shape h w.places cs
+told_command h w s cs l =
+    record {
+      had = λ c r in_cs is. ((each_contains (IsKeyLine s.plan.shape h w.places) c cs (key_lines_each s.plan.shape h w.places s.last cs l.lines) in_cs).rows r is).1;
+      rise = λ newer between older late early is. key_lines_rise s.plan.shape h w.places s.last newer between older late early (subst (KeyLines s.plan.shape h w.places s.last) is l.lines);
+    }
+
+told_slot : (h : List Entry) (w : Wanted) (s : Slot) (cs : List Came) → LawfulSlot h w s cs → IsTrueOf s.plan.mode s.plan.shape h w.places cs
 told_slot h w s cs l = by_mode s.plan.mode l
   where
-    by_mode : (m : Mode) → LawfulOf m h w s cs → IsTrueOf m s.plan.fields h w.places cs
+    by_mode : (m : Mode) → LawfulOf m h w s cs → IsTrueOf m s.plan.shape h w.places cs
     by_mode mode.Merge k = told_merge h w s cs k
-    by_mode mode.Raw k = told_raw s.plan.fields h w s cs k
-    by_mode mode.Distinct k = told_distinct s.plan.fields h w s cs k
-    by_mode mode.Command k = absurd k
+    by_mode mode.Raw k = told_raw s.plan.shape h w s cs k
+    by_mode mode.Distinct k = told_distinct s.plan.shape h w s cs k
+    by_mode mode.Command k = told_command h w s cs k
 
-pub told_lives : (w : World) (s : Session) (v : Live) → LawfulRecords w → Contains w.sessions s → Contains s.board.round v → IsTrueOf v.slot.plan.mode (fields_of w.items v.item) (history_of w.items v.item) v.wanted.places (came v.sub v.place s.board.lines)
+pub told_lives : (w : World) (s : Session) (v : Live) → LawfulRecords w → Contains w.sessions s → Contains s.board.round v → IsTrueOf v.slot.plan.mode (shape_at w.items v.item) (history_of w.items v.item) v.wanted.places (came v.sub v.place s.board.lines)
 told_lives w s v l in_world in_round =
     let k : LawfulSession w.items s = each_contains (LawfulSession w.items) s w.sessions l.sessions in_world in
     let m : LawfulLive w.items s.board.lines v = each_contains (LawfulLive w.items s.board.lines) v s.board.round k.board.slots in_round in
-    subst (λ (n : ℕ). IsTrueOf v.slot.plan.mode n (history_of w.items v.item) v.wanted.places (came v.sub v.place s.board.lines)) m.fields (told_slot (history_of w.items v.item) v.wanted v.slot (came v.sub v.place s.board.lines) m.told)
+    subst (λ (p : Shape). IsTrueOf v.slot.plan.mode p (history_of w.items v.item) v.wanted.places (came v.sub v.place s.board.lines)) m.shape (told_slot (history_of w.items v.item) v.wanted v.slot (came v.sub v.place s.board.lines) m.told)

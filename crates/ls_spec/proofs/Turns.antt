@@ -1,5 +1,5 @@
 -- A turn that tells nothing leaves no cut.
-use Rattle.std.proofs.Common.{◌≡◌, ℕ, zero, suc, ◌+◌, ◌-◌, ◌<◌, List, length, refl, sym, ◌∙◌, ap, arith, subst, cond, Bool, true, false, nat_lt, option_map, Option, Some, None}
+use Rattle.std.proofs.Common.{◌≡◌, ◌==◌, ◌⊎◌, inl, inr, ℕ, zero, suc, ◌+◌, ◌-◌, ◌<◌, ◌≤◌, List, length, refl, sym, ◌∙◌, ap, arith, subst, cond, Bool, true, false, ◌&&◌, nat_lt, option_map, slice_get, Option, Some, None}
 use Rattle.ls_value.specs.declared.row.Value.{Value}
 use Rattle.ls_event.specs.declared.event.Entry.{Entry}
 use Rattle.ls_event.specs.declared.event.Mode.{Mode}
@@ -8,7 +8,8 @@ use Rattle.ls_event.specs.declared.event.Taken.{Taken}
 use Rattle.ls_event.specs.declared.event.Taken.TheVariants as taken
 use Rattle.ls_event.specs.declared.updates.OwnRow.{OwnRow}
 use Rattle.ls_event.specs.Updates.{updates_between, last_clear, recent_rows}
-use Rattle.ls_event.specs.OwnCuts.{first_of_last, raw_taken, raw_cut, row_taken, snapshot_told, distinct_told, distinct_cut}
+use Rattle.ls_event.specs.OwnCuts.{first_of_last, raw_taken, raw_cut, row_taken, clear_told, snapshot_told, distinct_told, distinct_cut}
+use Rattle.ls_event.specs.CommandCuts.{command_queue, key_taken, command_told}
 use Rattle.ls_event.specs.Slots.{Slot, passed}
 use Rattle.ls_mirror.specs.Client.{What}
 use Rattle.ls_spec.specs.Came.{Came, came_by}
@@ -16,6 +17,7 @@ use Rattle.ls_event.specs.Cuts.{cut_of, cut}
 use Rattle.ls_spec.specs.Cutting.{Wanted, Turn, accepted, told_or, turned, turn_within, turn}
 use Rattle.ls_spec.specs.Lawful.{LawfulOf, LawfulSlot}
 use Rattle.ls_spec.proofs.Keeps.{no_cut}
+use Rattle.ls_spec.proofs.Queues.{quiet_queue, queue_is, after_turn, Waits, waits, waits_more, Less, turn_less}
 use Rattle.ls_spec.proofs.MergeCut.{IsMergeCut, merge_cut_is}
 
 -- a cut of mode MERGE moves the place up, and no other number
@@ -94,28 +96,32 @@ raw_tells h s t is = by_first (first_of_last 256 (updates_between h s.place s.la
     by_first None e = no_cut t e
     by_first (Some u) e = by_test (length (updates_between h s.place s.last) - 256) u (nat_lt 0 (length (updates_between h s.place s.last) - 256)) e
 
+tells_known : (x t : Taken) → Some x ≡ Some t → Tells x → Tells t
+tells_known x t e tells =
+    let same : x ≡ t = cc in
+    subst Tells same tells
+
+-- where a Clear waits, the next cut makes a line
+clear_tells : (s : Slot) (n : ℕ) (t : Taken) → clear_told s n ≡ Some t → Tells t
+clear_tells s n t is = by_ends s.ends is
+  where
+    by_ends : (b : Bool) → cond b (Some taken.EndOfSnapshot) (Some (taken.Cleared n)) ≡ Some t → Tells t
+    by_ends true e = tells_known taken.EndOfSnapshot t e tt
+    by_ends false e = tells_known (taken.Cleared n) t e tt
+
 distinct_tells : (h : List Entry) (s : Slot) (t : Taken) → distinct_cut h s ≡ Some t → Tells t
 distinct_tells h s t is = by_clear (last_clear h s.place s.last) is
   where
-    known : (x : Taken) → Some x ≡ Some t → Tells x → Tells t
-    known x e tells =
-        let same : x ≡ t = cc in
-        subst Tells same tells
-
-    by_ends : (n : ℕ) (b : Bool) → cond b (Some taken.EndOfSnapshot) (Some (taken.Cleared n)) ≡ Some t → Tells t
-    by_ends n true e = known taken.EndOfSnapshot e tt
-    by_ends n false e = known (taken.Cleared n) e tt
-
     by_row : (o : Option (List Value)) → option_map (λ row. taken.Row row s.plan.base) o ≡ Some t → Tells t
     by_row None e = no_cut t e
-    by_row (Some r) e = known (taken.Row r s.plan.base) e tt
+    by_row (Some r) e = tells_known (taken.Row r s.plan.base) t e tt
 
     by_update : (o : Option OwnRow) → option_map row_taken o ≡ Some t → Tells t
     by_update None e = no_cut t e
-    by_update (Some u) e = known (taken.Row u.row u.no) e tt
+    by_update (Some u) e = tells_known (taken.Row u.row u.no) t e tt
 
     by_end : (b : Bool) → cond b (Some taken.EndOfSnapshot) (option_map row_taken (first_of_last s.plan.size (updates_between h s.place s.last))) ≡ Some t → Tells t
-    by_end true e = known taken.EndOfSnapshot e tt
+    by_end true e = tells_known taken.EndOfSnapshot t e tt
     by_end false e = by_update (first_of_last s.plan.size (updates_between h s.place s.last)) e
 
     by_owed : (b : Bool) → cond b (snapshot_told h s) (cond s.ends (Some taken.EndOfSnapshot) (option_map row_taken (first_of_last s.plan.size (updates_between h s.place s.last)))) ≡ Some t → Tells t
@@ -123,8 +129,66 @@ distinct_tells h s t is = by_clear (last_clear h s.place s.last) is
     by_owed false e = by_end s.ends e
 
     by_clear : (o : Option ℕ) → distinct_told h s o ≡ Some t → Tells t
-    by_clear (Some n) e = by_ends n s.ends e
+    by_clear (Some n) e = clear_tells s n t e
     by_clear None e = by_owed (nat_lt 0 s.owed) e
+
+-- in mode COMMAND, where no Clear waits, the next cut makes a line or is the turn of the queue's first key
+record IsKeyTurn (h : List Entry) (s : Slot) (t : Taken) : Type 0 where
+  key : List ℕ
+  taken : t ≡ key_taken h s key
+  head : slice_get (quiet_queue h s) 0 ≡ Some key
+
+command_turns : (h : List Entry) (s : Slot) (t : Taken) → last_clear h s.place s.last ≡ None → command_told h s None ≡ Some t → Tells t ⊎ IsKeyTurn h s t
+command_turns h s t none is = by_end (s.ends && (s.owed == 0)) is
+  where
+    by_key : (o : Option (List ℕ)) → slice_get (command_queue h s) 0 ≡ o → option_map (key_taken h s) o ≡ Some t → Tells t ⊎ IsKeyTurn h s t
+    by_key None at e = no_cut t e
+    by_key (Some k) at e =
+        let same : key_taken h s k ≡ t = cc in
+        inr (record { key = k; taken = sym same; head = ap (λ q. slice_get q 0) (sym (queue_is h s none)) ∙ at })
+
+    by_end : (b : Bool) → cond b (Some taken.EndOfSnapshot) (option_map (key_taken h s) (slice_get (command_queue h s) 0)) ≡ Some t → Tells t ⊎ IsKeyTurn h s t
+    by_end true e = inl (tells_known taken.EndOfSnapshot t e tt)
+    by_end false e = by_key (slice_get (command_queue h s) 0) refl e
+
+-- a slot of mode COMMAND behind which no Clear waits
+record IsQuiet (h : List Entry) (s : Slot) : Type 0 where
+  mode : s.plan.mode ≡ mode.Command
+  none : last_clear h s.place s.last ≡ None
+  behind : s.place ≤ s.last
+  within : s.last ≤ length h
+
+key_ends : (h : List Entry) (w : Wanted) (s : Slot) (cs : List Came) (n : ℕ) → IsQuiet h s → ((k : List ℕ) → slice_get (quiet_queue h s) 0 ≡ Some k → Ends h (turn_within n h w (after_turn s k) cs)) → Ends h (turn_within (suc n) h w s cs)
+key_ends h w s cs n q more = by_cut (cut h s) refl
+  where
+    by_turn : (t : Taken) → Tells t ⊎ IsKeyTurn h s t → Ends h (turned w s cs (Some t) (λ r. turn_within n h w r cs))
+    by_turn t (inl tells) none = absurd (line_told w s cs t (turn_within n h w (passed s t) cs) tells none)
+    by_turn t (inr k) none =
+        told_ends h s t (accepted w s cs t) (turn_within n h w (passed s t) cs) (subst (λ (u : Taken). Ends h (turn_within n h w (passed s u) cs)) (sym k.taken) (more k.key k.head)) none
+
+    by_cut : (o : Option Taken) → cut h s ≡ o → Ends h (turned w s cs o (λ r. turn_within n h w r cs))
+    by_cut None is none = is
+    by_cut (Some t) is none = by_turn t (command_turns h s t q.none (ap (command_told h s) (sym q.none) ∙ sym (ap (λ (m : Mode). cut_of m h s) q.mode) ∙ is)) none
+
+keys_end : (n : ℕ) (h : List Entry) (w : Wanted) (s : Slot) (cs : List Came) → IsQuiet h s → Waits h s n → Ends h (turn_within (suc n) h w s cs)
+keys_end zero h w s cs q some = key_ends h w s cs zero q (λ k head. none k (turn_less h s k zero q.behind q.within head some))
+  where
+    none : (k : List ℕ) → Less h s k zero → Ends h (turn_within zero h w (after_turn s k) cs)
+    none k l = absurd (omega (arith, l.is))
+keys_end (suc n) h w s cs q some =
+    key_ends h w s cs (suc n) q
+    (λ k head. let l = turn_less h s k (suc n) q.behind q.within head some in
+    keys_end n h w (after_turn s k) cs (record { mode = q.mode; none = q.none; behind = q.behind; within = q.within }) (waits_more h (after_turn s k) l.rest n (omega (arith, l.is)) l.waits))
+
+command_ends : (h : List Entry) (w : Wanted) (s : Slot) (cs : List Came) → s.plan.mode ≡ mode.Command → s.place ≤ s.last → s.last ≤ length h → Ends h (turn h w s cs)
+command_ends h w s cs is behind within = by_clear (last_clear h s.place s.last) refl
+  where
+    by_clear : (o : Option ℕ) → last_clear h s.place s.last ≡ o → Ends h (turn h w s cs)
+    by_clear (Some n) found = told_turn h w s cs (λ t c. clear_tells s n t (ap (command_told h s) (sym found) ∙ sym (ap (λ (m : Mode). cut_of m h s) is) ∙ c))
+    by_clear None none =
+        let e : suc (s.last + s.owed + 1) ≡ s.last + s.owed + 2 = omega arith in
+        subst (λ (n : ℕ). Ends h (turn_within n h w s cs)) e
+        (keys_end (s.last + s.owed + 1) h w s cs (record { mode = is; none = none; behind = behind; within = within }) (waits_more h s (s.owed + s.last) (s.last + s.owed + 1) (omega arith) (waits h s within)))
 
 pub turn_ends : (h : List Entry) (w : Wanted) (s : Slot) (cs : List Came) → LawfulSlot h w s cs → (turn h w s cs).told ≡ None → cut h (turn h w s cs).slot ≡ None
 turn_ends h w s cs l = by_mode s.plan.mode refl l
@@ -133,4 +197,4 @@ turn_ends h w s cs l = by_mode s.plan.mode refl l
     by_mode mode.Merge is k = within_ends (s.last + s.owed + 2) h w s cs is (omega arith)
     by_mode mode.Raw is k = told_turn h w s cs (λ t c. raw_tells h s t (sym (ap (λ (m : Mode). cut_of m h s) is) ∙ c))
     by_mode mode.Distinct is k = told_turn h w s cs (λ t c. distinct_tells h s t (sym (ap (λ (m : Mode). cut_of m h s) is) ∙ c))
-    by_mode mode.Command is k = absurd k
+    by_mode mode.Command is k = command_ends h w s cs is k.behind k.within

@@ -1,16 +1,13 @@
--- What a subscription wants of an item, what a cut makes of the client's row, and a slot's turn (General Concepts, modes and buffers).
-use Rattle.std.specs.Prelude.{ℕ, zero, suc, ◌+◌, ◌-◌, List, length, max, min, Bool, true, false, ◌&&◌, Option, None, Some, is_some, if◌then◌else◌}
+-- What a subscription wants of an item, what a cut makes of the client's row or table, and a slot's turn (General Concepts, modes and buffers).
+use Rattle.std.specs.Prelude.{ℕ, zero, suc, ◌+◌, List, length, Bool, ◌&&◌, Option, None, Some, if◌then◌else◌}
 use Rattle.std.specs.Option.{option_map_or}
 use Rattle.ls_value.specs.Values.{applied, projected, projected_cells, nulls, row_eq}
 use Rattle.ls_value.specs.declared.row.Value.{Value}
 use Rattle.ls_event.specs.declared.event.Entry.{Entry}
 use Rattle.ls_event.specs.declared.event.Mode.{Mode}
-use Rattle.ls_event.specs.declared.event.Mode.TheVariants as mode
 use Rattle.ls_event.specs.declared.event.Taken.{Taken}
 use Rattle.ls_event.specs.declared.event.Taken.TheVariants as taken
-use Rattle.ls_event.specs.Slots.{Plan, Slot, fresh, fresh_with, passed}
-use Rattle.ls_event.specs.Updates.{recent_rows}
-use Rattle.ls_event.specs.Keyed.{keyed}
+use Rattle.ls_event.specs.Slots.{Plan, Slot, passed}
 use Rattle.ls_mirror.specs.Client.{What, Row, Lost, Cleared, End}
 use Rattle.ls_spec.specs.Came.{Came, came_by, whats}
 use Rattle.ls_spec.specs.Tables.{InSchema, place_in, key_told, table_at, projected_row}
@@ -29,49 +26,6 @@ pub record Ask : Type 0 where
   pub size : ℕ
   pub wanted : Wanted
 
--- what is settled when it joins an item of so many fields after these events
-abbrev pub plan_of : ℕ → List Entry → Ask → Plan
-plan_of fields h a = record { mode = a.mode; fields = fields; key = 0; command = 0; size = max 1 a.size; base = length h }
-
--- the slot that joins in mode MERGE: with a snapshot the item's state is told as if its last event had come just now
-abbrev pub merge_joined : ℕ → List Entry → Ask → Slot
-merge_joined fields h a = fresh (plan_of fields h a) (if is_some a.wanted.snapshot then length h - 1 else length h)
-
--- the slot that joins in mode RAW, which knows no snapshot
-abbrev pub raw_joined : ℕ → List Entry → Ask → Slot
-raw_joined fields h a = fresh (plan_of fields h a) (length h)
-
--- the slot that joins in mode DISTINCT: with a snapshot as many of the item's last rows are owed as were asked, or as there are
-abbrev pub distinct_with : Plan → List Entry → Option ℕ → Slot
-distinct_with p h None = fresh p (length h)
-distinct_with p h (Some asked) = fresh_with p (min asked (length (recent_rows h (length h))))
-
-abbrev pub distinct_joined : ℕ → List Entry → Ask → Slot
-distinct_joined fields h a = distinct_with (plan_of fields h a) h a.wanted.snapshot
-
--- the slot that joins in mode COMMAND: with a snapshot all keys that the item has are owed
-abbrev pub command_with : Plan → List Entry → Option ℕ → Slot
-command_with p h None = fresh p (length h)
-command_with p h (Some asked) = fresh_with p (length (keyed p h (length h)))
-
--- the slot that joins in a mode; for mode COMMAND, which isn't built, this one is in no world
-abbrev pub joined_in : Mode → ℕ → List Entry → Ask → Slot
-joined_in mode.Merge fields h a = merge_joined fields h a
-joined_in mode.Raw fields h a = raw_joined fields h a
-joined_in mode.Distinct fields h a = distinct_joined fields h a
-joined_in mode.Command fields h a = merge_joined fields h a
-
--- the slot that joins
-abbrev pub joined : ℕ → List Entry → Ask → Slot
-joined fields h a = joined_in a.mode fields h a
-
--- whether slots of a mode are built
-abbrev pub is_built : Mode → Bool
-is_built mode.Merge = true
-is_built mode.Raw = true
-is_built mode.Distinct = true
-is_built mode.Command = false
-
 -- the client's row, which is all null before the first one
 abbrev pub client_row : ℕ → List Came → List Value
 client_row fields cs = option_map_or (λ r. r) (last_row cs) (nulls fields)
@@ -82,7 +36,7 @@ changed given old new = if given && row_eq old new then None else Some (Row new)
 
 -- the places of the item's key and command in the schema
 abbrev pub schema_of : Wanted → Plan → InSchema
-schema_of w p = record { key = place_in p.key w.places; command = place_in p.command w.places }
+schema_of w p = record { key = place_in p.shape.key w.places; command = place_in p.shape.command w.places }
 
 -- the line that a cut makes, if any
 abbrev pub accepted : Wanted → Slot → List Came → Taken → Option What

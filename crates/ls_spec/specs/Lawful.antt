@@ -4,7 +4,9 @@ use Rattle.ls_value.specs.Values.{projected}
 use Rattle.ls_event.specs.declared.event.Entry.{Entry}
 use Rattle.ls_event.specs.declared.event.Mode.{Mode}
 use Rattle.ls_event.specs.declared.event.Mode.TheVariants as mode
-use Rattle.ls_event.specs.History.{merged, IsHistory}
+use Rattle.ls_event.specs.Shapes.{shape_of, IsShape}
+use Rattle.ls_event.specs.History.{merged}
+use Rattle.ls_event.specs.Publishes.{IsHistory}
 use Rattle.ls_event.specs.Slots.{Plan, Slot}
 use Rattle.ls_mirror.specs.Client.{What, Row, HasCome}
 use Rattle.ls_spec.specs.Came.{Came, whats}
@@ -14,7 +16,8 @@ use Rattle.ls_spec.specs.Lines.{Line, came, texts}
 use Rattle.ls_spec.specs.Cutting.{Wanted, client_row}
 use Rattle.ls_spec.specs.RawMode.{LawfulRaw}
 use Rattle.ls_spec.specs.DistinctMode.{LawfulDistinct}
-use Rattle.ls_spec.specs.World.{World, Session, Board, Stream, Item, Live, history_of, fields_of, is_at}
+use Rattle.ls_spec.specs.CommandMode.{LawfulCommand}
+use Rattle.ls_spec.specs.World.{World, Session, Board, Stream, Item, Live, history_of, shape_at, is_at}
 
 -- it is true of each
 abbrev pub Each : {A : Type 0} → (A → Type 0) → List A → Type 0
@@ -23,7 +26,7 @@ Each P (x ∷ xs) = P x × Each P xs
 
 -- a line of mode MERGE: the item's state at a number among the last of the slot's size then
 pub record IsMergeLine (p : Plan) (w : Wanted) (h : List Entry) (c : Came) : Type 0 where
-  pub row : c.what ≡ Row (projected (merged p.fields h c.upto) w.places)
+  pub row : c.what ≡ Row (projected (merged p.shape.fields h c.upto) w.places)
   pub reached : c.upto ≤ c.at
   pub recent : c.at - p.size < c.upto
   pub within : c.at ≤ length h
@@ -39,15 +42,14 @@ pub record LawfulMerge (h : List Entry) (w : Wanted) (s : Slot) (cs : List Came)
   pub behind : s.place ≤ s.last
   pub within : s.last ≤ length h
   pub before : s.given ≡ false → cs ≡ []
-  pub row : s.given ≡ true → client_row (length w.places) cs ≡ projected (merged s.plan.fields h s.place) w.places
+  pub row : s.given ≡ true → client_row (length w.places) cs ≡ projected (merged s.plan.shape.fields h s.place) w.places
   pub lines : MergeLines s.plan w h (s.place + 1) cs
 
--- slots of mode COMMAND aren't built yet, so there is none
 abbrev pub LawfulOf : Mode → List Entry → Wanted → Slot → List Came → Type 0
 LawfulOf mode.Merge h w s cs = LawfulMerge h w s cs
 LawfulOf mode.Raw h w s cs = LawfulRaw h w s cs
 LawfulOf mode.Distinct h w s cs = LawfulDistinct h w s cs
-LawfulOf mode.Command h w s cs = ⊥
+LawfulOf mode.Command h w s cs = LawfulCommand h w s cs
 
 abbrev pub LawfulSlot : List Entry → Wanted → Slot → List Came → Type 0
 LawfulSlot h w s cs = LawfulOf s.plan.mode h w s cs
@@ -57,10 +59,10 @@ abbrev pub Apart : List Live → Type 0
 Apart [] = Unit {0}
 Apart (v ∷ vs) = Each (λ u. is_at v.sub v.place u ≡ false) vs × Apart vs
 
--- a slot is of a declared item and has its number of fields, and what came to the slot's client, by all lines of the session, is lawful on the item's whole history
+-- a slot is of a declared item and has its shape, and what came to the slot's client, by all lines of the session, is lawful on the item's whole history
 pub record LawfulLive (items : List Item) (lines : List Line) (v : Live) : Type 0 where
   pub declared : v.item < length items
-  pub fields : v.slot.plan.fields ≡ fields_of items v.item
+  pub shape : v.slot.plan.shape ≡ shape_at items v.item
   pub told : LawfulSlot (history_of items v.item) v.wanted v.slot (came v.sub v.place lines)
 
 pub record LawfulBoard (items : List Item) (b : Board) : Type 0 where
@@ -82,9 +84,14 @@ pub record LawfulSession (items : List Item) (s : Session) : Type 0 where
   pub sent : s.sent ≤ length s.board.lines
   pub streams : LawfulStreams s.sent s.streams
 
--- each item's events are a history, and each session is lawful on them
+-- an item has a definition of 1 to 64 distinct fields, among them in kind COMMAND a key and a command, and a history
+pub record IsSound (i : Item) : Type 0 where
+  pub shape : IsShape (shape_of i.definition)
+  pub history : IsHistory (shape_of i.definition) i.history
+
+-- each item is sound, and each session is lawful on them
 pub record LawfulRecords (w : World) : Type 0 where
-  pub items : Each (λ i. IsHistory (length i.fields) i.history) w.items
+  pub items : Each IsSound w.items
   pub sessions : Each (LawfulSession w.items) w.sessions
 
 -- texts are read as lines

@@ -1,5 +1,5 @@
 -- The numbered lines of a session, the lines of the protocol that they are, and what came to a client by them (TLCP 2.1, notifications).
-use Rattle.std.specs.Prelude.{◌==◌, ℕ, ◌+◌, List, [], ◌∷◌, length, ◌&&◌, Option, codes, if◌then◌else◌}
+use Rattle.std.specs.Prelude.{◌==◌, ℕ, ◌+◌, List, [], ◌∷◌, length, Bool, ◌&&◌, Option, None, Some, codes, if◌then◌else◌}
 use Rattle.ls_value.specs.declared.row.Value.{Value}
 use Rattle.ls_update.specs.Fields.{spelled}
 use Rattle.ls_line.specs.declared.line.Line.{Line as WireLine}
@@ -7,20 +7,22 @@ use Rattle.ls_line.specs.declared.line.Line.TheVariants as line
 use Rattle.ls_line.specs.Lines.{text_of}
 use Rattle.ls_mirror.specs.Client.{What, Row, Lost, Cleared, End, last_row as last_row_of}
 use Rattle.ls_spec.specs.Came.{Came, whats}
+use Rattle.ls_spec.specs.Tables.{InSchema}
 
--- SUBOK with its numbers of items and fields, UNSUB, CONF, and a line that tells of an item of a subscription: U, OV, CS or EOS
+-- SUBOK with its numbers of items and fields, or SUBCMD where the places of a key and a command stand behind them; UNSUB; CONF, filtered or not; and a line that
+-- tells of an item of a subscription: U, OV, CS or EOS
 pub data Line : Type 0 where
-  Begins : ℕ → ℕ → ℕ → Line
+  Begins : ℕ → ℕ → ℕ → Option InSchema → Line
   Ends : ℕ → Line
-  Configures : ℕ → Line
+  Configures : ℕ → Bool → Line
   Tells : ℕ → ℕ → Came → Line
 
 -- what came of an item of a subscription since it began, the newest first, as the lines
 abbrev pub came : ℕ → ℕ → List Line → List Came
 came sub place [] = []
-came sub place (Begins s items fields ∷ lines) = if s == sub then [] else came sub place lines
+came sub place (Begins s items fields keys ∷ lines) = if s == sub then [] else came sub place lines
 came sub place (Ends s ∷ lines) = if s == sub then [] else came sub place lines
-came sub place (Configures s ∷ lines) = came sub place lines
+came sub place (Configures s filtered ∷ lines) = came sub place lines
 came sub place (Tells s p c ∷ lines) = if (s == sub) && (p == place) then c ∷ came sub place lines else came sub place lines
 
 -- the last row that came
@@ -38,11 +40,16 @@ tells_line prev sub place End = line.Eos sub place
 abbrev pub tells_text : Option (List Value) → ℕ → ℕ → What → List ℕ
 tells_text prev sub place what = text_of (tells_line prev sub place what)
 
+-- the line with which a subscription begins; places in it count from 1
+abbrev pub begins_line : ℕ → ℕ → ℕ → Option InSchema → WireLine
+begins_line sub items fields None = line.SubOk sub items fields
+begins_line sub items fields (Some at) = line.SubCmd sub items fields (at.key + 1) (at.command + 1)
+
 -- a numbered line as a line of the protocol, behind the lines before it
 abbrev pub wire : List Line → Line → WireLine
-wire lines (Begins sub items fields) = line.SubOk sub items fields
+wire lines (Begins sub items fields keys) = begins_line sub items fields keys
 wire lines (Ends sub) = line.Unsub sub
-wire lines (Configures sub) = line.Conf sub (codes "unlimited") (codes "filtered")
+wire lines (Configures sub filtered) = line.Conf sub (codes "unlimited") (if filtered then codes "filtered" else codes "unfiltered")
 wire lines (Tells sub place c) = tells_line (last_row (came sub place lines)) sub place c.what
 
 -- the text of a line behind the lines before it

@@ -1,10 +1,12 @@
 -- What a step keeps to, so that its lines can be written and read again (TLCP 2.1: the ranges of a line's parts; texts are UTF-8).
-use Rattle.std.specs.Prelude.{◌≡◌, ◌≤◌, ℕ, List, length}
+use Rattle.std.specs.Prelude.{◌≤◌, ℕ}
 use Rattle.std.specs.Str.{IsUtf8}
 use Rattle.ls_value.specs.declared.row.Cell.{Cell}
 use Rattle.ls_value.specs.declared.row.Cell.TheVariants as cell
-use Rattle.ls_spec.specs.Cutting.{Ask}
-use Rattle.ls_spec.specs.Steps.{Step, Declare, Open, Add, Publish, Enqueue, Take}
+use Rattle.ls_event.specs.Shapes.{shape_of, IsShape}
+use Rattle.ls_script.specs.declared.step.Step.{Step}
+use Rattle.ls_script.specs.declared.step.Step.TheVariants as step
+use Rattle.ls_script.specs.declared.step.Repeat.{Repeat}
 use Rattle.ls_spec.specs.Lawful.{Each}
 
 -- a cell whose text, if it has one, is UTF-8
@@ -18,17 +20,20 @@ pub record IsPlace (n : ℕ) : Type 0 where
   pub some : 1 ≤ n
   pub most : n ≤ 999999999
 
--- a subscription's number, and how many items and fields it has; each slot shows that many fields
-pub record AddInRange (sub fields : ℕ) (asks : List Ask) : Type 0 where
-  pub sub_in : IsPlace sub
-  pub items_in : IsPlace (length asks)
-  pub fields_in : IsPlace fields
-  pub schema : Each (λ a. length a.wanted.places ≡ fields) asks
+-- a new item has 1 to 64 distinct fields, among them in kind COMMAND a key and a command; an update's texts are UTF-8
+abbrev pub StepInRange : Step → Type 0
+StepInRange (step.Set name) = Unit {0}
+StepInRange (step.Item name k fields) = IsShape (shape_of (record { name = name; kind = k; fields = fields }))
+StepInRange (step.Tick ms) = Unit {0}
+StepInRange (step.Conn name l) = Unit {0}
+StepInRange (step.Open name) = Unit {0}
+StepInRange (step.Add connection words) = Unit {0}
+StepInRange (step.Request connection name parameters) = Unit {0}
+StepInRange (step.Publish adapter seq item cells) = Each IsTextual cells
+StepInRange (step.Clear adapter seq item) = Unit {0}
+StepInRange (step.Enqueue connection sub place) = Unit {0}
+StepInRange (step.Take connection) = Unit {0}
+StepInRange (step.Lose connection) = Unit {0}
 
-abbrev pub InRange : Step → Type 0
-InRange (Declare name fields) = Unit {0}
-InRange (Open name) = Unit {0}
-InRange (Add connection sub fields asks) = AddInRange sub fields asks
-InRange (Publish item adapter seq cells) = Each IsTextual cells
-InRange (Enqueue connection sub place times) = Unit {0}
-InRange (Take connection times) = Unit {0}
+abbrev pub InRange : Repeat → Type 0
+InRange r = StepInRange r.step

@@ -1,22 +1,32 @@
 -- The run of a script: its lines, what is printed for them, and the world that they make (this project's profile).
-use Rattle.std.specs.Prelude.{◌≡◌, ◌==◌, ℕ, ◌+◌, List, [], ◌∷◌, ◌++◌, Bool, Option, None, Some, Result, Ok, Err, if◌then◌else◌}
+use Rattle.std.specs.Prelude.{◌≡◌, ◌==◌, ℕ, ◌+◌, List, [], ◌∷◌, ◌++◌, map, Bool, Option, None, Some, Result, Ok, Err, if◌then◌else◌}
+use Rattle.std.specs.List.{flat_map}
+use Rattle.ls_script.specs.declared.out.Out.{Out}
+use Rattle.ls_script.specs.declared.step.Repeat.{Repeat}
+use Rattle.ls_script.specs.Grammar.{Known, is_skipped, line_of}
+use Rattle.ls_script.specs.Notes.{text_of_out}
 use Rattle.ls_spec.specs.declared.Refused.{Refused}
+use Rattle.ls_spec.specs.declared.Refused.TheVariants.{BadScript, NotBuilt}
 use Rattle.ls_spec.specs.World.{World}
-use Rattle.ls_spec.specs.Steps.{Step, Stepped, does}
-use Rattle.ls_spec.specs.Forms.{read, known_of}
+use Rattle.ls_spec.specs.Steps.{Stepped, stays, does}
+use Rattle.ls_spec.specs.Built.{is_built}
 
 -- one line more was read
 abbrev pub counted : World → World
 counted w = record w { line = w.line + 1 }
 
-abbrev pub stepped : World → Result (Option Step) Refused → Result Stepped Refused
-stepped w (Ok None) = Ok (record { after = w; text = [] })
-stepped w (Ok (Some s)) = Ok (does w s)
-stepped w (Err r) = Err r
+-- what is known of a world
+abbrev pub known_of : World → Known
+known_of w = record { items = map (λ i. i.definition) w.items; connections = map (λ c. c.name) w.connections; tick = w.tick }
+
+-- a line that is neither empty nor a comment: outside the grammar it is bad
+abbrev pub asked_by : World → Option Repeat → Result Stepped Refused
+asked_by w None = Err BadScript
+asked_by w (Some r) = if is_built w r.step then Ok (does w r.step r.times) else Err NotBuilt
 
 -- one line of a script
 abbrev pub step : World → List ℕ → Result Stepped Refused
-step w line = stepped (counted w) (read (known_of w) line)
+step w line = if is_skipped line then Ok (stays (counted w) []) else asked_by (counted w) (line_of (known_of w) line)
 
 -- the whole lines, where carry stands before the bytes
 abbrev pub whole_from : List ℕ → List ℕ → List (List ℕ)
@@ -42,10 +52,14 @@ abbrev pub and_then : {A : Type 0} → A → Result Stepped Refused → (Stepped
 and_then a (Err r) f = a
 and_then a (Ok s) f = f s
 
+-- what is printed
+abbrev pub text_of_outs : List Out → List ℕ
+text_of_outs outs = flat_map text_of_out outs
+
 -- what is printed for the lines before the first one that is refused
 abbrev pub text_of : World → List (List ℕ) → List ℕ
 text_of w [] = []
-text_of w (line ∷ lines) = and_then [] (step w line) (λ s. s.text ++ text_of s.after lines)
+text_of w (line ∷ lines) = and_then [] (step w line) (λ s. text_of_outs s.outs ++ text_of s.after lines)
 
 -- the world after them
 abbrev pub world_of : World → List (List ℕ) → World

@@ -7,15 +7,17 @@ use Rattle.ls_event.specs.declared.event.Entry.{Entry}
 use Rattle.ls_event.specs.declared.event.Mode.{Mode}
 use Rattle.ls_event.specs.declared.event.Mode.TheVariants as mode
 use Rattle.ls_event.specs.declared.updates.OwnRow.{OwnRow}
+use Rattle.ls_event.specs.Shapes.{Shape}
 use Rattle.ls_event.specs.History.{merged}
 use Rattle.ls_event.specs.Updates.{updates_between, recent_rows}
 use Rattle.ls_mirror.specs.Client.{Row}
 use Rattle.ls_spec.specs.Came.{Came}
+use Rattle.ls_spec.specs.CommandMode.{HadKey}
 
 -- a row is the item's merged state after so many events of its history, at the places of a schema
-pub record HadState (fields : ℕ) (h : List Entry) (places : List ℕ) (i : ℕ) (r : List Value) : Type 0 where
+pub record HadState (p : Shape) (h : List Entry) (places : List ℕ) (i : ℕ) (r : List Value) : Type 0 where
   pub within : i ≤ length h
-  pub row : r ≡ projected (merged fields h i) places
+  pub row : r ≡ projected (merged p.fields h i) places
 
 -- a row is the own row of the item's event of a number, which is an update, at the places of a schema
 pub record HadUpdate (h : List Entry) (places : List ℕ) (i : ℕ) (r : List Value) : Type 0 where
@@ -32,21 +34,22 @@ pub record HadRecent (h : List Entry) (places : List ℕ) (i : ℕ) (r : List Va
   pub is : slice_get (recent_rows h i) behind ≡ Some own
   pub row : r ≡ projected own places
 
--- what a row of a mode is, by the number of its line; there are no slots of the modes that aren't built
-abbrev pub HadRow : Mode → ℕ → List Entry → List ℕ → ℕ → List Value → Type 0
-HadRow mode.Merge fields h places i r = HadState fields h places i r
-HadRow mode.Raw fields h places i r = HadUpdate h places i r
-HadRow mode.Distinct fields h places i r = HadUpdate h places i r ⊎ HadRecent h places i r
-HadRow mode.Command fields h places i r = ⊥
+-- what a row of a mode is, by the number of its line
+abbrev pub HadRow : Mode → Shape → List Entry → List ℕ → ℕ → List Value → Type 0
+HadRow mode.Merge p h places i r = HadState p h places i r
+HadRow mode.Raw p h places i r = HadUpdate h places i r
+HadRow mode.Distinct p h places i r = HadUpdate h places i r ⊎ HadRecent h places i r
+HadRow mode.Command p h places i r = HadKey p h places i r
 
--- a later line of a mode tells of more events than an earlier one; in mode DISTINCT it begins where the earlier one led, or behind, as the lines of the snapshot pass over none
+-- a later line of a mode tells of more events than an earlier one; in mode DISTINCT it begins where the earlier one led, or behind, as the lines of the snapshot pass
+-- over none; and in mode COMMAND no fewer had been enqueued
 abbrev pub Rises : Mode → Came → Came → Type 0
 Rises mode.Merge early late = early.upto < late.upto
 Rises mode.Raw early late = early.upto < late.upto
 Rises mode.Distinct early late = (early.upto ≤ late.before) × (late.before ≤ late.upto)
-Rises mode.Command early late = ⊥
+Rises mode.Command early late = early.at ≤ late.at
 
--- each row that came is a state that the item had, which in the modes RAW and DISTINCT is an update by itself, and of two lines, the newest first, none goes back
-pub record IsTrueOf (mode : Mode) (fields : ℕ) (h : List Entry) (places : List ℕ) (cs : List Came) : Type 0 where
-  pub had : (c : Came) (r : List Value) → Contains cs c → c.what ≡ Row r → HadRow mode fields h places c.upto r
+-- each row that came is a state that the item had, which in the modes RAW and DISTINCT is an update by itself and in mode COMMAND a key's row or its absence, and of two lines, the newest first, none goes back
+pub record IsTrueOf (mode : Mode) (p : Shape) (h : List Entry) (places : List ℕ) (cs : List Came) : Type 0 where
+  pub had : (c : Came) (r : List Value) → Contains cs c → c.what ≡ Row r → HadRow mode p h places c.upto r
   pub rise : (newer between older : List Came) (late early : Came) → cs ≡ newer ++ late ∷ between ++ early ∷ older → Rises mode early late

@@ -1,20 +1,27 @@
 -- The world: all items with their whole histories, all sessions with all their numbered lines, and the connections (this project's profile).
-use Rattle.std.specs.Prelude.{◌==◌, ℕ, zero, suc, ◌+◌, List, [], ◌∷◌, ◌++◌, length, map, min, Bool, true, false, ◌&&◌, ◌||◌, Option, None, Some, nat_lt, codes, if◌then◌else◌}
+use Rattle.std.specs.Prelude.{◌==◌, ℕ, zero, suc, ◌+◌, List, [], ◌∷◌, ◌++◌, length, map, min, Bool, true, false, ◌&&◌, ◌||◌, Option, None, Some, nat_lt, codes, if◌then◌else◌, option_and_then}
 use Rattle.std.specs.Option.{option_map_or}
 use Rattle.std.specs.List.{flat_map}
 use Rattle.std.specs.Fmt.{decimal}
 use Rattle.ls_event.specs.declared.event.Entry.{Entry}
+use Rattle.ls_event.specs.declared.event.Mode.{Mode}
+use Rattle.ls_event.specs.declared.event.Mode.TheVariants as mode
+use Rattle.ls_event.specs.declared.item.ItemDef.{ItemDef}
+use Rattle.ls_event.specs.declared.item.Kind.TheVariants as kind
+use Rattle.ls_event.specs.Shapes.{Shape, shape_of}
 use Rattle.ls_event.specs.Slots.{Slot, enqueued, is_far}
+use Rattle.ls_event.specs.Joining.{plan_of, joined}
+use Rattle.ls_request.specs.declared.request.LinkKind.{LinkKind}
 use Rattle.ls_spec.specs.Came.{Came}
 use Rattle.ls_line.specs.declared.line.Line.TheVariants as line
 use Rattle.ls_line.specs.Lines.{text_of}
 use Rattle.ls_spec.specs.Lines.{Line, Begins, Configures, Tells, came}
-use Rattle.ls_spec.specs.Cutting.{Wanted, Ask, Turn, joined, is_built, turn}
+use Rattle.ls_spec.specs.Tables.{InSchema, place_in}
+use Rattle.ls_spec.specs.Cutting.{Wanted, Ask, Turn, turn}
 
--- an item: its name, the names of its fields, and its history
+-- an item: its definition and its history
 pub record Item : Type 0 where
-  pub name : List ℕ
-  pub fields : List (List ℕ)
+  pub definition : ItemDef
   pub history : List Entry
 
 -- a slot of a session: the subscription, the place of the item in it, the item, the slot's number on the item, and what the subscription wants
@@ -43,31 +50,34 @@ pub record Session : Type 0 where
   pub owed : List (List ℕ)
   pub streams : List Stream
 
--- a connection: its name and its session, if it ever had one
+-- a connection: its name, what it goes over, and the session of its last create, if it ever had one
 pub record Connection : Type 0 where
   pub name : List ℕ
+  pub link : LinkKind
   pub session : Option ℕ
 
--- the number of script lines so far, the items, the sessions and the connections, each in the order in which they came
+-- the number of script lines so far, the adapter set's name, the last tick, and the items, the sessions and the connections, each in the order in which they came
 pub record World : Type 0 where
   pub line : ℕ
+  pub set : List ℕ
+  pub tick : ℕ
   pub items : List Item
   pub sessions : List Session
   pub connections : List Connection
 
 abbrev pub empty : World
-empty = record { line = 0; items = []; sessions = []; connections = [] }
+empty = record { line = 0; set = codes "DEFAULT"; tick = 0; items = []; sessions = []; connections = [] }
 
--- an item's history and its number of fields; none is past the last
+-- an item's history, and its shape; past the last there is nothing
 abbrev pub history_of : List Item → ℕ → List Entry
 history_of [] n = []
 history_of (i ∷ items) zero = i.history
 history_of (i ∷ items) (suc n) = history_of items n
 
-abbrev pub fields_of : List Item → ℕ → ℕ
-fields_of [] n = 0
-fields_of (i ∷ items) zero = length i.fields
-fields_of (i ∷ items) (suc n) = fields_of items n
+abbrev pub shape_at : List Item → ℕ → Shape
+shape_at [] n = record { kind = kind.Merge; fields = 0; key = 0; command = 0 }
+shape_at (i ∷ items) zero = shape_of i.definition
+shape_at (i ∷ items) (suc n) = shape_at items n
 
 -- the list with the n-th changed
 abbrev pub change : {A : Type 0} → ℕ → (A → A) → List A → List A
@@ -125,27 +135,44 @@ least_free_from (suc k) n used = if holds n used then least_free_from k (n + 1) 
 abbrev pub free_number : List Session → ℕ → ℕ
 free_number sessions item = let used = numbers_of item (all_live sessions) in least_free_from (length used) 1 used
 
+-- the slot that joins an item, as is asked
+abbrev pub joined_slot : List Item → Ask → Slot
+joined_slot items a = joined (plan_of (shape_at items a.item) (history_of items a.item) a.mode a.size) (history_of items a.item) a.wanted.snapshot
+
 -- the slots of a new subscription, from this place on, where an item's next slot gets this number
 abbrev pub joined_all : List Item → (ℕ → ℕ) → ℕ → ℕ → List Ask → List Live
 joined_all items free sub place [] = []
 joined_all items free sub place (a ∷ asks) =
-    record { sub = sub; place = place; item = a.item; number = free a.item; wanted = a.wanted; slot = joined (fields_of items a.item) (history_of items a.item) a }
-    ∷ joined_all items free sub (place + 1) asks
+    record { sub = sub; place = place; item = a.item; number = free a.item; wanted = a.wanted; slot = joined_slot items a } ∷ joined_all items free sub (place + 1) asks
 
--- whether each asked item is one of so many
-abbrev pub all_declared : ℕ → List Ask → Bool
-all_declared many [] = true
-all_declared many (a ∷ asks) = nat_lt a.item many && all_declared many asks
+-- the first of what is asked, if anything is
+abbrev pub first_of : List Ask → Option Ask
+first_of [] = None
+first_of (a ∷ asks) = Some a
 
--- whether slots of each asked mode are built
-abbrev pub all_built : List Ask → Bool
-all_built [] = true
-all_built (a ∷ asks) = is_built a.mode && all_built asks
+-- the places of the key and the command in the schema of a subscription of mode COMMAND, by what is asked of its first item
+abbrev pub keys_in : Mode → Wanted → Shape → Option InSchema
+keys_in mode.Command w p = Some (record { key = place_in p.key w.places; command = place_in p.command w.places })
+keys_in m w p = None
 
--- a new subscription numbers SUBOK and CONF, and its slots join the round's end
+abbrev pub keys_shown : List Item → List Ask → Option InSchema
+keys_shown items asks = option_and_then (λ a. keys_in a.mode a.wanted (shape_at items a.item)) (first_of asks)
+
+-- RAW knows no frequency, so it isn't filtered
+abbrev pub is_filtered : Mode → Bool
+is_filtered mode.Raw = false
+is_filtered m = true
+
+abbrev pub are_filtered : List Ask → Bool
+are_filtered asks = option_map_or (λ a. is_filtered a.mode) (first_of asks) true
+
+-- a new subscription numbers SUBOK or SUBCMD, and CONF, and its slots join the round's end
 abbrev pub added : List Item → (ℕ → ℕ) → ℕ → ℕ → List Ask → Board → Board
 added items free sub fields asks b =
-    record b { lines = Configures sub ∷ Begins sub (length asks) fields ∷ b.lines; round = b.round ++ joined_all items free sub 1 asks }
+    record b {
+      lines = Configures sub (are_filtered asks) ∷ Begins sub (length asks) fields (keys_shown items asks) ∷ b.lines;
+      round = b.round ++ joined_all items free sub 1 asks;
+    }
 
 -- a slot takes its item's next event, if there is one
 abbrev pub enqueue_slot : List Entry → Live → Live
@@ -212,9 +239,9 @@ abbrev pub given_next : Session → Session
 given_next s = if is_unsent s then record s { sent = s.sent + 1; streams = noted_in (s.sent + 1) s.streams } else s
 
 -- what a new stream begins with: the session's name, the longest request, the keep-alive in ms and no control link; the server's name; the bandwidth (TLCP 2.1, CONOK, SERVNAME, CONS)
-abbrev pub opening_lines : ℕ → List (List ℕ)
-opening_lines number = text_of (line.ConOk (codes "S" ++ decimal number) 5000) ∷ text_of line.ServName ∷ text_of (line.Cons (codes "unlimited")) ∷ []
+abbrev pub opening_lines : ℕ → ℕ → List (List ℕ)
+opening_lines number keepalive = text_of (line.ConOk (codes "S" ++ decimal number) keepalive) ∷ text_of line.ServName ∷ text_of (line.Cons (codes "unlimited")) ∷ []
 
--- a session that begins, by its number from 1
-abbrev pub opened : ℕ → Session
-opened number = record { board = record { lines = []; round = [] }; sent = 0; owed = opening_lines number; streams = record { from = 0; given = [] } ∷ [] }
+-- a session that begins, by its number from 1 and its keep-alive
+abbrev pub opened : ℕ → ℕ → Session
+opened number keepalive = record { board = record { lines = []; round = [] }; sent = 0; owed = opening_lines number keepalive; streams = record { from = 0; given = [] } ∷ [] }

@@ -8,20 +8,20 @@ ghost use Rattle.ls_event.specs.declared.event.Mode.TheVariants as mode;
 ghost use Rattle.ls_event.specs.History.{merged};
 ghost use Rattle.ls_event.specs.Updates.{updates_between};
 ghost use Rattle.ls_event.specs.Keyed.{keyed, row_at};
-ghost use Rattle.ls_event.specs.Slots.{Plan, Slot};
+ghost use Rattle.ls_event.specs.Slots.{Slot};
 ghost use Rattle.ls_spec.specs.Came.{Came, whats};
 ghost use Rattle.ls_event.specs.Cuts.{cut, pending};
 ghost use Rattle.ls_spec.specs.Lines.{came};
-ghost use Rattle.ls_spec.specs.Cutting.{Wanted, client_row, command_with, schema_of, turn};
-ghost use Rattle.ls_spec.specs.World.{World, Session, Live, empty, history_of, fields_of};
-ghost use Rattle.ls_spec.specs.Steps.{Step, does_all};
+ghost use Rattle.ls_spec.specs.Cutting.{Wanted, client_row, schema_of, turn};
+ghost use Rattle.ls_spec.specs.World.{World, Session, Live, empty, history_of, shape_at};
+ghost use Rattle.ls_script.specs.declared.step.Repeat.{Repeat};
+ghost use Rattle.ls_spec.specs.Steps.{does_all};
 ghost use Rattle.ls_spec.specs.Script.{world_of};
 ghost use Rattle.ls_spec.specs.Lawful.{Each, LawfulSlot, Lawful};
 ghost use Rattle.ls_mirror.specs.Client.{Row};
 ghost use Rattle.ls_spec.specs.RawMode.{Accounts};
 ghost use Rattle.ls_spec.specs.DistinctMode.{LeavesOut};
-ghost use Rattle.ls_spec.specs.CommandMode.{IsKeyed, IsToKnow, LawfulCommand, LawfulLife};
-ghost use Rattle.ls_spec.specs.Life.{Moment, lives};
+ghost use Rattle.ls_spec.specs.CommandMode.{noted_at, AgreesAt, NoTurn, IsToKnow};
 ghost use Rattle.ls_spec.specs.Tables.{projected_row, table_at};
 ghost use Rattle.ls_spec.specs.Ranges.{InRange};
 ghost use Rattle.ls_spec.specs.Told.{IsTrueOf};
@@ -29,7 +29,7 @@ ghost use Rattle.ls_spec.specs.Told.{IsTrueOf};
 /// Each world that steps make of the empty one is lawful, where the parts of each step are in their ranges: what every client decodes from the
 /// bytes of its lines are states that its item had, and they never go back.
 pub fn each_world_is_lawful()
-    ensures { (steps : List Step) → Each InRange steps → Lawful (does_all empty steps) }
+    ensures { (steps : List Repeat) → Each InRange steps → Lawful (does_all empty steps) }
 {}
 
 /// Each world that the lines of a script make of the empty one is lawful: they ask for no step outside the ranges.
@@ -40,14 +40,15 @@ pub fn each_script_is_lawful()
 /// In mode MERGE, once nothing waits behind a slot's first line, the client's row is the item's state after the last event that was enqueued, at the places of the schema.
 pub fn settled_clients_have_the_items_state()
     ensures { (h : List Entry) (w : Wanted) (s : Slot) (cs : List Came) → LawfulSlot h w s cs → s.plan.mode ≡ mode.Merge → pending h s ≡ false → s.given ≡ true
-        → client_row (length w.places) cs ≡ projected (merged s.plan.fields h s.last) w.places }
+        → client_row (length w.places) cs ≡ projected (merged s.plan.shape.fields h s.last) w.places }
 {}
 
 /// In a lawful world each row that came to a client is a state that the item had, at a number that its history reached, and no line goes back behind an
-/// earlier one: in mode MERGE it is the merged state, in mode RAW the own row of the update of that number, and in mode DISTINCT such a row or one of the snapshot.
+/// earlier one: in mode MERGE it is the merged state, in mode RAW the own row of the update of that number, in mode DISTINCT such a row or one of the snapshot,
+/// and in mode COMMAND a key's row or its absence.
 pub fn no_state_is_invented()
     ensures { (w : World) (s : Session) (v : Live) → Lawful w → Contains w.sessions s → Contains s.board.round v
-        → IsTrueOf v.slot.plan.mode (fields_of w.items v.item) (history_of w.items v.item) v.wanted.places (came v.sub v.place s.board.lines) }
+        → IsTrueOf v.slot.plan.mode (shape_at w.items v.item) (history_of w.items v.item) v.wanted.places (came v.sub v.place s.board.lines) }
 {}
 
 /// In mode RAW what came to a client accounts for each update behind its first place up to the slot's: it is told by its own row or counted among the lost, once and in order.
@@ -67,18 +68,18 @@ pub fn only_old_rows_are_left_out()
         → (c : Came) (r : List Value) → Contains cs c → c.what ≡ Row r → c.before < c.upto → LeavesOut s.plan.size h c }
 {}
 
-/// Whatever happens to a slot of mode COMMAND that joins with a schema which shows the key and the command: at each key that had its turn the client's table
-/// agrees with the item's at the place of that key, other keys are absent from it, and the numbers of the lines never fall.
+/// In mode COMMAND each key that had its turn is in the client's table as the item had it at the place of that key, which is no further than the last event that
+/// was enqueued. Another key is absent from the table: its turn is owed, or there is nothing to tell of it.
 pub fn each_key_is_told_as_it_was()
-    ensures { (w : Wanted) (p : Plan) (h : List Entry) → IsKeyed p w.places → p.mode ≡ mode.Command → p.base ≡ length h
-        → (ms : List Moment) → LawfulLife w (lives w (record { history = h; slot = command_with p h w.snapshot; came = [] }) ms) }
+    ensures { (h : List Entry) (w : Wanted) (s : Slot) (cs : List Came) → LawfulSlot h w s cs → s.plan.mode ≡ mode.Command
+        → (k : List ℕ) → AgreesAt h w s.plan s.place s.last cs k (noted_at k s.noted) × (noted_at k s.noted ≡ None → NoTurn h w s.plan s.place s.last s.owed k) }
 {}
 
 /// Once such a slot has no cut, the client's table is the item's after the last event that was enqueued: at each key with a snapshot, and else at each that an
 /// update since named.
 pub fn settled_tables_are_the_items()
-    ensures { (h : List Entry) (w : Wanted) (s : Slot) (cs : List Came) → LawfulCommand h w s cs → s.plan.mode ≡ mode.Command → cut h s ≡ None
-        → (k : List ℕ) → IsToKnow h w s k → table_at (schema_of w s.plan) k (whats cs) ≡ projected_row w.places (row_at k (keyed s.plan h s.last)) }
+    ensures { (h : List Entry) (w : Wanted) (s : Slot) (cs : List Came) → LawfulSlot h w s cs → s.plan.mode ≡ mode.Command → cut h s ≡ None
+        → (k : List ℕ) → IsToKnow h w s k → table_at (schema_of w s.plan) k (whats cs) ≡ projected_row w.places (row_at k (keyed s.plan.shape h s.last)) }
 {}
 
 /// Once a slot isn't pending, its place is the number of the last event that was enqueued. In mode COMMAND each key has a place of its own.

@@ -15,7 +15,9 @@ pub use plain::{merged_row, plain_merge_cut};
 /// Why a line of a script isn't done.
 #[derive(Clone, Copy, Debug, PartialEq, Eq)]
 pub enum Refused {
-    /// Its form isn't built yet.
+    /// It is outside the grammar, or names something that isn't declared.
+    BadScript,
+    /// It asks for something that isn't built yet.
     NotBuilt,
 }
 

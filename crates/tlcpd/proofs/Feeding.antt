@@ -7,7 +7,7 @@ use Rattle.ls_outside.proofs.Bytes.{appends_on}
 use Rattle.ls_spec.specs.declared.Refused.{Refused}
 use Rattle.ls_spec.specs.World.{World}
 use Rattle.ls_spec.specs.Steps.{Stepped}
-use Rattle.ls_spec.specs.Script.{step, whole_from, rest_from, text_of, world_of, done, first_refused, IsPrefix}
+use Rattle.ls_spec.specs.Script.{step, whole_from, rest_from, text_of, text_of_outs, world_of, done, first_refused, IsPrefix, last_line}
 use Rattle.tlcpd.specs.declared.engine.Engine.{Engine}
 use Rattle.tlcpd.specs.Engine.{StandsEngine, Steps}
 use Rattle.tlcpd.specs.Replay.{Midway, midway_after, line_after, kept_after, Met, Feeds, Puts, Holding, StandsFor, EndsNoLine}
@@ -21,10 +21,10 @@ pub nothing : (held : Option (List ℕ)) → Appends held held []
 nothing None = tt
 nothing (Some h) = sym (append-nil h)
 
-fed_step : (m : Midway) (line : List ℕ) (s : Stepped) (a : Fed) (held held' : Option (List ℕ)) → step m.world line ≡ Ok s → Puts a held held' s.text → Feeds a m (line ∷ []) held held'
-fed_step m line s fed.All held held' is p = record { written = s.text; appends = p; met = (rw is refl, rw is (sym (append-nil s.text))) }
+fed_step : (m : Midway) (line : List ℕ) (s : Stepped) (a : Fed) (held held' : Option (List ℕ)) → step m.world line ≡ Ok s → Puts a held held' (text_of_outs s.outs) → Feeds a m (line ∷ []) held held'
+fed_step m line s fed.All held held' is p = record { written = text_of_outs s.outs; appends = p; met = (rw is refl, rw is (sym (append-nil (text_of_outs s.outs)))) }
 fed_step m line s fed.WriteFault held held' is p =
-    record { written = take p.0 s.text; appends = p.1; met = (drop p.0 s.text, rw is (append-nil s.text ∙ sym (take-append-drop p.0 s.text))) }
+    record { written = take p.0 (text_of_outs s.outs); appends = p.1; met = (drop p.0 (text_of_outs s.outs), rw is (append-nil (text_of_outs s.outs) ∙ sym (take-append-drop p.0 (text_of_outs s.outs)))) }
 fed_step m line s (fed.Stopped refused number) held held' is p = absurd p
 fed_step m line s fed.NoMemory held held' is p = absurd p
 
@@ -103,7 +103,7 @@ met_stopped : (a : Fed) (m : Midway) (xs ys : List (List ℕ)) (w : List ℕ) �
 met_stopped fed.All m xs ys w stopped met = absurd (stopped refl)
 met_stopped (fed.Stopped refused line) m xs ys w stopped met =
     let s : Stops m.world xs ys = stops m.world xs ys met.1 in
-    (rw s.count met.0, omega (arith, s.count, met.1, length-append xs ys), s.cause ∙ met.2, rw s.text met.3)
+    (rw s.count met.0, omega (arith, s.count, met.1, length-append xs ys), s.cause ∙ met.2, (rw s.text met.3))
 met_stopped fed.WriteFault m xs ys w stopped met = prefix_in w (text_of m.world xs) (text_of m.world (xs ++ ys)) met (text_begins m.world xs ys)
 met_stopped fed.NoMemory m xs ys w stopped met = prefix_in w (text_of m.world xs) (text_of m.world (xs ++ ys)) met (text_begins m.world xs ys)
 
@@ -146,6 +146,10 @@ rest_answered a m piece front rest h j answer is plain f =
 pub rest_stands : (r : Holding) (m : Midway) (piece front rest : List ℕ) (h j : Option (List ℕ)) → piece ≡ front ++ rest → EndsNoLine rest → Feeds fed.All m (whole_from m.carry front) h j → StandsFor r (kept_after (midway_after m front) rest) → StandsFor r (midway_after m piece)
 rest_stands r m piece front rest h j is plain f st =
     subst (λ (n : Midway). StandsFor r n) (sym (midway_kept (midway_after m front) rest plain) ∙ midway_on m front rest f.met.0 ∙ ap (λ bytes. midway_after m bytes) (sym is)) st
+
+-- no line is left
+pub none_left : (m : Midway) (held : Option (List ℕ)) → last_line m.carry ≡ [] → Feeds fed.All m (last_line m.carry) held held
+none_left m held none = subst (λ (ls : List (List ℕ)). Feeds fed.All m ls held held) (sym none) (record { written = []; appends = nothing held; met = (refl, refl) })
 
 -- no byte was taken
 pub none_stands : (r : Holding) (m : Midway) → StandsFor r m → StandsFor r (midway_after m [])

@@ -1,51 +1,53 @@
--- The steps of the world's only session.
-use Rattle.std.proofs.Common.{◌≡◌, ℕ, zero, suc, ◌^◌, List, [], ◌∷◌, ◌++◌, length, refl, sym, ◌∙◌, ap, subst, cond, Bool, true, false, Option, Some, None, nat_le, slice_get, codes, option_and_then}
+-- The turns and enqueues of the world's only session.
+use Rattle.std.proofs.Common.{◌≡◌, ◌==◌, ◌&&◌, ℕ, ◌+◌, ◌^◌, List, [], ◌∷◌, length, map, refl, sym, ◌∙◌, ap, subst, cond, Bool, true, false, Option, Some, None, nat_le, nat_lt, option_and_then}
 use Rattle.std.specs.Option.{option_map_or}
-use Rattle.ls_cell.specs.Cell.{Held}
-use Rattle.ls_spec.specs.World.{World, Item, Live, Session, Connection, change, is_unsent}
-use Rattle.ls_spec.specs.Steps.{Once, with_session, session_of, name_of, note, on_connection, Answer, Gave, Idle, Spent, Turned, next_given, round_given, round_taken, round_asked, owed_given, turned, took_by, take_once}
-use Rattle.ls_spec.specs.World.{Told}
-use Rattle.tlcpd.specs.Session.{StandsSession, DidTurned}
-use Rattle.tlcpd.specs.Hub.{StandsAll, StandsConnections, StandsHub, IsNamed, DidOnce, told_text, is_line}
-use Rattle.tlcpd.specs.declared.session.Session.{Session as Kept}
-use Rattle.tlcpd.specs.declared.session.Told.{Told as Said}
-use Rattle.tlcpd.specs.declared.session.Told.TheVariants as told
+use Rattle.ls_event.specs.Slots.{Slot, enqueued}
+use Rattle.ls_event.specs.declared.event.Entry.{Entry}
+use Rattle.ls_cell.specs.Cell.{Held, StandsCell, enqueued_at, enqueue_answer}
+use Rattle.ls_cell.specs.Table.{slot_at, set_slot}
+use Rattle.ls_cell.specs.declared.cell.Enqueued.{Enqueued}
+use Rattle.ls_cell.specs.declared.cell.Enqueued.TheVariants as enqueued_said
+use Rattle.ls_script.specs.declared.out.Out.TheVariants as out
+use Rattle.ls_spec.specs.Lines.{Line}
+use Rattle.ls_spec.specs.World.{World, Item, Live, Session, change, is_unsent, history_of, live_at, is_at, enqueue_slot, enqueue_at, enqueued_in, on_board, Told}
+use Rattle.ls_spec.specs.Steps.{Once, with_session, session_of, name_of, Answer, Gave, Idle, Spent, Turned, next_given, round_given, round_taken, round_asked, owed_given, turned, took_by, take_once, enqueued_by, enqueue_once}
+use Rattle.ls_spec.specs.Lawful.{Each, LawfulRecords, LawfulSession}
+use Rattle.ls_spec.proofs.Each.{each_at, each_map}
+use Rattle.tlcpd.specs.Subscription.{Subscribed}
+use Rattle.tlcpd.specs.Session.{slots_in, StandsItem, StandsRound, StandsSession, DidTurned}
+use Rattle.tlcpd.specs.Hub.{StandsAll, Leads, StandsParts, IsOf, DidOnce, out_given, is_line, is_slot_of, is_slot, DidEnqueue, out_enqueued, has_moved}
+use Rattle.tlcpd.specs.declared.session.Item.{Item as Kept}
+use Rattle.tlcpd.specs.declared.session.Session.{Session as Holding}
+use Rattle.tlcpd.specs.declared.session.Given.{Given as Said}
+use Rattle.tlcpd.specs.declared.session.Given.TheVariants as given
+use Rattle.tlcpd.proofs.Sessions.{definition_same}
 
--- the session of a connection that is there
-pub record AtSession (c : Option Held) (k : Option Kept) (w : World) (connection : ℕ) (called : List ℕ) : Type 0 where
+-- the session of a connection that has it
+pub record AtSession (c : Option Kept) (k : Option Holding) (w : World) (connection : ℕ) (called : List ℕ) : Type 0 where
   pub session : Session
   pub only : w.sessions ≡ session ∷ []
-  pub kept : Kept
+  pub kept : Holding
   pub is : k ≡ Some kept
   pub stands : StandsSession c kept w.items session
   pub number : session_of w connection ≡ Some 0
   pub name : name_of w connection ≡ called
 
-found_first : (conn value : Connection) (connection : ℕ) → slice_get (conn ∷ []) connection ≡ Some value → conn ≡ value
-found_first conn value zero found = cc
-found_first conn value (suc n) found = absurd (let x : None ≡ Some value = found in cc)
-
-pub at_session : (c : Option Held) (k : Option Kept) (w : World) (connection : ℕ) (called : List ℕ) → StandsHub c k w → IsNamed w connection called → AtSession c k w connection called
-at_session c k w connection called st named = by_both w.connections refl w.sessions refl k refl st.connections st.session
+pub at_session : (c : Option Kept) (k : Option Holding) (w : World) (connection : ℕ) (called : List ℕ) → StandsParts c k w → IsOf w connection called → AtSession c k w connection called
+at_session c k w connection called st named =
+    by_both w.sessions refl k refl (subst (λ (o : Option ℕ). Leads w.sessions o) named.session (each_at (λ x. Leads w.sessions x.session) connection named.value w.connections named.found st.leads)) st.all
   where
-    by_both : (conns : List Connection) → w.connections ≡ conns → (ss : List Session) → w.sessions ≡ ss → (o : Option Kept) → k ≡ o → StandsConnections conns ss → StandsAll c o w.items ss → AtSession c k w connection called
-    by_both [] is ss these o kept x y = absurd (let e : None ≡ Some named.value = sym (ap (λ cs. slice_get cs connection) is) ∙ named.found in cc)
-    by_both (a ∷ conns) is [] these o kept x y = absurd x
-    by_both (a ∷ b ∷ conns) is (s ∷ ss) these o kept x y = absurd x
-    by_both (a ∷ []) is (s ∷ t ∷ ss) these o kept x y = absurd x
-    by_both (a ∷ []) is (s ∷ []) these None kept x y = absurd y
-    by_both (a ∷ []) is (s ∷ []) these (Some q) kept x y =
-        let found : slice_get (a ∷ []) connection ≡ Some named.value = sym (ap (λ cs. slice_get cs connection) is) ∙ named.found in
-        let same : a ≡ named.value = found_first a named.value connection found in
-        let value : named.value.session ≡ Some 0 = ap (λ v. v.session) (sym same) ∙ x in
-        let session : session_of w connection ≡ Some 0 = ap (λ o. option_and_then (λ v. v.session) o) named.found ∙ value in
+    by_both : (ss : List Session) → w.sessions ≡ ss → (o : Option Holding) → k ≡ o → Leads ss (Some 0) → StandsAll c o w.items ss → AtSession c k w connection called
+    by_both [] these o kept x y = absurd x
+    by_both (s ∷ ss) these None kept x y = absurd y
+    by_both (s ∷ t ∷ ss) these (Some q) kept x y = absurd y
+    by_both (s ∷ []) these (Some q) kept x y =
         record {
           session = s;
           only = these;
           kept = q;
           is = kept;
           stands = y;
-          number = session;
+          number = ap (λ o. option_and_then (λ v. v.session) o) named.found ∙ named.session;
           name = ap (λ o. option_map_or (λ v. v.name) o []) named.found ∙ named.name;
         }
 
@@ -55,10 +57,15 @@ with_only w connection s none f only number =
     ap (λ o. with_session w.sessions o none f) number ∙ ap (λ ss. with_session ss (Some 0) none f) only
 
 -- another session in its place
-pub same_connections : (conns : List Connection) (s t : Session) → StandsConnections conns (s ∷ []) → StandsConnections conns (t ∷ [])
-same_connections [] s t x = x
-same_connections (a ∷ []) s t x = x
-same_connections (a ∷ b ∷ conns) s t x = x
+pub leads_same : (s t : Session) (o : Option ℕ) → Leads (s ∷ []) o → Leads (t ∷ []) o
+leads_same s t None l = l
+leads_same s t (Some n) l = l
+
+pub leads_changed : (w : World) (s : Session) (f : Session → Session) → w.sessions ≡ s ∷ [] → Each (λ x. Leads w.sessions x.session) w.connections → Each (λ x. Leads (change 0 f w.sessions) x.session) w.connections
+leads_changed w s f only leads =
+    subst (λ (ss : List Session). Each (λ x. Leads (change 0 f ss) x.session) w.connections) (sym only)
+    (each_map (λ x. Leads (s ∷ []) x.session) (λ x. Leads (f s ∷ []) x.session) w.connections (λ x l. leads_same s (f s) x.session l)
+    (subst (λ (ss : List Session). Each (λ x. Leads ss x.session) w.connections) only leads))
 
 -- a turn without a number leaves the session
 next_not_spent : {A : Type 0} (s : Session) → (next_given s).answer ≡ Spent → A
@@ -84,57 +91,201 @@ spent_stays items s [] e = by_test (is_unsent s) e
     by_test true x = next_not_spent s x
     by_test false x = spent_asked items s s.board.round x
 
+-- the world with another session in the place of the only one
+moved_parts : (w : World) (s t : Session) (c' : Option Kept) (k' : Holding) (c : Option Kept) (k : Option Holding) → w.sessions ≡ s ∷ [] → StandsParts c k w → StandsSession c' k' w.items t
+    → StandsParts c' (Some k') (record w { sessions = change 0 (λ old. t) w.sessions })
+moved_parts w s t c' k' c k only st did =
+    record {
+      all = subst (λ (ss : List Session). StandsAll c' (Some k') w.items (change 0 (λ old. t) ss)) (sym only) did;
+      leads = leads_changed w s (λ old. t) only st.leads;
+    }
+
 -- a turn was taken
-took : (w : World) (called : List ℕ) (s : Session) (t : Turned) (said : Said) (old : List ℕ) (c' : Option Held) (k' : Kept) → w.sessions ≡ s ∷ [] → StandsConnections w.connections w.sessions → (t.answer ≡ Spent → t.session ≡ s)
-    → DidTurned t said c' k' w.items → (a : Answer) → t.answer ≡ a → DidOnce w (took_by w called 0 t.session a) (is_line said) old (old ++ told_text called said) c' (Some k')
-took w called s t (told.Line text) old c' k' only conns same d a is =
+took : (w : World) (connection : ℕ) (called : List ℕ) (s : Session) (t : Turned) (said : Said) (c c' : Option Kept) (k : Option Holding) (k' : Holding) → w.sessions ≡ s ∷ [] → name_of w connection ≡ called → StandsParts c k w
+    → (t.answer ≡ Spent → t.session ≡ s) → DidTurned t said c' k' w.items → (a : Answer) → t.answer ≡ a → DidOnce w (took_by w connection 0 t.session a) (out_given called said) (is_line said) c' (Some k')
+took w connection called s t (given.Line text) c c' k k' only name st same d a is =
     let e : a ≡ Gave text = sym is ∙ d.answer in
-    subst (λ (x : Answer). DidOnce w (took_by w called 0 t.session x) true old (old ++ on_connection called text) c' (Some k')) (sym e)
-    (record {
-      more = refl;
-      text = refl;
-      stands = record {
-        session = subst (λ (ss : List Session). StandsAll c' (Some k') w.items (change 0 (λ old. t.session) ss)) (sym only) d.stands;
-        connections = subst (λ (ss : List Session). StandsConnections w.connections (change 0 (λ old. t.session) ss)) (sym only) (same_connections w.connections s t.session (subst (λ (ss : List Session). StandsConnections w.connections ss) only conns));
-      };
-      connections = refl;
-    })
-took w called s t told.Idle old c' k' only conns same d a is =
+    subst (λ (x : Answer). DidOnce w (took_by w connection 0 t.session x) (out.Line called text) true c' (Some k')) (sym e)
+    (record { more = refl; out = ap (λ n. out.Line n text) name; stands = moved_parts w s t.session c' k' c k only st d.stands; connections = refl })
+took w connection called s t given.Idle c c' k k' only name st same d a is =
     let e : a ≡ Idle = sym is ∙ d.answer in
-    subst (λ (x : Answer). DidOnce w (took_by w called 0 t.session x) false old (old ++ note (codes "-idle")) c' (Some k')) (sym e)
-    (record {
-      more = refl;
-      text = refl;
-      stands = record {
-        session = subst (λ (ss : List Session). StandsAll c' (Some k') w.items (change 0 (λ old. t.session) ss)) (sym only) d.stands;
-        connections = subst (λ (ss : List Session). StandsConnections w.connections (change 0 (λ old. t.session) ss)) (sym only) (same_connections w.connections s t.session (subst (λ (ss : List Session). StandsConnections w.connections ss) only conns));
-      };
-      connections = refl;
-    })
-took w called s t told.Spent old c' k' only conns same d a is =
+    subst (λ (x : Answer). DidOnce w (took_by w connection 0 t.session x) out.Idle false c' (Some k')) (sym e)
+    (record { more = refl; out = refl; stands = moved_parts w s t.session c' k' c k only st d.stands; connections = refl })
+took w connection called s t given.Spent c c' k k' only name st same d a is =
     let e : a ≡ Spent = sym is ∙ d.answer in
     let stays : t.session ≡ s = same d.answer in
-    subst (λ (x : Answer). DidOnce w (took_by w called 0 t.session x) false old (old ++ note (codes "-spent")) c' (Some k')) (sym e)
+    subst (λ (x : Answer). DidOnce w (took_by w connection 0 t.session x) out.Spent false c' (Some k')) (sym e)
     (record {
       more = refl;
-      text = refl;
+      out = refl;
       stands = record {
-        session = subst (λ (ss : List Session). StandsAll c' (Some k') w.items ss) (sym only) (subst (λ (x : Session). StandsSession c' k' w.items x) stays d.stands);
-        connections = conns;
+        all = subst (λ (ss : List Session). StandsAll c' (Some k') w.items ss) (sym only) (subst (λ (x : Session). StandsSession c' k' w.items x) stays d.stands);
+        leads = st.leads;
       };
       connections = refl;
     })
 
-pub turn_taken : (c c' : Option Held) (k k' : Kept) (said : Said) (old : List ℕ) (w : World) (connection : ℕ) (called : List ℕ)
-    → ((items : List Item) (s : Session) → StandsSession c k items s → DidTurned (turned items s) said c' k' items)
-    → StandsHub c (Some k) w → IsNamed w connection called → DidOnce w (take_once connection w) (is_line said) old (old ++ told_text called said) c' (Some k')
-turn_taken c c' k k' said old w connection called did st named =
+pub turn_taken : (c c' : Option Kept) (k k' : Holding) (said : Said) (w : World) (connection : ℕ) (called : List ℕ)
+    → ((items : List Item) (s : Session) → StandsSession c k items s → LawfulSession items s → DidTurned (turned items s) said c' k' items)
+    → StandsParts c (Some k) w → LawfulRecords w → IsOf w connection called → DidOnce w (take_once connection w) (out_given called said) (is_line said) c' (Some k')
+turn_taken c c' k k' said w connection called did st lawful named =
     let at : AtSession c (Some k) w connection called = at_session c (Some k) w connection called st named in
-    let s : Session = at.session in
     let same : at.kept ≡ k = cc in
-    let stands : StandsSession c k w.items at.session = subst (λ (q : Kept). StandsSession c q w.items at.session) same at.stands in
-    let e : take_once connection w ≡ took_by w called 0 (turned w.items at.session).session (turned w.items at.session).answer =
-    with_only w connection at.session _ (λ n x. took_by w (name_of w connection) n (turned w.items x).session (turned w.items x).answer) at.only at.number
-    ∙ ap (λ x. took_by w x 0 (turned w.items at.session).session (turned w.items at.session).answer) at.name in
-    subst (λ (o : Once). DidOnce w o (is_line said) old (old ++ told_text called said) c' (Some k')) (sym e)
-    (took w called at.session (turned w.items at.session) said old c' k' at.only st.connections (spent_stays w.items at.session at.session.owed) (did w.items at.session stands) (turned w.items at.session).answer refl)
+    let stands : StandsSession c k w.items at.session = subst (λ (q : Holding). StandsSession c q w.items at.session) same at.stands in
+    let sound : LawfulSession w.items at.session = (subst (λ (ss : List Session). Each (LawfulSession w.items) ss) at.only lawful.sessions).0 in
+    let e : take_once connection w ≡ took_by w connection 0 (turned w.items at.session).session (turned w.items at.session).answer =
+    with_only w connection at.session _ (λ n x. took_by w connection n (turned w.items x).session (turned w.items x).answer) at.only at.number in
+    subst (λ (o : Once). DidOnce w o (out_given called said) (is_line said) c' (Some k')) (sym e)
+    (took w connection called at.session (turned w.items at.session) said c c' (Some k) k' at.only at.name st (spent_stays w.items at.session at.session.owed) (did w.items at.session stands sound) (turned w.items at.session).answer refl)
+
+-- an enqueue
+
+-- the cell's enqueue is one of the only item
+pub enqueue_did : (c : Kept) (cell : Held) (said : Enqueued) → ((ss : List (Option Slot)) (h : List Entry) (s : Slot) → StandsCell c.cell ss h → slot_at ss 1 ≡ Some s → said ≡ enqueue_answer (length h) s.last)
+    → ((ss : List (Option Slot)) (h : List Entry) (s : Slot) → StandsCell c.cell ss h → slot_at ss 1 ≡ Some s → StandsCell cell (set_slot ss 1 (Some (enqueued_at h s))) h) → cell.item.shape ≡ c.cell.item.shape
+    → (items : List Item) (s : Slot) → StandsItem (Some c) (Some s ∷ []) items → DidEnqueue s items (Some said) (Some (record { name = c.name; fields = c.fields; cell = cell }))
+enqueue_did c cell said answered stands shape [] s st = absurd st
+enqueue_did c cell said answered stands shape (i ∷ j ∷ items) s st = absurd st
+enqueue_did c cell said answered stands shape (i ∷ []) s st =
+    record {
+      answer = ap (λ e. Some e) (answered (Some s ∷ []) i.history s st.cell refl);
+      item = record { cell = stands (Some s ∷ []) i.history s st.cell refl; definition = definition_same c cell shape ∙ st.definition; shape = shape ∙ st.shape };
+    }
+
+-- the slot of a place in the only subscription
+pub record AtSlot (o : Option Subscribed) (lines : List Line) (round : List Live) (sub place : ℕ) : Type 0 where
+  pub live : Live
+  pub only : round ≡ live ∷ []
+  pub here : is_at sub place live ≡ true
+  pub item : live.item ≡ 0
+
+slot_here : (o : Option Subscribed) (lines : List Line) (round : List Live) (sub place : ℕ) → StandsRound o lines round → is_slot_of o sub place ≡ true → AtSlot o lines round sub place
+slot_here None lines round sub place st is = absurd (let x : false ≡ true = is in cc)
+slot_here (Some u) lines [] sub place st is = absurd st
+slot_here (Some u) lines (v ∷ x ∷ vs) sub place st is = absurd st
+slot_here (Some u) lines (v ∷ []) sub place st is =
+    record {
+      live = v;
+      only = refl;
+      here = ap (λ n. (sub == n) && (place == v.place)) st.sub ∙ ap (λ n. (sub == u.sub) && (place == n)) st.place ∙ is;
+      item = st.item;
+    }
+
+slot_away : (o : Option Subscribed) (lines : List Line) (round : List Live) (sub place : ℕ) → StandsRound o lines round → is_slot_of o sub place ≡ false → live_at sub place round ≡ None
+slot_away None lines [] sub place st is = refl
+slot_away None lines (v ∷ vs) sub place st is = absurd st
+slot_away (Some u) lines [] sub place st is = absurd st
+slot_away (Some u) lines (v ∷ x ∷ vs) sub place st is = absurd st
+slot_away (Some u) lines (v ∷ []) sub place st is =
+    let e : is_at sub place v ≡ false = ap (λ n. (sub == n) && (place == v.place)) st.sub ∙ ap (λ n. (sub == u.sub) && (place == n)) st.place ∙ is in
+    ap (λ b. cond b (Some v) None) e
+
+pub no_slot : (c : Option Kept) (k : Option Holding) (w : World) (connection : ℕ) (called : List ℕ) (sub place : ℕ) → StandsParts c k w → IsOf w connection called → is_slot k sub place ≡ false
+    → DidOnce w (enqueue_once connection sub place w) out.NoSlot false c k
+no_slot c k w connection called sub place st named is =
+    let at : AtSession c k w connection called = at_session c k w connection called st named in
+    let away : is_slot_of at.kept.subscription sub place ≡ false = ap (λ o. is_slot o sub place) (sym at.is) ∙ is in
+    let e : enqueue_once connection sub place w ≡ record { after = w; out = out.NoSlot; more = false } =
+    with_only w connection at.session _ (λ n s. enqueued_by w n sub place (live_at sub place s.board.round)) at.only at.number
+    ∙ ap (enqueued_by w 0 sub place) (slot_away at.kept.subscription at.session.board.lines at.session.board.round sub place at.stands.round away) in
+    subst (λ (o : Once). DidOnce w o out.NoSlot false c k) (sym e) (record { more = refl; out = refl; stands = st; connections = refl })
+
+-- the session after its only slot took an event
+abbrev with_slot : Session → Live → Slot → Session
+with_slot s v slot = record s { board = record s.board { round = record v { slot = slot } ∷ [] } }
+
+slot_moved : (c c' : Option Kept) (k : Holding) (items : List Item) (s : Session) (v : Live) → StandsSession c k items s → s.board.round ≡ v ∷ [] → StandsItem c' (Some (enqueued v.slot) ∷ []) items
+    → StandsSession c' k items (with_slot s v (enqueued v.slot))
+slot_moved c c' k items s v st only item = by_round k.subscription refl (subst (λ (vs : List Live). StandsRound k.subscription s.board.lines vs) only st.round)
+  where
+    by_round : (o : Option Subscribed) → k.subscription ≡ o → StandsRound o s.board.lines (v ∷ []) → StandsSession c' k items (with_slot s v (enqueued v.slot))
+    by_round None e x = absurd x
+    by_round (Some u) e x =
+        record {
+          item = item;
+          owed = st.owed;
+          unsent = st.unsent;
+          last = st.last;
+          sent = st.sent;
+          round = subst (λ (o : Option Subscribed). StandsRound o s.board.lines (record v { slot = enqueued v.slot } ∷ [])) (sym e)
+              (record {
+                sub = x.sub;
+                place = x.place;
+                item = x.item;
+                number = x.number;
+                some = x.some;
+                client = record { places = x.client.places; keys = x.client.keys; row = x.client.row; given = x.client.given; table = x.client.table };
+              });
+        }
+
+-- the enqueue of the only slot in the world
+enqueue_is : (w : World) (connection : ℕ) (sub place : ℕ) (s : Session) (v : Live) → w.sessions ≡ s ∷ [] → session_of w connection ≡ Some 0 → s.board.round ≡ v ∷ [] → is_at sub place v ≡ true
+    → enqueue_once connection sub place w ≡ enqueued_by w 0 sub place (Some v)
+enqueue_is w connection sub place s v only number round here =
+    with_only w connection s _ (λ n s. enqueued_by w n sub place (live_at sub place s.board.round)) only number
+    ∙ ap (λ vs. enqueued_by w 0 sub place (live_at sub place vs)) round ∙ ap (λ b. enqueued_by w 0 sub place (cond b (Some v) None)) here
+
+round_moved : (items : List Item) (sub place : ℕ) (v : Live) → is_at sub place v ≡ true → nat_lt v.slot.last (length (history_of items v.item)) ≡ true
+    → map (enqueue_at items sub place) (v ∷ []) ≡ record v { slot = enqueued v.slot } ∷ []
+round_moved items sub place v here more =
+    ap (λ b. cond b (enqueue_slot (history_of items v.item) v) v ∷ []) here ∙ ap (λ b. cond b (record v { slot = enqueued v.slot }) v ∷ []) more
+
+pub slot_enqueued : (c c' : Option Kept) (k : Option Holding) (answer : Option Enqueued) (w : World) (connection : ℕ) (called : List ℕ) (sub place : ℕ)
+    → ((items : List Item) (s : Slot) → StandsItem c (Some s ∷ []) items → DidEnqueue s items answer c')
+    → StandsParts c k w → IsOf w connection called → is_slot k sub place ≡ true → DidOnce w (enqueue_once connection sub place w) (out_enqueued answer) (has_moved answer) c' k
+slot_enqueued c c' k answer w connection called sub place did st named is =
+    let at : AtSession c k w connection called = at_session c k w connection called st named in
+    let here : is_slot_of at.kept.subscription sub place ≡ true = ap (λ o. is_slot o sub place) (sym at.is) ∙ is in
+    let slot : AtSlot at.kept.subscription at.session.board.lines at.session.board.round sub place = slot_here at.kept.subscription at.session.board.lines at.session.board.round sub place at.stands.round here in
+    let item : StandsItem c (Some slot.live.slot ∷ []) w.items = subst (λ (vs : List Live). StandsItem c (slots_in vs) w.items) slot.only at.stands.item in
+    let d : DidEnqueue slot.live.slot w.items answer c' = did w.items slot.live.slot item in
+    let same : history_of w.items slot.live.item ≡ history_of w.items 0 = ap (history_of w.items) slot.item in
+    let e : enqueue_once connection sub place w ≡ enqueued_by w 0 sub place (Some slot.live) = enqueue_is w connection sub place at.session slot.live at.only at.number slot.only slot.here in
+    subst (λ (o : Once). DidOnce w o (out_enqueued answer) (has_moved answer) c' k) (sym e)
+    (by_more at slot d (nat_lt slot.live.slot.last (length (history_of w.items slot.live.item))) refl same)
+  where
+    by_more : (at : AtSession c k w connection called) (slot : AtSlot at.kept.subscription at.session.board.lines at.session.board.round sub place) → DidEnqueue slot.live.slot w.items answer c'
+        → (b : Bool) → nat_lt slot.live.slot.last (length (history_of w.items slot.live.item)) ≡ b → history_of w.items slot.live.item ≡ history_of w.items 0
+        → DidOnce w (cond b (record { after = record w { sessions = change 0 (on_board (enqueued_in w.items sub place)) w.sessions }; out = out.Moved (slot.live.slot.last + 1); more = true }) (record { after = w; out = out.UpToDate; more = false })) (out_enqueued answer) (has_moved answer) c' k
+    by_more at slot d true b same =
+        let b' : nat_lt slot.live.slot.last (length (history_of w.items 0)) ≡ true = ap (λ h. nat_lt slot.live.slot.last (length h)) (sym same) ∙ b in
+        let said : answer ≡ Some (enqueued_said.Moved (slot.live.slot.last + 1)) = d.answer ∙ ap (λ x. Some (cond x (enqueued_said.Moved (slot.live.slot.last + 1)) enqueued_said.UpToDate)) b' in
+        let item : StandsItem c' (Some (enqueued slot.live.slot) ∷ []) w.items = subst (λ (x : Bool). StandsItem c' (Some (cond x (enqueued slot.live.slot) slot.live.slot) ∷ []) w.items) b' d.item in
+        let board : enqueued_in w.items sub place at.session.board ≡ record at.session.board { round = record slot.live { slot = enqueued slot.live.slot } ∷ [] } =
+        ap (λ vs. record at.session.board { round = map (enqueue_at w.items sub place) vs }) slot.only ∙ ap (λ vs. record at.session.board { round = vs }) (round_moved w.items sub place slot.live slot.here b) in
+        let after : StandsSession c' at.kept w.items (on_board (enqueued_in w.items sub place) at.session) =
+        subst (λ x. StandsSession c' at.kept w.items (record at.session { board = x })) (sym board) (slot_moved c c' at.kept w.items at.session slot.live at.stands slot.only item) in
+        subst (λ (o : Option Enqueued). DidOnce w (record { after = record w { sessions = change 0 (on_board (enqueued_in w.items sub place)) w.sessions }; out = out.Moved (slot.live.slot.last + 1); more = true }) (out_enqueued o) (has_moved o) c' k) (sym said)
+        (record {
+          more = refl;
+          out = refl;
+          stands = record {
+            all = subst (λ (o : Option Holding). StandsAll c' o w.items (change 0 (on_board (enqueued_in w.items sub place)) w.sessions)) (sym at.is)
+                (subst (λ (ss : List Session). StandsAll c' (Some at.kept) w.items (change 0 (on_board (enqueued_in w.items sub place)) ss)) (sym at.only) after);
+            leads = leads_changed w at.session (on_board (enqueued_in w.items sub place)) at.only st.leads;
+          };
+          connections = refl;
+        })
+    by_more at slot d false b same =
+        let b' : nat_lt slot.live.slot.last (length (history_of w.items 0)) ≡ false = ap (λ h. nat_lt slot.live.slot.last (length h)) (sym same) ∙ b in
+        let said : answer ≡ Some enqueued_said.UpToDate = d.answer ∙ ap (λ x. Some (cond x (enqueued_said.Moved (slot.live.slot.last + 1)) enqueued_said.UpToDate)) b' in
+        let item : StandsItem c' (Some slot.live.slot ∷ []) w.items = subst (λ (x : Bool). StandsItem c' (Some (cond x (enqueued slot.live.slot) slot.live.slot) ∷ []) w.items) b' d.item in
+        let after : StandsSession c' at.kept w.items at.session =
+        record {
+          item = subst (λ (vs : List Live). StandsItem c' (slots_in vs) w.items) (sym slot.only) item;
+          owed = at.stands.owed;
+          unsent = at.stands.unsent;
+          last = at.stands.last;
+          sent = at.stands.sent;
+          round = at.stands.round;
+        } in
+        subst (λ (o : Option Enqueued). DidOnce w (record { after = w; out = out.UpToDate; more = false }) (out_enqueued o) (has_moved o) c' k) (sym said)
+        (record {
+          more = refl;
+          out = refl;
+          stands = record {
+            all = subst (λ (o : Option Holding). StandsAll c' o w.items w.sessions) (sym at.is) (subst (λ (ss : List Session). StandsAll c' (Some at.kept) w.items ss) (sym at.only) after);
+            leads = st.leads;
+          };
+          connections = refl;
+        })

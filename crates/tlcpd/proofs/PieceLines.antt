@@ -2,7 +2,7 @@
 use Rattle.std.proofs.Common.{◌≡◌, ◌==◌, ℕ, zero, suc, ◌+◌, ◌<◌, ◌-◌, List, [], ◌∷◌, ◌++◌, length, take, drop, refl, sym, ◌∙◌, ap, arith, append_assoc, append-nil, Bool, true, false, get_or, subst}
 use Rattle.std.specs.Prelude.{Option, None, Some, MatchOption}
 use Rattle.std.proofs.lemmas.List.{take_all, length-drop}
-use Rattle.std.proofs.lemmas.Bool.{eqb-false}
+use Rattle.std.proofs.lemmas.Bool.{eqb-true, eqb-false}
 use Rattle.memchr.specs.Find.{IsFirstByte, is_byte}
 use Rattle.ls_spec.specs.Script.{whole_from, rest_from, last_line}
 use Rattle.tlcpd.specs.Replay.{Midway, midway_after, line_after, kept_after, EndsNoLine}
@@ -47,6 +47,10 @@ line_found xs (Some k) h = ends_no_line xs k (λ j l. h.0.before j (omega arith)
 pub last_line-some : (carry : List ℕ) (n : ℕ) → n ≡ length carry → ((n == 0) ≡ false) → (carry ++ []) ∷ [] ≡ last_line carry
 last_line-some [] n len h = absurd (eqb-false n 0 h len)
 last_line-some (b ∷ bs) n len h = ap (λ l. l ∷ []) (append-nil (b ∷ bs))
+
+pub last_line-none : (carry : List ℕ) (n : ℕ) → n ≡ length carry → ((n == 0) ≡ true) → last_line carry ≡ []
+last_line-none [] n len h = refl
+last_line-none (b ∷ bs) n len h = absurd (omega (arith, eqb-true n 0 h, len))
 
 -- a piece is its first line, the end of the line, and the rest
 pub line_and_rest : (xs : List ℕ) (k : ℕ) → k < length xs → get_or xs k 0 ≡ 10 → xs ≡ (take k xs ++ 10 ∷ []) ++ drop (suc k) xs

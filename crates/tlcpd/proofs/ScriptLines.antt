@@ -4,7 +4,7 @@ use Rattle.std.specs.Prelude.{Result, Ok, Err}
 use Rattle.ls_spec.specs.declared.Refused.{Refused}
 use Rattle.ls_spec.specs.World.{World}
 use Rattle.ls_spec.specs.Steps.{Stepped}
-use Rattle.ls_spec.specs.Script.{step, whole_from, rest_from, and_then, text_of, world_of, done, first_refused, IsPrefix}
+use Rattle.ls_spec.specs.Script.{step, whole_from, rest_from, and_then, text_of, text_of_outs, world_of, done, first_refused, IsPrefix}
 
 pub whole_from-append : (carry xs ys : List ℕ) → whole_from carry (xs ++ ys) ≡ whole_from carry xs ++ whole_from (rest_from carry xs) ys
 whole_from-append carry [] ys = refl
@@ -31,7 +31,7 @@ goes_on_step w x xs ys (Ok s) is go all =
     let e : done s.after xs + 1 ≡ suc (length xs) = rw is at all in
     let h : GoesOn s.after xs ys = go s.after (omega (arith, e)) in
     record {
-      text = rw is (ap (λ t. s.text ++ t) h.text ∙ sym (append_assoc s.text (text_of s.after xs) (text_of (world_of s.after xs) ys)));
+      text = rw is (ap (λ t. text_of_outs s.outs ++ t) h.text ∙ sym (append_assoc (text_of_outs s.outs) (text_of s.after xs) (text_of (world_of s.after xs) ys)));
       world = rw is h.world;
       count = rw is (omega (arith, h.count));
       cause = rw is h.cause;
@@ -45,9 +45,9 @@ goes_on w (x ∷ xs) ys all = goes_on_step w x xs ys (step w x) refl (λ v h. go
 pub text_begins : (w : World) (xs ys : List (List ℕ)) → IsPrefix (text_of w xs) (text_of w (xs ++ ys))
 text_begins w [] ys = (text_of w ys, refl)
 text_begins w (x ∷ xs) ys =
-    elim (step w x) as (λ r. IsPrefix (and_then [] r (λ s. s.text ++ text_of s.after xs)) (and_then [] r (λ s. s.text ++ text_of s.after (xs ++ ys)))) [
+    elim (step w x) as (λ r. IsPrefix (and_then [] r (λ s. text_of_outs s.outs ++ text_of s.after xs)) (and_then [] r (λ s. text_of_outs s.outs ++ text_of s.after (xs ++ ys)))) [
       | Err c ↦ ([], refl)
-      | Ok s ↦ let h = text_begins s.after xs ys in (h.0, ap (λ t. s.text ++ t) h.1 ∙ sym (append_assoc s.text (text_of s.after xs) h.0))
+      | Ok s ↦ let h = text_begins s.after xs ys in (h.0, ap (λ t. text_of_outs s.outs ++ t) h.1 ∙ sym (append_assoc (text_of_outs s.outs) (text_of s.after xs) h.0))
     ]
 
 -- a line is refused, so nothing behind it counts
@@ -61,7 +61,7 @@ stops_step w x xs ys (Err c) is go bad = record { text = rw is refl; count = rw 
 stops_step w x xs ys (Ok s) is go bad =
     let e : done s.after xs + 1 < suc (length xs) = rw is at bad in
     let h : Stops s.after xs ys = go s.after (omega (arith, e)) in
-    record { text = rw is (ap (λ t. s.text ++ t) h.text); count = rw is (ap (λ n. n + 1) h.count); cause = rw is h.cause }
+    record { text = rw is (ap (λ t. text_of_outs s.outs ++ t) h.text); count = rw is (ap (λ n. n + 1) h.count); cause = rw is h.cause }
 
 pub stops : (w : World) (xs ys : List (List ℕ)) → done w xs < length xs → Stops w xs ys
 stops w [] ys bad = absurd (omega (arith, bad))

@@ -1,8 +1,9 @@
+pub mod Subscribed
 pub mod Subscription
 pub mod Session
-pub mod Seen
-pub mod Reading
 pub mod Hub
+pub mod Adding
+pub mod Requests
 pub mod Repeats
 pub mod Engine
 pub mod Replay

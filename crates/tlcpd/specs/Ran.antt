@@ -3,7 +3,7 @@ use Rattle.std.specs.Prelude.{◌≡◌, ℕ, ◌+◌, ◌≤◌, List, [], ◌�
 use Rattle.std.specs.Fmt.{decimal}
 use Rattle.std.specs.Io.KnownBytes.{Consumes, Appends, IsAtEnd}
 use Rattle.ls_spec.specs.declared.Refused.{Refused}
-use Rattle.ls_spec.specs.declared.Refused.TheVariants.{NotBuilt}
+use Rattle.ls_spec.specs.declared.Refused.TheVariants.{BadScript, NotBuilt}
 use Rattle.ls_spec.specs.World.{empty}
 use Rattle.ls_spec.specs.Lawful.{Lawful}
 use Rattle.ls_spec.specs.Script.{lines_of, text_of, world_of, done, first_refused, whole_from, IsPrefix}
@@ -38,6 +38,7 @@ Outcome status.Usage read written ended = (read ≡ []) × (written ≡ [])
 Outcome status.ReadFault read written ended = (ended ≡ false) × DidAll (lines_of ended read) written
 Outcome status.WriteFault read written ended = IsPrefix written (text_of empty (lines_of ended read))
 Outcome status.NoMemory read written ended = IsPrefix written (text_of empty (lines_of ended read))
+Outcome (status.BadScript line) read written ended = DidUpTo line BadScript (lines_of ended read) written
 Outcome (status.NotBuilt line) read written ended = DidUpTo line NotBuilt (lines_of ended read) written
 
 -- some bytes were read and some were written, as the status says; the source is at its end where ended
@@ -60,6 +61,7 @@ pub record Going (r : Holding) (left left' held held' : Option (List ℕ)) : Typ
 -- the status where no more is done
 abbrev pub status_at : Fed → Status
 status_at fed.All = status.Ok
+status_at (fed.Stopped BadScript line) = status.BadScript line
 status_at (fed.Stopped NotBuilt line) = status.NotBuilt line
 status_at fed.WriteFault = status.WriteFault
 status_at fed.NoMemory = status.NoMemory
@@ -68,6 +70,7 @@ status_at fed.NoMemory = status.NoMemory
 abbrev pub number_at : Status → ℕ
 number_at status.Ok = 0
 number_at status.Usage = 2
+number_at (status.BadScript line) = 3
 number_at status.ReadFault = 4
 number_at status.WriteFault = 5
 number_at status.NoMemory = 6
@@ -80,4 +83,5 @@ fault_text status.Usage = codes "usage"
 fault_text status.ReadFault = codes "read fault"
 fault_text status.WriteFault = codes "write fault"
 fault_text status.NoMemory = codes "out of memory"
+fault_text (status.BadScript line) = codes "bad script line " ++ decimal line
 fault_text (status.NotBuilt line) = codes "not built, line " ++ decimal line

@@ -1,15 +1,16 @@
-//! Texts of the lines that a session sends (TLCP 2.1), and of the notes that a script prints (this project's profile).
-ghost use Rattle.std.specs.Prelude.{◌≡◌, [], ◌++◌, length, take, codes, IfOk, OnOk, OnErr};
+//! Texts of the lines that a session sends, and of the answers to requests (TLCP 2.1).
+ghost use Rattle.std.specs.Prelude.{◌≡◌, ◌≤◌, [], ◌++◌, Some, codes, IfOk, if◌then◌else◌};
 ghost use Rattle.std.specs.Fmt.{decimal};
 ghost use Rattle.ls_line.specs.declared.line.Line.TheVariants as line;
 ghost use Rattle.ls_line.specs.Lines.{text_of};
-ghost use Rattle.ls_mirror.specs.Client.{Row as RowWhat};
-ghost use Rattle.ls_spec.specs.Lines.{Begins, Configures, line_text, tells_text};
+ghost use Rattle.ls_spec.specs.Lines.{Begins, Configures, line_text};
 ghost use Rattle.ls_spec.specs.World.{opening_lines};
-ghost use Rattle.ls_spec.specs.Steps.{note, number_note, on_connection, request_accepted, refused_note};
+ghost use Rattle.ls_spec.specs.Acting.{message_of};
+ghost use Rattle.ls_update.specs.Fields.{spelled};
 ghost use Rattle.ls_update.specs.Writing.{row_behind};
+ghost use Rattle.tlcpd.specs.Subscription.{keys_of};
 
-use ls_event::PublishRefused;
+use crate::schema::KeyPlaces;
 use ls_line::{Line, text};
 use ls_update::write;
 use ls_value::{Bytes, NoMemory, Row, Text};
@@ -23,7 +24,7 @@ pub fn update_text(
     place: u32,
     row: &Row,
 ) -> Result<Bytes, NoMemory>
-    ensures { IfOk result (λ t. t ≡ tells_text (row_behind prev.entry) sub place (RowWhat row.now)) }
+    ensures { IfOk result (λ t. t ≡ text_of (line.U sub place (spelled (row_behind prev.entry) row.now))) }
 {
     let fields = write(alloc, prev, row)?;
     text(
@@ -36,19 +37,67 @@ pub fn update_text(
     )
 }
 
-/// The line `SUBOK,<sub>,<items>,<fields>`: a subscription begins, with so many items and fields.
-pub fn begin_text(alloc: Global, sub: u32, items: u32, fields: u32) -> Result<Bytes, NoMemory>
-    ensures { IfOk result (λ t. t ≡ line_text [] (Begins sub items fields)) }
+/// The line `OV,<sub>,<place>,<lost>`: so many updates of an item were lost.
+pub fn lost_text(alloc: Global, sub: u32, place: u32, lost: u64) -> Result<Bytes, NoMemory>
+    ensures { IfOk result (λ t. t ≡ text_of (line.Ov sub place lost)) }
 {
-    text(alloc, &Line::SubOk { sub, items, fields })
+    text(
+        alloc,
+        &Line::Ov {
+            sub,
+            item: place,
+            lost,
+        },
+    )
 }
 
-/// The line `CONF,<sub>,unlimited,filtered`: a subscription has no greatest frequency.
-pub fn configure_text(alloc: Global, sub: u32) -> Result<Bytes, NoMemory>
-    ensures { IfOk result (λ t. t ≡ line_text [] (Configures sub)) }
+/// The line `CS,<sub>,<place>`: an item was cleared.
+pub fn cleared_text(alloc: Global, sub: u32, place: u32) -> Result<Bytes, NoMemory>
+    ensures { IfOk result (λ t. t ≡ text_of (line.Cs sub place)) }
+{
+    text(alloc, &Line::Cs { sub, item: place })
+}
+
+/// The line `EOS,<sub>,<place>`: the snapshot of an item is whole.
+pub fn end_text(alloc: Global, sub: u32, place: u32) -> Result<Bytes, NoMemory>
+    ensures { IfOk result (λ t. t ≡ text_of (line.Eos sub place)) }
+{
+    text(alloc, &Line::Eos { sub, item: place })
+}
+
+/// The line with which a subscription of so many items and fields begins: `SUBOK`, or `SUBCMD` with the places of the key and
+/// the command in the schema, which count from 1 there.
+pub fn begin_text(
+    alloc: Global,
+    sub: u32,
+    items: u32,
+    fields: u32,
+    keys: Option<KeyPlaces>,
+) -> Result<Bytes, NoMemory>
+    requires { (k : _) → keys ≡ Some k → (k.key ≤ 64) × (k.command ≤ 64) }
+    ensures { IfOk result (λ t. t ≡ line_text [] (Begins sub items fields (keys_of keys))) }
+{
+    match keys {
+        None => text(alloc, &Line::SubOk { sub, items, fields }),
+        Some(keys) => text(
+            alloc,
+            &Line::SubCmd {
+                sub,
+                items,
+                fields,
+                key: keys.key as u32 + 1,
+                command: keys.command as u32 + 1,
+            },
+        ),
+    }
+}
+
+/// The line `CONF,<sub>,unlimited,<filtered or unfiltered>`: a subscription has no greatest frequency.
+pub fn configure_text(alloc: Global, sub: u32, filtered: bool) -> Result<Bytes, NoMemory>
+    ensures { IfOk result (λ t. t ≡ line_text [] (Configures sub filtered)) }
 {
     let frequency = plain(alloc, "unlimited")?;
-    let filter = plain(alloc, "filtered")?;
+    let filter = plain(alloc, filter_word(filtered))?;
     text(
         alloc,
         &Line::Conf {
@@ -59,27 +108,35 @@ pub fn configure_text(alloc: Global, sub: u32) -> Result<Bytes, NoMemory>
     )
 }
 
-/// The lines with which a session's stream begins, in order: CONOK with the session's name, `S` and its number, then SERVNAME and CONS.
-pub fn opening(alloc: Global, number: u64) -> Result<Vec<Bytes>, NoMemory>
-    ensures { IfOk result (λ lines. lines.items ≡ opening_lines number) }
+/// Whether updates are filtered, in a word.
+fn filter_word(filtered: bool) -> &'static str
+    ensures { result.now ≡ (if filtered then codes "filtered" else codes "unfiltered") }
+{
+    if filtered { "filtered" } else { "unfiltered" }
+}
+
+/// The lines with which a session's stream begins, in order: CONOK with the session's name, `S` and its number, and the
+/// keep-alive in milliseconds, then SERVNAME and CONS.
+pub fn opening(alloc: Global, number: u64, keepalive: u32) -> Result<Vec<Bytes>, NoMemory>
+    ensures { IfOk result (λ lines. lines.items ≡ opening_lines number keepalive) }
 {
     let mut lines = Vec::new(alloc);
-    lines.push(session_text(alloc, number)?)?;
+    lines.push(session_text(alloc, number, keepalive)?)?;
     lines.push(text(alloc, &Line::ServName)?)?;
     lines.push(unlimited_text(alloc)?)?;
     Ok(lines)
 }
 
 /// The line `CONOK` of a session of this number.
-fn session_text(alloc: Global, number: u64) -> Result<Bytes, NoMemory>
-    ensures { IfOk result (λ t. t ≡ text_of (line.ConOk (codes "S" ++ decimal number) 5000)) }
+fn session_text(alloc: Global, number: u64, keepalive: u32) -> Result<Bytes, NoMemory>
+    ensures { IfOk result (λ t. t ≡ text_of (line.ConOk (codes "S" ++ decimal number) keepalive)) }
 {
     let name = format!(in alloc; "S{number}")?;
     text(
         alloc,
         &Line::ConOk {
             session: Text::from_string(name),
-            keep_alive: 5000,
+            keep_alive: u64::from(keepalive),
         },
     )
 }
@@ -92,17 +149,56 @@ fn unlimited_text(alloc: Global) -> Result<Bytes, NoMemory>
     text(alloc, &Line::Cons { bandwidth })
 }
 
-/// The line `REQOK,<id>`: the request of this id was accepted.
-pub fn accepted_text(alloc: Global, id: u64) -> Result<Bytes, NoMemory>
-    ensures { IfOk result (λ t. t ≡ request_accepted id) }
+/// The line `REQOK,<reqId>`: the request of this name was accepted.
+pub fn accepted_text(alloc: Global, request: Text) -> Result<Bytes, NoMemory>
+    ensures { IfOk result (λ t. t ≡ text_of (line.ReqOk request)) }
 {
-    let id = format!(in alloc; "{id}")?;
+    text(alloc, &Line::ReqOk { request })
+}
+
+/// The line `REQERR,<reqId>,65,<message>`: the request of this name is malformed.
+pub fn malformed_text(alloc: Global, request: Text) -> Result<Bytes, NoMemory>
+    ensures { IfOk result (λ t. t ≡ text_of (line.ReqErr request 65 (message_of 65))) }
+{
+    let message = malformed(alloc)?;
     text(
         alloc,
-        &Line::ReqOk {
-            request: Text::from_string(id),
+        &Line::ReqErr {
+            request,
+            code: 65,
+            message,
         },
     )
+}
+
+/// The line `ERROR,65,<message>`: a request whose name can't be told is malformed.
+pub fn error_text(alloc: Global) -> Result<Bytes, NoMemory>
+    ensures { IfOk result (λ t. t ≡ text_of (line.Error 65 (message_of 65))) }
+{
+    let message = malformed(alloc)?;
+    text(alloc, &Line::Error { code: 65, message })
+}
+
+/// The line `CONERR,65,<message>`: a request for a session or a stream is malformed.
+pub fn opening_error_text(alloc: Global) -> Result<Bytes, NoMemory>
+    ensures { IfOk result (λ t. t ≡ text_of (line.ConErr 65 (message_of 65))) }
+{
+    let message = malformed(alloc)?;
+    text(alloc, &Line::ConErr { code: 65, message })
+}
+
+/// The line `WSOK`: the WebSocket works.
+pub fn wsok_text(alloc: Global) -> Result<Bytes, NoMemory>
+    ensures { IfOk result (λ t. t ≡ text_of line.WsOk) }
+{
+    text(alloc, &Line::WsOk)
+}
+
+/// The message of a malformed request.
+fn malformed(alloc: Global) -> Result<Text, NoMemory>
+    ensures { IfOk result (λ made. made ≡ message_of 65) }
+{
+    plain(alloc, "Malformed request")
 }
 
 /// A text.
@@ -111,65 +207,6 @@ fn plain(alloc: Global, text: &str) -> Result<Text, NoMemory>
 {
     let copied = String::from_str(alloc, text)?;
     Ok(Text::from_string(copied))
-}
-
-/// The note that an event was not published; none for want of memory.
-pub fn refused_note(alloc: Global, cause: &PublishRefused) -> Result<Bytes, NoMemory>
-    ensures { IfOk result (λ text. text ≡ refused_note cause.now) }
-{
-    match cause {
-        PublishRefused::Repeated { last } => number_note(alloc, b"-repeated", *last),
-        PublishRefused::TooLong { bytes } => number_note(alloc, b"-toolong", *bytes),
-        PublishRefused::Backlog { slot } => number_note(alloc, b"-backlog", *slot as u64),
-        PublishRefused::Spent => note(alloc, b"-spent"),
-        PublishRefused::NoMemory => Ok(Bytes::from_vec(Vec::new(alloc))),
-    }
-}
-
-/// The note of a word and a number, ended by LF.
-pub fn number_note(alloc: Global, word: &[u8], n: u64) -> Result<Bytes, NoMemory>
-    ensures { IfOk result (λ text. text ≡ number_note word.now n) }
-{
-    let number = format!(in alloc; " {n}\n")?;
-    let mut text = Vec::new(alloc);
-    text.extend_from_slice(word)?;
-    text.extend_from_slice(number.as_bytes())?;
-    Ok(Bytes::from_vec(text))
-}
-
-/// The note of a word alone, ended by LF.
-pub fn note(alloc: Global, word: &[u8]) -> Result<Bytes, NoMemory>
-    ensures { IfOk result (λ text. text ≡ note word.now) }
-{
-    let mut text = Vec::new(alloc);
-    text.extend_from_slice(word)?;
-    text.push(b'\n')?;
-    Ok(Bytes::from_vec(text))
-}
-
-/// Appends a line of a connection, `<name>:<text>`, ended by LF. After `NoMemory` what stood there before stands alone.
-pub fn append_line(out: &mut Vec<u8>, name: &[u8], text: &[u8]) -> Result<(), NoMemory>
-    ensures ok { OnOk result (out.new.items ≡ out.old.items ++ on_connection name.now text.now) }
-    ensures err { OnErr result (out.new.items ≡ out.old.items) }
-{
-    let before = out.len();
-    let appended = append_parts(out, name, text);
-    if appended.is_err() {
-        out.truncate(before);
-    }
-    appended
-}
-
-/// Appends a line of a connection. After `NoMemory` only some of it may stand behind what stood there before.
-fn append_parts(out: &mut Vec<u8>, name: &[u8], text: &[u8]) -> Result<(), NoMemory>
-    ensures ok { OnOk result (out.new.items ≡ out.old.items ++ on_connection name.now text.now) }
-    ensures err { OnErr result (take (length out.old.items) out.new.items ≡ out.old.items) }
-{
-    out.extend_from_slice(name)?;
-    out.push(b':')?;
-    out.extend_from_slice(text)?;
-    out.push(b'\n')?;
-    Ok(())
 }
 
 #[cfg(test)]

@@ -1,18 +1,18 @@
 //! A push server for the protocol TLCP 2.1: the program.
 #![tactic(auto)]
 
+pub mod adding;
 pub mod engine;
-pub mod forms;
 pub mod hub;
 pub mod lines;
 pub mod replay;
+pub mod requests;
 pub mod running;
-pub mod script;
+pub mod schema;
 pub mod session;
 pub mod subscription;
 #[cfg(test)]
 mod tests;
-pub mod words;
 
 use ls_outside::{Put, StdSink, StdSource, write_all};
 use running::{Status, run};

@@ -1,5 +1,5 @@
 //! A script in the middle of its run: pieces of its bytes come, and its lines are done as they end.
-ghost use Rattle.std.specs.Prelude.{◌≡◌, ◌+◌, ◌<◌, ◌≤◌, [], ◌∷◌, ◌++◌, ◌⊎◌, ⊤, length, slice_index, take, MatchOption};
+ghost use Rattle.std.specs.Prelude.{◌≡◌, ◌+◌, ◌<◌, ◌≤◌, [], ◌∷◌, ◌++◌, ◌⊎◌, ⊤, length, slice_index, take, MatchOption, IfOk};
 ghost use Rattle.ls_spec.specs.World.{World};
 ghost use Rattle.ls_spec.specs.Script.{whole_from, last_line, world_of};
 ghost use Rattle.ls_outside.specs.Causes.{Rose};
@@ -9,6 +9,7 @@ ghost use Rattle.tlcpd.specs.Replay.{Midway, before, midway_after, line_after, k
 use crate::engine::{Engine, LineRefused};
 use ls_outside::{Put, Sink, write_all};
 use ls_spec::Refused;
+use ls_value::NoMemory;
 use memchr::memchr;
 use std::alloc::Global;
 use std::marker::Model;
@@ -47,23 +48,27 @@ pub struct Replay {
 }
 
 impl Model for Replay {
+    ghost use Rattle.std.specs.Coded.{codes};
+    ghost use Rattle.tlcpd.specs.contracts.engine.Engine as an_engine;
     ghost use Rattle.tlcpd.specs.Replay.{Holding};
 
     ghost Value = { Holding };
+
+    ghost coded = { Prim.hlevel (codes, an_engine.the_row.coded) };
 
     ghost view = { λ r. record { engine = r.engine; carry = r.carry.items; count = r.count } };
 }
 
 impl Replay {
-    /// Before any byte. It takes no memory.
-    pub fn new(alloc: Global) -> Replay
-        ensures { StandsFor result before }
+    /// Before any byte.
+    pub fn new(alloc: Global) -> Result<Replay, NoMemory>
+        ensures { IfOk result (λ r. StandsFor r before) }
     {
-        Replay {
-            engine: Engine::new(alloc),
+        Ok(Replay {
+            engine: Engine::new(alloc)?,
             carry: Vec::new(alloc),
             count: 0,
-        }
+        })
     }
 
     /// Takes the rest of a line, which has ended, and does the line.

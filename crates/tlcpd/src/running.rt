@@ -3,10 +3,12 @@ ghost use Rattle.std.specs.Prelude.{◌≡◌, ◌≤◌, ◌⊎◌, ◌↔◌, 
 ghost use Rattle.std.specs.String.{string_bytes};
 ghost use Rattle.ls_outside.specs.Causes.{Rose, RoseBy};
 ghost use Rattle.tlcpd.specs.Ran.{Ran, IsReplay, status_at, number_at};
+ghost use Rattle.tlcpd.specs.Replay.{StandsFor, before};
 
 use crate::replay::{Fed, Replay};
 use ls_outside::{Got, Sink, Source};
 use ls_spec::Refused;
+use ls_value::NoMemory;
 use std::alloc::Global;
 use std::fmt;
 use std::sync::Wait;
@@ -35,7 +37,13 @@ pub enum Status {
     /// Memory was wanting, or the script has more than 2^64 - 1 lines.
     NoMemory,
 
-    /// A line has a form that isn't built yet. Each line before it was done.
+    /// A line is outside the grammar of scripts, or names something that isn't declared. Each line before it was done.
+    BadScript {
+        /// Its number in the script, from 1.
+        line: u64,
+    },
+
+    /// A line asks for something that isn't built yet. Each line before it was done.
     NotBuilt {
         /// Its number in the script, from 1.
         line: u64,
@@ -50,6 +58,7 @@ impl Status {
         match self {
             Status::Ok => 0,
             Status::Usage => 2,
+            Status::BadScript { line: _ } => 3,
             Status::ReadFault => 4,
             Status::WriteFault => 5,
             Status::NoMemory => 6,
@@ -72,6 +81,7 @@ impl fmt::Display for Status {
             Status::ReadFault => write!(f, "read fault"),
             Status::WriteFault => write!(f, "write fault"),
             Status::NoMemory => write!(f, "out of memory"),
+            Status::BadScript { line } => write!(f, "bad script line {line}"),
             Status::NotBuilt { line } => write!(f, "not built, line {line}"),
         }
     }
@@ -94,6 +104,10 @@ fn status_of(fed: Fed) -> Status
     match fed {
         Fed::All => Status::Ok,
         Fed::Stopped {
+            refused: Refused::BadScript,
+            line,
+        } => Status::BadScript { line },
+        Fed::Stopped {
             refused: Refused::NotBuilt,
             line,
         } => Status::NotBuilt { line },
@@ -114,7 +128,26 @@ fn run_script<R: Wait, S: Source, K: Sink>(
     ensures read_fault { result ≡ Status.ReadFault → Rose (S.faults source.old) (S.faults source.new) ⊎ RoseBy 3000 (S.waits source.old) (S.waits source.new) }
     ensures write_fault { result ≡ Status.WriteFault → Rose (K.faults sink.old) (K.faults sink.new) }
 {
-    let mut replay = Replay::new(alloc);
+    match Replay::new(alloc) {
+        Ok(replay) => play(rt, alloc, source, sink, replay),
+        Err(NoMemory) => Status::NoMemory,
+    }
+}
+
+/// Reads a script to its end, from before its first byte.
+fn play<R: Wait, S: Source, K: Sink>(
+    rt: &R,
+    alloc: Global,
+    source: &mut S,
+    sink: &mut K,
+    mut replay: Replay,
+) -> Status
+    requires { StandsFor replay before }
+    ensures not_usage { ¬ (result ≡ Status.Usage) }
+    ensures ran { Ran result (S.left source.old) (S.left source.new) (K.held sink.old) (K.held sink.new) }
+    ensures read_fault { result ≡ Status.ReadFault → Rose (S.faults source.old) (S.faults source.new) ⊎ RoseBy 3000 (S.waits source.old) (S.waits source.new) }
+    ensures write_fault { result ≡ Status.WriteFault → Rose (K.faults sink.old) (K.faults sink.new) }
+{
     let mut piece = [0u8; PIECE];
     let mut idles = 0u32;
     for _ in rt.forever() {
@@ -163,3 +196,5 @@ pub fn run<R: Wait, S: Source, K: Sink>(
 
 #[cfg(test)]
 mod tests;
+#[cfg(test)]
+mod worked;

@@ -21,6 +21,7 @@ fn texts_of_faults(rt: HostRuntime) -> Result<(), Fail> {
         (Status::ReadFault, 4, "read fault"),
         (Status::WriteFault, 5, "write fault"),
         (Status::NoMemory, 6, "out of memory"),
+        (Status::BadScript { line: 7 }, 3, "bad script line 7"),
         (Status::NotBuilt { line: 12 }, 9, "not built, line 12"),
     ];
     for (status, number, text) in cases {

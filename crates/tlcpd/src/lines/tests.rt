@@ -1,7 +1,8 @@
 use super::*;
-use ls_value::{Text, Value};
+use ls_value::Value;
 use std::test::Fail;
 
+/// A row of two texts.
 fn row_of(alloc: Global, last: &str, time: &str) -> Result<Row, Fail> {
     let last = Text::of(alloc, last.as_bytes())?;
     let time = Text::of(alloc, time.as_bytes())?;
@@ -21,52 +22,63 @@ fn updates(rt: HostRuntime) -> Result<(), Fail> {
     Ok(())
 }
 
-#[test]
-fn lines_without_fields(rt: HostRuntime) -> Result<(), Fail> {
-    let alloc = rt.alloc();
-    let texts = vec![in alloc;
-        (begin_text(alloc, 7, 1, 2)?, "SUBOK,7,1,2"),
-        (configure_text(alloc, 7)?, "CONF,7,unlimited,filtered"),
-        (accepted_text(alloc, 3)?, "REQOK,3"),
-    ]?;
-    for (text, want) in &texts {
-        assert_eq!(rt; text.as_slice(), want.as_bytes(), "{want}");
+/// The n-th line that takes no text.
+fn line(alloc: Global, n: usize) -> Result<Bytes, NoMemory> {
+    match n {
+        0 => begin_text(alloc, 7, 1, 2, None),
+        1 => begin_text(alloc, 7, 1, 3, Some(KeyPlaces { key: 0, command: 2 })),
+        2 => configure_text(alloc, 7, true),
+        3 => configure_text(alloc, 7, false),
+        4 => lost_text(alloc, 7, 1, 300),
+        5 => cleared_text(alloc, 7, 1),
+        6 => end_text(alloc, 7, 1),
+        7 => error_text(alloc),
+        8 => opening_error_text(alloc),
+        _ => wsok_text(alloc),
     }
-    let lines = opening(alloc, 12)?;
-    assert_eq!(rt; lines.len(), 3);
-    assert_eq!(rt; lines[0].as_slice(), b"CONOK,S12,50000,5000,*".as_slice());
-    assert_eq!(rt; lines[1].as_slice(), b"SERVNAME,tlcpd".as_slice());
-    assert_eq!(rt; lines[2].as_slice(), b"CONS,unlimited".as_slice());
+}
+
+#[test]
+fn lines_without_texts(rt: HostRuntime) -> Result<(), Fail> {
+    let lines = [
+        "SUBOK,7,1,2",
+        "SUBCMD,7,1,3,1,3",
+        "CONF,7,unlimited,filtered",
+        "CONF,7,unlimited,unfiltered",
+        "OV,7,1,300",
+        "CS,7,1",
+        "EOS,7,1",
+        "ERROR,65,Malformed request",
+        "CONERR,65,Malformed request",
+        "WSOK",
+    ];
+    for (n, want) in lines.iter().enumerate() {
+        let got = line(rt.alloc(), n)?;
+        assert_eq!(rt; got.as_slice(), want.as_bytes(), "{want}");
+    }
     Ok(())
 }
 
 #[test]
-fn notes(rt: HostRuntime) -> Result<(), Fail> {
+fn answers_to_requests(rt: HostRuntime) -> Result<(), Fail> {
     let alloc = rt.alloc();
-    let texts = vec![in alloc;
-        (
-            refused_note(alloc, &PublishRefused::Repeated { last: 5 })?,
-            "-repeated 5\n"
-        ),
-        (
-            refused_note(alloc, &PublishRefused::TooLong { bytes: u64::MAX })?,
-            "-toolong 18446744073709551615\n"
-        ),
-        (
-            refused_note(alloc, &PublishRefused::Backlog { slot: 2 })?,
-            "-backlog 2\n"
-        ),
-        (refused_note(alloc, &PublishRefused::Spent)?, "-spent\n"),
-        (refused_note(alloc, &PublishRefused::NoMemory)?, ""),
-        (number_note(alloc, b"-no", 1)?, "-no 1\n"),
-        (note(alloc, b"-idle")?, "-idle\n"),
-    ]?;
-    for (text, want) in &texts {
-        assert_eq!(rt; text.as_slice(), want.as_bytes(), "{want}");
+    let accepted = accepted_text(alloc, Text::of(alloc, b"3")?)?;
+    assert_eq!(rt; accepted.as_slice(), b"REQOK,3".as_slice());
+    let malformed = malformed_text(alloc, Text::of(alloc, b"a.b")?)?;
+    assert_eq!(rt;
+        malformed.as_slice(),
+        b"REQERR,a.b,65,Malformed request".as_slice()
+    );
+    Ok(())
+}
+
+#[test]
+fn openings(rt: HostRuntime) -> Result<(), Fail> {
+    let lines = opening(rt.alloc(), 12, 5000)?;
+    let want = ["CONOK,S12,50000,5000,*", "SERVNAME,tlcpd", "CONS,unlimited"];
+    assert_eq!(rt; lines.len(), want.len());
+    for (line, want) in lines.iter().zip(&want) {
+        assert_eq!(rt; line.as_slice(), want.as_bytes(), "{want}");
     }
-    let mut out = Vec::new(alloc);
-    append_line(&mut out, b"c", b"REQOK,3")?;
-    append_line(&mut out, b"d", b"")?;
-    assert_eq!(rt; out.as_slice(), b"c:REQOK,3\nd:\n".as_slice());
     Ok(())
 }

@@ -1,5 +1,6 @@
 //! Runs over memory: that they succeed with ample memory, worked rows, and reads and writes that fail at each call.
 use super::*;
+use crate::running::worked::{REFUSED, Row, WORKED};
 use crate::tests::words_of;
 use ls_outside::{Call, MemSink, MemSource};
 use std::alloc::AllocError;
@@ -112,7 +113,7 @@ const SCRIPTS: [Case; 9] = [
         cuts: &[20],
         reads: &[],
         writes: &[],
-        status: Status::NotBuilt { line: 4 },
+        status: Status::BadScript { line: 4 },
         written: b"-no 1\n",
     },
     Case {
@@ -202,6 +203,24 @@ fn scripts_in_memory(rt: HostRuntime) -> Result<(), Fail> {
     Ok(())
 }
 
+/// The first row that is answered otherwise, by its place from 0.
+fn first_unlike<R: Wait>(rt: &R, alloc: Global, rows: &[Row]) -> Result<Option<usize>, Fail> {
+    for (place, (script, status, printed)) in rows.iter().enumerate() {
+        let (answer, sink) = played(rt, alloc, script, &[], &[], &[])?;
+        if answer != *status || sink.bytes() != *printed {
+            return Ok(Some(place));
+        }
+    }
+    Ok(None)
+}
+
+#[test]
+fn worked_scripts(rt: HostRuntime) -> Result<(), Fail> {
+    assert_eq!(rt; first_unlike(&rt, rt.alloc(), &WORKED)?, None);
+    assert_eq!(rt; first_unlike(&rt, rt.alloc(), &REFUSED)?, None);
+    Ok(())
+}
+
 #[test]
 fn faults_in_memory(rt: HostRuntime) -> Result<(), Fail> {
     assert_eq!(rt; first_wrong(&rt, rt.alloc(), &FAULTS)?, None);
@@ -283,6 +302,45 @@ fn backlog(alloc: Global) -> Result<(String, String), Fail> {
     script.push_str("enq c 1 1\npub 1 65 q x=65\n")?;
     printed.push_str("-moved 1\n-no 65\n")?;
     Ok((script, printed))
+}
+
+/// 300 events in mode RAW, of which the buffer keeps the last 256, and the first lines of what is printed for them.
+fn lost(alloc: Global) -> Result<(String, String), Fail> {
+    let mut script = String::from_str(alloc, "item q MERGE x\nopen c\nadd c 1 q x RAW\n")?;
+    for seq in 1..301 {
+        let line = format!(in alloc; "pub 1 {seq} q x={seq}\nenq c 1 1\n")?;
+        script.push_str(line.as_str())?;
+    }
+    script.push_str("take c 7\n")?;
+    let told = "c:OV,1,1,44\nc:U,1,1,45\n";
+    Ok((script, String::from_str(alloc, told)?))
+}
+
+/// A key more than a table of mode COMMAND has.
+fn keys(alloc: Global) -> Result<String, Fail> {
+    let mut script = String::from_str(alloc, "item t COMMAND key,command\n")?;
+    for seq in 1..1026 {
+        let line = format!(in alloc; "pub 1 {seq} t key={seq}&command=ADD\n")?;
+        script.push_str(line.as_str())?;
+    }
+    Ok(script)
+}
+
+#[test]
+fn the_most_lost_and_the_most_keys(rt: HostRuntime) -> Result<(), Fail> {
+    let alloc = rt.alloc();
+    let (script, told) = lost(alloc)?;
+    let keys = keys(alloc)?;
+    let cases = [
+        (&script, told.as_str()),
+        (&keys, "-no 1023\n-no 1024\n-toomanykeys\n"),
+    ];
+    for (script, end) in cases {
+        let (status, sink) = played(&rt, alloc, script.as_bytes(), &[], &[], &[])?;
+        assert_eq!(rt; status, Status::Ok);
+        assert!(rt; sink.bytes().ends_with(end.as_bytes()));
+    }
+    Ok(())
 }
 
 /// A publish of a text of this many bytes.

@@ -1,24 +1,25 @@
-use Rattle.std.proofs.Common.{arith, subst, Option}
-use Rattle.ls_cell.specs.Cell.{Held}
-use Rattle.ls_event.specs.declared.event.Event.TheVariants.{Update}
-use Rattle.tlcpd.specs.Hub.{StandsHub}
-use Rattle.tlcpd.proofs.Publishing.{publishes, long_of}
+use Rattle.std.proofs.Common.{Option, sym, ◌∙◌, ap, subst}
+use Rattle.ls_spec.specs.Steps.{is_whole}
+use Rattle.tlcpd.specs.Hub.{StandsParts}
+use Rattle.tlcpd.specs.declared.session.Item.{Item as Kept}
+use Rattle.tlcpd.proofs.Sessions.{definition_same}
+use Rattle.tlcpd.proofs.Publishing.{publishes_did}
 use Rattle.tlcpd.proofs.hub.publish.Goals as goal
 
-pub returns-in_ok-append_published-in-Some : goal.returns-in_ok-append_published-in-Some
-returns-in_ok-append_published-in-Some c = record {
-  did = λ w item k st low.
-      let a = c.publish-answer.ensures in
-      let p = c.in_ok-append_published-in-Some.ensures in
-      rw p.text
-      (publishes c.in-Some.cell c.publish-answer.new.self k w c.args.adapter c.args.seq c.args.cells c.publish-answer.result c.args.out.now.items
+pub returns-in_ok-outs-in-Some : goal.returns-in_ok-outs-in-Some
+returns-in_ok-outs-in-Some c = record {
+  did = λ w k st.
+      let e = c.publish-answer.ensures in
+      rw (c.if-place-ne0.false, c.in_ok-outs-in-Some.ensures.outs)
+      (publishes_did c.in-Some.item _ k w (record { adapter = c.args.adapter; seq = c.args.seq; event = c.args.event }) c.publish-answer.result
       (record {
-        fields = omega (arith, c.if-len-fields.false, c.len.ensures, c.fields.ensures);
-        some = p.some;
-        first = a.first_cause;
-        stands = a.stands;
-        same = a.err;
-        long = long_of c.in-Some.cell c.publish-answer.new.self (record { adapter = c.args.adapter; seq = c.args.seq; event = Update c.args.cells }) c.publish-answer.result a.ok;
+        whole = ap (λ n. is_whole n c.args.event) (sym c.fields.ensures) ∙ sym c.is_whole.ensures ∙ c.if-not-is_whole.false;
+        some = c.in_ok-outs-in-Some.ensures.some;
+        first = e.first_cause;
+        stands = e.stands;
+        same = e.err;
+        shape = e.shape;
+        definition = definition_same c.in-Some.item c.publish-answer.new.self e.shape;
       })
-      (subst (λ (o : Option Held). StandsHub o k w) c.in-Some.is st) item low);
+      (subst (λ (o : Option Kept). StandsParts o k w) c.in-Some.is st));
 }

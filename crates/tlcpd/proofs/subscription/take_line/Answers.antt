@@ -1,8 +1,18 @@
-use Rattle.tlcpd.proofs.Subscriptions.{line_taken}
+use Rattle.tlcpd.proofs.Turning.{done, told, more_going}
 use Rattle.tlcpd.proofs.subscription.take_line.Goals as goal
 
-pub returns-in_ok-text-in-Some-clause-did : goal.returns-in_ok-text-in-Some-clause-did
-returns-in_ok-text-in-Some-clause-did c = λ w s h cs st su.
-    let i = c.in_ok-text-in-Some.ensures in
-    rw (i.text, i.ok)
-    (line_taken c.args.cell.now c.pass.new.self c.args.subscription.now c.in_ok-cut.cut c.in-Some.cells c.in_ok-cut.ensures.head c.in-Some.ensures c.in_ok-cut.ensures.cut c.pass.ensures.stands w s h cs st su)
+pub returns-in-Nothing-clause-did : goal.returns-in-Nothing-clause-did
+returns-in-Nothing-clause-did c =
+    let i = c.in_ok-take_cut in
+    done _ c.loop.cell c.take_cut.new.cell _ c.loop.subscription c.take_cut.new.subscription i.field-0 c.in-Nothing.is c.loop.invariant i.ensures.did i.ensures.keeps
+
+pub returns-in-Line-clause-did : goal.returns-in-Line-clause-did
+returns-in-Line-clause-did c =
+    let i = c.in_ok-take_cut in
+    told _ c.loop.cell c.take_cut.new.cell _ c.loop.subscription c.take_cut.new.subscription i.field-0 c.in-Line.text c.in-Line.is c.loop.invariant i.ensures.did i.ensures.keeps
+
+pub loop-preserved : goal.loop-preserved
+loop-preserved c =
+    let i = c.in_ok-take_cut in
+    more_going _ c.loop.cell c.take_cut.new.cell _ c.loop.subscription c.take_cut.new.subscription i.field-0 c.in-Silent.is c.loop.invariant i.ensures.did i.ensures.keeps
+    i.ensures.slot i.ensures.shape

@@ -5,7 +5,7 @@ use Rattle.ls_merge.proofs.Sound.{after_row_length}
 use Rattle.ls_merge.proofs.told.MergeBufferBuffer.enqueue.Goals as goal
 
 pub returns-clause-fields : goal.returns-clause-fields
-returns-clause-fields c = λ n is fits. rw c.in_ok-enqueue.ensures.ok (after_row_length c.args.self.now c.args.event.now.event ∙ is)
+returns-clause-fields c = λ n is fits left. rw c.in_ok-enqueue.ensures.ok (after_row_length c.args.self.now c.args.event.now.event ∙ is)
 
 pub returns-clause-admits : goal.returns-clause-admits
 returns-clause-admits c = λ e fits. rw c.in_ok-enqueue.ensures.ok (subst (λ n. HasFields n e) (sym (after_row_length c.args.self.now c.args.event.now.event)) fits)

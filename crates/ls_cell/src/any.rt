@@ -1,0 +1,119 @@
+//! The buffer of a slot in any mode.
+ghost use Rattle.std.specs.Prelude.{◌≡◌};
+ghost use Rattle.ls_cell.specs.Any.{any_last};
+
+use ls_command::CommandBuffer;
+use ls_distinct::DistinctBuffer;
+use ls_event::{Buffer, Stored, Taken};
+use ls_merge::MergeBuffer;
+use ls_raw::RawBuffer;
+use ls_value::NoMemory;
+use std::alloc::Global;
+
+/// What a slot in one of the modes still has to tell.
+#[derive(Drop)]
+pub enum AnyBuffer {
+    Raw(RawBuffer),
+    Merge(MergeBuffer),
+    Distinct(DistinctBuffer),
+    Command(CommandBuffer),
+}
+
+impl AnyBuffer {
+    /// The number that was enqueued last; at first the item's number at joining.
+    pub fn last(&self) -> u64
+        ensures { result ≡ any_last self.now }
+    {
+        match self {
+            AnyBuffer::Raw(buffer) => buffer.last(),
+            AnyBuffer::Merge(buffer) => buffer.last(),
+            AnyBuffer::Distinct(buffer) => buffer.last(),
+            AnyBuffer::Command(buffer) => buffer.last(),
+        }
+    }
+}
+
+impl Buffer for AnyBuffer {
+    ghost use Rattle.ls_cell.specs.Any.{StandsAny, any_last as any_last_number, HasAnyFields, AnyAdmits, any_head, any_left, any_waits, any_head_is_cut, any_left_is_pending, any_waits_is_waiting, any_last_is, any_longer};
+
+    ghost stands = { StandsAny };
+
+    ghost last = { any_last_number };
+
+    ghost has_fields = { HasAnyFields };
+
+    ghost admits = { AnyAdmits };
+
+    ghost head = { any_head };
+
+    ghost left = { any_left };
+
+    ghost waits = { any_waits };
+
+    ghost head_is_cut = { any_head_is_cut };
+
+    ghost left_is_pending = { any_left_is_pending };
+
+    ghost waits_is_waiting = { any_waits_is_waiting };
+
+    ghost last_is = { any_last_is };
+
+    ghost longer = { any_longer };
+
+    fn enqueue(&mut self, alloc: Global, event: &Stored) -> Result<(), NoMemory> {
+        match self {
+            AnyBuffer::Raw(buffer) => {
+                Buffer::enqueue(buffer, alloc, event)?;
+                Ok(())
+            }
+            AnyBuffer::Merge(buffer) => {
+                Buffer::enqueue(buffer, alloc, event)?;
+                Ok(())
+            }
+            AnyBuffer::Distinct(buffer) => {
+                Buffer::enqueue(buffer, alloc, event)?;
+                Ok(())
+            }
+            AnyBuffer::Command(buffer) => {
+                Buffer::enqueue(buffer, alloc, event)?;
+                Ok(())
+            }
+        }
+    }
+
+    fn look(&self, alloc: Global) -> Result<Option<Taken>, NoMemory> {
+        match self {
+            AnyBuffer::Raw(buffer) => Buffer::look(buffer, alloc),
+            AnyBuffer::Merge(buffer) => Buffer::look(buffer, alloc),
+            AnyBuffer::Distinct(buffer) => Buffer::look(buffer, alloc),
+            AnyBuffer::Command(buffer) => Buffer::look(buffer, alloc),
+        }
+    }
+
+    fn pass(&mut self) {
+        match self {
+            AnyBuffer::Raw(buffer) => Buffer::pass(buffer),
+            AnyBuffer::Merge(buffer) => Buffer::pass(buffer),
+            AnyBuffer::Distinct(buffer) => Buffer::pass(buffer),
+            AnyBuffer::Command(buffer) => Buffer::pass(buffer),
+        }
+    }
+
+    fn pending(&self) -> bool {
+        match self {
+            AnyBuffer::Raw(buffer) => Buffer::pending(buffer),
+            AnyBuffer::Merge(buffer) => Buffer::pending(buffer),
+            AnyBuffer::Distinct(buffer) => Buffer::pending(buffer),
+            AnyBuffer::Command(buffer) => Buffer::pending(buffer),
+        }
+    }
+
+    fn waiting(&self) -> u64 {
+        match self {
+            AnyBuffer::Raw(buffer) => Buffer::waiting(buffer),
+            AnyBuffer::Merge(buffer) => Buffer::waiting(buffer),
+            AnyBuffer::Distinct(buffer) => Buffer::waiting(buffer),
+            AnyBuffer::Command(buffer) => Buffer::waiting(buffer),
+        }
+    }
+}

@@ -1,0 +1,11 @@
+//! The buffer of a slot in mode COMMAND (General Concepts, mode COMMAND).
+#![tactic(auto)]
+
+pub mod command;
+mod queue;
+pub mod told;
+
+pub use command::CommandBuffer;
+
+#[cfg(test)]
+mod tests;
