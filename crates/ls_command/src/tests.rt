@@ -136,12 +136,13 @@ fn snapshot_buffer(alloc: Global, base: u64, letters: &[u8]) -> Result<CommandBu
 fn turns_come_in_order(rt: HostRuntime) -> Result<(), Fail> {
     let alloc = rt.alloc();
     // The number, the snapshot, what is done, and what is shown.
-    let cases: [(u64, Option<&str>, &str, &str); 13] = [
+    let cases: [(u64, Option<&str>, &str, &str); 14] = [
         (0, None, "k5 k- t k7 t t", "k-2 k73 ."),
         (2, Some("a1b2"), "!- b9 t t t t", "$ !3 b94 ."),
         (1, None, "a3 t a4 t a- t", "a32 a43 a-4"),
         (0, None, "a1 b1 t a- a2 t t t", "a12 b14 a24 ."),
         (0, None, "a1 b1 a2 t t t", "a23 b13 ."),
+        (0, None, "a1 b1 a- t b2 a3 t t t", "a-3 b25 a35 ."),
         (
             3,
             Some("a1b2c3"),

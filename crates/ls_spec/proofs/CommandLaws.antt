@@ -4,7 +4,7 @@ use Rattle.std.proofs.lemmas.List.{length-append, length-map, take_more, take-ta
 use Rattle.std.proofs.lemmas.Bool.{eqb-true}
 use Rattle.ls_value.specs.declared.row.Value.{Value}
 use Rattle.ls_value.specs.Values.{projected, text_eq, row_eq}
-use Rattle.ls_value.proofs.Rows.{and_right, text_eq_true, row_eq_true}
+use Rattle.ls_value.proofs.Rows.{and_right, text_eq_true, row_eq_true, row_eq_same}
 use Rattle.ls_event.specs.declared.event.Event.{Event}
 use Rattle.ls_event.specs.declared.event.Event.TheVariants.{Update, Clear}
 use Rattle.ls_event.specs.declared.event.Entry.{Entry}
@@ -18,9 +18,9 @@ use Rattle.ls_event.specs.Updates.{last_of, clear_of, clear_from, last_clear, cl
 use Rattle.ls_event.specs.Keyed.{key_of, row_at, keyed_after, keyed_after_all, keyed}
 use Rattle.ls_event.specs.CommandCuts.{has_key, place_of, queue_after, queue_from, queue_since, owed_keys, command_queue, key_taken, command_told, command_cut}
 use Rattle.ls_event.proofs.UpdatesBetween.{ClearIn, last_clear_is, last_clear-next, last_of_short}
-use Rattle.ls_mirror.specs.Client.{Row, Cleared, End}
+use Rattle.ls_mirror.specs.Client.{What, Row, Cleared, End}
 use Rattle.ls_spec.specs.Came.{Came, whats}
-use Rattle.ls_spec.specs.Tables.{place_in, table_at, key_told, projected_row, with_word, delete_row}
+use Rattle.ls_spec.specs.Tables.{shown_at, table_at, key_told, projected_row, with_word, delete_row}
 use Rattle.ls_event.specs.Joining.{command_joined}
 use Rattle.ls_spec.specs.Cutting.{Wanted, schema_of, accepted}
 use Rattle.ls_spec.specs.CommandMode.{IsKeyed, noted_at, AgreesAt, NoTurn, KeyTold, HadKey, KeyLines, LawfulCommand}
@@ -44,12 +44,12 @@ agrees_same h w p place last cs ds k None e a = e ∙ a
 agrees_same h w p place last cs ds k (Some q) e a = (a.0, a.1, e ∙ a.2)
 
 -- and changes that leave the lines
-had_longer : (p : Shape) (h more : List Entry) (places : List ℕ) (i : ℕ) (r : List Value) → HadKey p h places i r → HadKey p (h ++ more) places i r
-had_longer p h more places i r l =
+had_longer : (p : Shape) (h more : List Entry) (places : List ℕ) (before : List What) (i : ℕ) (r : List Value) → HadKey p h places before i r → HadKey p (h ++ more) places before i r
+had_longer p h more places before i r l =
     record {
       within = omega (arith, l.within, length-append h more);
       key = l.key;
-      told = subst (λ ks. KeyTold (record { key = place_in p.key places; command = place_in p.command places }) places l.key (row_at l.key ks) r) (sym (keyed-longer p h more i l.within)) l.told;
+      told = subst (λ ks. KeyTold (shown_at p places) (length places) l.key (table_at (shown_at p places) l.key before) (projected_row places (row_at l.key ks)) r) (sym (keyed-longer p h more i l.within)) l.told;
     }
 
 lines_longer : (p : Shape) (h more : List Entry) (places : List ℕ) (top : ℕ) (cs : List Came) → KeyLines p h places top cs → KeyLines p (h ++ more) places top cs
@@ -59,7 +59,7 @@ lines_longer p h more places top (c ∷ cs) l = (
   record {
     reached = l.1.reached;
     within = omega (arith, l.1.within, length-append h more);
-    rows = λ r is. ((l.1.rows r is).0, had_longer p h more places c.upto r (l.1.rows r is).1);
+    rows = λ r is. ((l.1.rows r is).0, had_longer p h more places (whats cs) c.upto r (l.1.rows r is).1);
   },
   lines_longer p h more places c.at cs l.2,
 )
@@ -142,14 +142,15 @@ turn_of h w s cs ds k l leaves lines here other =
     by_test j false t = agrees_same h w s.plan s.place s.last cs ds j (noted_at j s.noted) (other j t) (l.agrees j)
 
 -- a line that tells a key adds to the lines
-row_line : (h : List Entry) (w : Wanted) (s : Slot) (cs : List Came) (k : List ℕ) (r : List Value) (o : Option (List Value)) → LawfulCommand h w s cs → row_at k (keyed s.plan.shape h s.last) ≡ o → KeyTold (schema_of w s.plan) w.places k o r
+row_line : (h : List Entry) (w : Wanted) (s : Slot) (cs : List Came) (k : List ℕ) (r : List Value) (a b : Option (List Value)) → LawfulCommand h w s cs → table_at (schema_of w s.plan) k (whats cs) ≡ a → row_at k (keyed s.plan.shape h s.last) ≡ b
+    → KeyTold (schema_of w s.plan) (length w.places) k a (projected_row w.places b) r
     → KeyLines s.plan.shape h w.places s.last (record { what = Row r; before = s.place; upto = s.last; at = s.last } ∷ cs)
-row_line h w s cs k r o l row says = (
+row_line h w s cs k r a b l has row says = (
   omega arith,
   record {
     reached = omega arith;
     within = l.within;
-    rows = λ x is. (refl, record { within = l.within; key = k; told = subst (λ y. KeyTold (schema_of w s.plan) w.places k y x) (sym row) (subst (λ y. KeyTold (schema_of w s.plan) w.places k o y) (same x is) says) });
+    rows = λ x is. (refl, record { within = l.within; key = k; told = told_as x is });
   },
   l.lines,
 )
@@ -157,12 +158,17 @@ row_line h w s cs k r o l row says = (
     same : (x : List Value) → Row r ≡ Row x → r ≡ x
     same x is = cc
 
+    told_as : (x : List Value) → Row r ≡ Row x → KeyTold (schema_of w s.plan) (length w.places) k (table_at (schema_of w s.plan) k (whats cs)) (projected_row w.places (row_at k (keyed s.plan.shape h s.last))) x
+    told_as x is =
+        subst (λ y. KeyTold (schema_of w s.plan) (length w.places) k y (projected_row w.places (row_at k (keyed s.plan.shape h s.last))) x) (sym has)
+        (subst (λ y. KeyTold (schema_of w s.plan) (length w.places) k a (projected_row w.places y) x) (sym row) (subst (KeyTold (schema_of w s.plan) (length w.places) k a (projected_row w.places b)) (same x is) says))
+
 -- a line that tells the key's row
-told_row : (h : List Entry) (w : Wanted) (s : Slot) (cs : List Came) (k word : List ℕ) (r : List Value) → LawfulCommand h w s cs → Leaves h s.plan k s.owed → row_at k (keyed s.plan.shape h s.last) ≡ Some r → IfRow s.plan k (Some r) → text_eq word (codes "DELETE") ≡ false → KeyTold (schema_of w s.plan) w.places k (Some r) (with_word (schema_of w s.plan) word (projected r w.places))
+told_row : (h : List Entry) (w : Wanted) (s : Slot) (cs : List Came) (k word : List ℕ) (r : List Value) (a : Option (List Value)) → LawfulCommand h w s cs → Leaves h s.plan k s.owed → table_at (schema_of w s.plan) k (whats cs) ≡ a → row_at k (keyed s.plan.shape h s.last) ≡ Some r → IfRow s.plan k (Some r) → text_eq word (codes "DELETE") ≡ false → KeyTold (schema_of w s.plan) (length w.places) k a (Some (projected r w.places)) (with_word (schema_of w s.plan) word (projected r w.places))
     → LawfulCommand h w (record s { owed = s.owed - 1; noted = record { key = k; place = s.last } ∷ s.noted }) (record { what = Row (with_word (schema_of w s.plan) word (projected r w.places)); before = s.place; upto = s.last; at = s.last } ∷ cs)
-told_row h w s cs k word r l leaves row good other says =
+told_row h w s cs k word r a l leaves has row good other says =
     let at = word_key s.plan w k word r l.sound good in
-    turn_of h w s cs (record { what = Row (with_word (schema_of w s.plan) word (projected r w.places)); before = s.place; upto = s.last; at = s.last } ∷ cs) k l leaves (row_line h w s cs k (with_word (schema_of w s.plan) word (projected r w.places)) (Some r) l row says)
+    turn_of h w s cs (record { what = Row (with_word (schema_of w s.plan) word (projected r w.places)); before = s.place; upto = s.last; at = s.last } ∷ cs) k l leaves (row_line h w s cs k (with_word (schema_of w s.plan) word (projected r w.places)) a (Some r) l has row says)
     (table_self (schema_of w s.plan) k (with_word (schema_of w s.plan) word (projected r w.places)) (table_at (schema_of w s.plan) k (whats cs)) at
     ∙ word_kept s.plan w k word r l.sound good other ∙ sym (ap (projected_row w.places) row))
     (λ j t. table_other (schema_of w s.plan) k j (with_word (schema_of w s.plan) word (projected r w.places)) (table_at (schema_of w s.plan) j (whats cs)) at t)
@@ -171,19 +177,22 @@ told_row h w s cs k word r l leaves row good other says =
 told : (h : List Entry) (w : Wanted) (s : Slot) (cs : List Came) (k : List ℕ) (a b : Option (List Value)) → LawfulCommand h w s cs → Leaves h s.plan k s.owed → table_at (schema_of w s.plan) k (whats cs) ≡ a → row_at k (keyed s.plan.shape h s.last) ≡ b → IfRow s.plan k b
     → AfterCut LawfulCommand h w s cs (taken.Key k (row_at k (keyed s.plan.shape h s.last)) s.last) (key_told (schema_of w s.plan) (length w.places) k a (projected_row w.places b))
 told h w s cs k None None l leaves has row good = turn_of h w s cs cs k l leaves l.lines (has ∙ sym (ap (projected_row w.places) row)) (λ j t. refl)
-told h w s cs k None (Some r) l leaves has row good = told_row h w s cs k (codes "ADD") r l leaves row good refl (inl refl)
+told h w s cs k None (Some r) l leaves has row good = told_row h w s cs k (codes "ADD") r None l leaves has row good refl refl
 told h w s cs k (Some old) None l leaves has row good =
     let at = delete_key s.plan w k l.sound in
-    turn_of h w s cs (record { what = Row (delete_row (schema_of w s.plan) (length w.places) k); before = s.place; upto = s.last; at = s.last } ∷ cs) k l leaves (row_line h w s cs k (delete_row (schema_of w s.plan) (length w.places) k) None l row refl)
+    turn_of h w s cs (record { what = Row (delete_row (schema_of w s.plan) (length w.places) k); before = s.place; upto = s.last; at = s.last } ∷ cs) k l leaves (row_line h w s cs k (delete_row (schema_of w s.plan) (length w.places) k) (Some old) None l has row refl)
     (table_self (schema_of w s.plan) k (delete_row (schema_of w s.plan) (length w.places) k) (table_at (schema_of w s.plan) k (whats cs)) at
     ∙ delete_kept s.plan w k l.sound ∙ sym (ap (projected_row w.places) row))
     (λ j t. table_other (schema_of w s.plan) k j (delete_row (schema_of w s.plan) (length w.places) k) (table_at (schema_of w s.plan) j (whats cs)) at t)
 told h w s cs k (Some old) (Some r) l leaves has row good = by_test (row_eq old (projected r w.places)) refl
   where
+    differ : row_eq old (projected r w.places) ≡ false → old ≡ projected r w.places → ⊥
+    differ t e = let same : row_eq old (projected r w.places) ≡ true = subst (λ (x : List Value). row_eq old x ≡ true) e (row_eq_same old) in cc
+
     by_test : (b : Bool) → row_eq old (projected r w.places) ≡ b
         → AfterCut LawfulCommand h w s cs (taken.Key k (row_at k (keyed s.plan.shape h s.last)) s.last) (cond b None (Some (Row (with_word (schema_of w s.plan) (codes "UPDATE") (projected r w.places)))))
     by_test true t = turn_of h w s cs cs k l leaves l.lines (has ∙ ap Some (row_eq_true old (projected r w.places) t) ∙ sym (ap (projected_row w.places) row)) (λ j u. refl)
-    by_test false t = told_row h w s cs k (codes "UPDATE") r l leaves row good refl (inr refl)
+    by_test false t = told_row h w s cs k (codes "UPDATE") r (Some old) l leaves has row good refl (differ t, refl)
 
 pass_key : (h : List Entry) (w : Wanted) (s : Slot) (cs : List Came) (t : Taken) (k : List ℕ) → Some (key_taken h s k) ≡ Some t → Leaves h s.plan k s.owed → LawfulCommand h w s cs → AfterCut LawfulCommand h w s cs t (accepted w s cs t)
 pass_key h w s cs t k is leaves l =

@@ -15,7 +15,7 @@ use Rattle.ls_spec.specs.Cutting.{Wanted}
 use Rattle.ls_spec.specs.DistinctMode.{snapshot_rows, Stays, SnapTold, DistinctSays, IsDistinctLine, DistinctTold, DistinctLines, LawfulDistinct, LeavesOut}
 use Rattle.ls_spec.specs.Lawful.{Each, LawfulOf, LawfulSlot}
 use Rattle.ls_spec.specs.Told.{HadUpdate, HadRecent, IsTrueOf}
-use Rattle.ls_spec.proofs.Each.{each_append, each_contains}
+use Rattle.ls_spec.proofs.Each.{each_append, each_contains, each_within}
 use Rattle.ls_spec.proofs.DistinctLaws.{get_dropped}
 use Rattle.ls_spec.proofs.Updates.{Reached, reached}
 
@@ -126,7 +126,7 @@ had_of places p h c r (inr (inr l)) is = by_says (subst (λ (what : What). Disti
 pub told_distinct : (p : Shape) (h : List Entry) (w : Wanted) (s : Slot) (cs : List Came) → LawfulDistinct h w s cs → IsTrueOf mode.Distinct p h w.places cs
 told_distinct p h w s cs l =
     record {
-      had = λ c r in_cs is. had_of w.places s.plan h c r (each_contains (IsLine w.places s.plan h) c cs (distinct_each h w s cs l) in_cs) is;
+      had = λ newer older c r is what. had_of w.places s.plan h c r (each_within (IsLine w.places s.plan h) newer older c (subst (Each (IsLine w.places s.plan h)) is (distinct_each h w s cs l))) what;
       rise = λ newer between older late early is. leads_rise s.place newer between older late early (subst (Leads s.place) is (lines_lead w.places s.plan h w.snapshot s.place s.owed s.ends cs l.lines));
     }
 

@@ -39,3 +39,7 @@ pub each_contains : {A : Type 0} (P : A → Type 0) (x : A) (xs : List A) → Ea
 each_contains P x [] e c = absurd (omega (arith, c.1))
 each_contains P x (y ∷ ys) e (zero, within, is) = subst P is e.0
 each_contains P x (y ∷ ys) e (suc k, within, is) = each_contains P x ys e.1 (k, omega (arith, within), is)
+
+pub each_within : {A : Type 0} (P : A → Type 0) (newer older : List A) (x : A) → Each P (newer ++ x ∷ older) → P x
+each_within P [] older x e = e.0
+each_within P (y ∷ newer) older x e = each_within P newer older x e.1

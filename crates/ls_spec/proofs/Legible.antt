@@ -30,7 +30,7 @@ use Rattle.ls_script.specs.Adding.{add_pairs}
 use Rattle.ls_line.specs.Lines.{IsWritable}
 use Rattle.ls_mirror.specs.Client.{Begun, begun, begun_after, What, Row, Lost, Cleared, End}
 use Rattle.ls_spec.specs.Came.{Came, whats}
-use Rattle.ls_spec.specs.Tables.{InSchema}
+use Rattle.ls_spec.specs.Tables.{InSchema, shown_at}
 use Rattle.ls_spec.specs.Cutting.{Ask, Wanted, turn}
 use Rattle.ls_spec.specs.Lines.{Line, Begins, Configures, Tells, came, last_row, tells_line, begins_line, wire, texts}
 use Rattle.ls_spec.specs.World.{World, Item, Live, Board, Session, Told, Round, empty, history_of, shape_at, change, is_at, is_of, live_at, keys_in, keys_shown, are_filtered, joined_all, added, enqueue_at, enqueue_slot, enqueued_in, least_far, free_number, turn_if, live_turn, met_by, asked, given_by, taken_in, on_board, is_unsent, given_next, opened}
@@ -277,10 +277,10 @@ keys_shown_in : (items : List Item) (a : Add) (asks : List Ask) → Each (IsAsk 
 keys_shown_in items a [] e = tt
 keys_shown_in items a (ask ∷ asks) e = by_mode ask.mode refl
   where
-    of_command : ask.mode ≡ mode.Command → KeysIn (length a.schema) (keys_in mode.Command ask.wanted (shape_at items ask.item))
+    of_command : ask.mode ≡ mode.Command → KeysIn (length a.schema) (keys_in mode.Command (shown_at (shape_at items ask.item) ask.wanted.places))
     of_command command = let k = e.0.keys (sym e.0.mode ∙ command) in (omega (arith, k.key, e.0.schema), omega (arith, k.command, e.0.schema))
 
-    by_mode : (m : Mode) → ask.mode ≡ m → KeysIn (length a.schema) (keys_in m ask.wanted (shape_at items ask.item))
+    by_mode : (m : Mode) → ask.mode ≡ m → KeysIn (length a.schema) (keys_in m (shown_at (shape_at items ask.item) ask.wanted.places))
     by_mode mode.Merge is = tt
     by_mode mode.Raw is = tt
     by_mode mode.Distinct is = tt

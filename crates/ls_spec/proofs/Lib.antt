@@ -22,6 +22,7 @@ pub mod Heard
 pub mod Textual
 pub mod Legible
 pub mod Scripts
+pub mod Unmoved
 pub mod Knowing
 pub mod Told
 pub mod Turns

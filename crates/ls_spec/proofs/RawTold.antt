@@ -17,7 +17,7 @@ use Rattle.ls_spec.specs.Cutting.{Wanted}
 use Rattle.ls_spec.specs.RawMode.{RawSays, RowsAt, IsRawLine, RawLines, LawfulRaw, Accounts}
 use Rattle.ls_spec.specs.Lawful.{Each, LawfulOf, LawfulSlot}
 use Rattle.ls_spec.specs.Told.{HadUpdate, IsTrueOf}
-use Rattle.ls_spec.proofs.Each.{each_contains}
+use Rattle.ls_spec.proofs.Each.{each_within}
 use Rattle.ls_spec.proofs.Updates.{Reached, reached, updates-join, updates_none}
 
 -- each line is one of mode RAW, and those behind another one have lower numbers
@@ -45,7 +45,7 @@ had_update places h c r l is = by_says (subst (λ (what : What). RawSays places 
 pub told_raw : (p : Shape) (h : List Entry) (w : Wanted) (s : Slot) (cs : List Came) → LawfulRaw h w s cs → IsTrueOf mode.Raw p h w.places cs
 told_raw p h w s cs l =
     record {
-      had = λ c r in_cs is. had_update w.places h c r (each_contains (IsRawLine w.places h) c cs (raw_lines_each w.places h s.plan.base s.place cs l.lines) in_cs) is;
+      had = λ newer older c r is what. had_update w.places h c r (each_within (IsRawLine w.places h) newer older c (subst (Each (IsRawLine w.places h)) is (raw_lines_each w.places h s.plan.base s.place cs l.lines))) what;
       rise = λ newer between older late early is. raw_lines_rise w.places h s.plan.base s.place newer between older late early (subst (λ (xs : List Came). RawLines w.places h s.plan.base s.place xs) is l.lines);
     }
 

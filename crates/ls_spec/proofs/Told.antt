@@ -11,7 +11,7 @@ use Rattle.ls_event.specs.History.{merged}
 use Rattle.ls_event.specs.Shapes.{Shape}
 use Rattle.ls_event.specs.Slots.{Plan, Slot}
 use Rattle.ls_mirror.specs.Client.{Row}
-use Rattle.ls_spec.specs.Came.{Came}
+use Rattle.ls_spec.specs.Came.{Came, whats}
 use Rattle.ls_event.specs.Cuts.{untold, pending, pending_of}
 use Rattle.ls_spec.specs.Lines.{came}
 use Rattle.ls_spec.specs.Cutting.{Wanted, client_row}
@@ -19,7 +19,7 @@ use Rattle.ls_spec.specs.World.{World, Session, Live, history_of, shape_at}
 use Rattle.ls_spec.specs.Lawful.{Each, IsMergeLine, MergeLines, LawfulMerge, LawfulOf, LawfulSlot, LawfulLive, LawfulSession, LawfulRecords}
 use Rattle.ls_spec.specs.CommandMode.{noted_at, AgreesAt, NoTurn, IsKeyLine, KeyLines, LawfulCommand}
 use Rattle.ls_spec.specs.Told.{HadState, IsTrueOf}
-use Rattle.ls_spec.proofs.Each.{each_contains}
+use Rattle.ls_spec.proofs.Each.{each_contains, each_within}
 use Rattle.ls_spec.proofs.Frame.{or_right}
 use Rattle.ls_spec.proofs.RawTold.{told_raw}
 use Rattle.ls_spec.proofs.DistinctTold.{told_distinct}
@@ -60,6 +60,11 @@ merge_lines_each : (p : Plan) (w : Wanted) (h : List Entry) (top : ℕ) (cs : Li
 merge_lines_each p w h top [] l = tt
 merge_lines_each p w h top (c ∷ cs) l = (l.1, merge_lines_each p w h c.upto cs l.2)
 
+pub merge_row : (h : List Entry) (w : Wanted) (s : Slot) (cs : List Came) → LawfulSlot h w s cs → s.plan.mode ≡ mode.Merge → (c : Came) → Contains cs c → IsMergeLine s.plan w h c
+merge_row h w s cs l merge c in_cs =
+    let k : LawfulMerge h w s cs = subst (λ (m : Mode). LawfulOf m h w s cs) merge l in
+    each_contains (IsMergeLine s.plan w h) c cs (merge_lines_each s.plan w h (s.place + 1) cs k.lines) in_cs
+
 below_top : (p : Plan) (w : Wanted) (h : List Entry) (top : ℕ) (between older : List Came) (early : Came) → MergeLines p w h top (between ++ early ∷ older) → early.upto < top
 below_top p w h top [] older early l = l.0
 below_top p w h top (c ∷ between) older early l = omega (arith, l.0, below_top p w h c.upto between older early l.2)
@@ -76,14 +81,14 @@ had_state p w h c r l is =
 told_merge : (h : List Entry) (w : Wanted) (s : Slot) (cs : List Came) → LawfulMerge h w s cs → IsTrueOf mode.Merge s.plan.shape h w.places cs
 told_merge h w s cs l =
     record {
-      had = λ c r in_cs is. had_state s.plan w h c r (each_contains (IsMergeLine s.plan w h) c cs (merge_lines_each s.plan w h (s.place + 1) cs l.lines) in_cs) is;
+      had = λ newer older c r is what. had_state s.plan w h c r (each_within (IsMergeLine s.plan w h) newer older c (subst (Each (IsMergeLine s.plan w h)) is (merge_lines_each s.plan w h (s.place + 1) cs l.lines))) what;
       rise = λ newer between older late early is. merge_lines_rise s.plan w h (s.place + 1) newer between older late early (subst (λ (xs : List Came). MergeLines s.plan w h (s.place + 1) xs) is l.lines);
     }
 
 -- each line is one of mode COMMAND, and those behind another one came no later
-key_lines_each : (p : Shape) (h : List Entry) (places : List ℕ) (top : ℕ) (cs : List Came) → KeyLines p h places top cs → Each (IsKeyLine p h places) cs
-key_lines_each p h places top [] l = tt
-key_lines_each p h places top (c ∷ cs) l = (l.1, key_lines_each p h places c.at cs l.2)
+key_line_at : (p : Shape) (h : List Entry) (places : List ℕ) (top : ℕ) (newer older : List Came) (c : Came) → KeyLines p h places top (newer ++ c ∷ older) → IsKeyLine p h places (whats older) c
+key_line_at p h places top [] older c l = l.1
+key_line_at p h places top (x ∷ newer) older c l = key_line_at p h places x.at newer older c l.2
 
 by_then : (p : Shape) (h : List Entry) (places : List ℕ) (top : ℕ) (between older : List Came) (early : Came) → KeyLines p h places top (between ++ early ∷ older) → early.at ≤ top
 by_then p h places top [] older early l = l.0
@@ -96,7 +101,7 @@ key_lines_rise p h places top (c ∷ newer) between older late early l = key_lin
 told_command : (h : List Entry) (w : Wanted) (s : Slot) (cs : List Came) → LawfulCommand h w s cs → IsTrueOf mode.Command s.plan.shape h w.places cs
 told_command h w s cs l =
     record {
-      had = λ c r in_cs is. ((each_contains (IsKeyLine s.plan.shape h w.places) c cs (key_lines_each s.plan.shape h w.places s.last cs l.lines) in_cs).rows r is).1;
+      had = λ newer older c r is what. ((key_line_at s.plan.shape h w.places s.last newer older c (subst (KeyLines s.plan.shape h w.places s.last) is l.lines)).rows r what).1;
       rise = λ newer between older late early is. key_lines_rise s.plan.shape h w.places s.last newer between older late early (subst (KeyLines s.plan.shape h w.places s.last) is l.lines);
     }
 

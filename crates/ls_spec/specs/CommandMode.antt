@@ -1,6 +1,6 @@
 -- What is true of a slot of mode COMMAND: the client's table agrees with the item's at the place of each key (General Concepts, mode COMMAND).
 use Rattle.std.specs.Prelude.{◌≡◌, ◌<◌, ◌≤◌, ◌⊎◌, ℕ, List, [], ◌∷◌, ◌++◌, length, map, true, Option, None, Some, codes, if◌then◌else◌}
-use Rattle.ls_value.specs.Values.{text_eq, projected}
+use Rattle.ls_value.specs.Values.{text_eq}
 use Rattle.ls_value.specs.declared.row.Value.{Value}
 use Rattle.ls_event.specs.declared.event.Event.{Event}
 use Rattle.ls_event.specs.declared.event.Event.TheVariants.{Update, Clear}
@@ -12,8 +12,8 @@ use Rattle.ls_event.specs.Updates.{last_of, last_clear}
 use Rattle.ls_event.specs.Keyed.{key_of, row_at, keyed}
 use Rattle.ls_event.specs.CommandCuts.{has_key}
 use Rattle.ls_spec.specs.Came.{Came, whats}
-use Rattle.ls_mirror.specs.Client.{Row}
-use Rattle.ls_spec.specs.Tables.{InSchema, place_in, table_at, projected_row, with_word, delete_row}
+use Rattle.ls_mirror.specs.Client.{What, Row}
+use Rattle.ls_spec.specs.Tables.{InSchema, place_in, shown_at, table_at, projected_row, with_word, delete_row}
 use Rattle.ls_spec.specs.Cutting.{Wanted, schema_of}
 
 -- the item has a key and a command, and the schema shows both
@@ -39,27 +39,30 @@ abbrev pub NoTurn : List Entry → Wanted → Plan → ℕ → ℕ → ℕ → L
 NoTurn h w p place last owed k =
     ((place ≡ p.base) × (w.snapshot ≡ None)) ⊎ ((has_key (last_of owed (map (λ x. x.key) (keyed p.shape h p.base))) k ≡ true) ⊎ ((row_at k (keyed p.shape h place) ≡ None) ⊎ ((c : ℕ) × (last_clear h place last ≡ Some c))))
 
--- a row tells a key as the item has it: a DELETE where it is gone, and else its row with the command ADD or UPDATE
-abbrev pub KeyTold : InSchema → List ℕ → List ℕ → Option (List Value) → List Value → Type 0
-KeyTold at places k None r = r ≡ delete_row at (length places) k
-KeyTold at places k (Some row) r = (r ≡ with_word at (codes "ADD") (projected row places)) ⊎ (r ≡ with_word at (codes "UPDATE") (projected row places))
+-- the row of a key's turn, by the client's row of the key and the item's: ADD where the item alone has one, UPDATE where both have one and they differ, DELETE where the
+-- client alone has one. Else no row is told
+abbrev pub KeyTold : InSchema → ℕ → List ℕ → Option (List Value) → Option (List Value) → List Value → Type 0
+KeyTold at fields k None None r = ⊥
+KeyTold at fields k None (Some new) r = r ≡ with_word at (codes "ADD") new
+KeyTold at fields k (Some old) None r = r ≡ delete_row at fields k
+KeyTold at fields k (Some old) (Some new) r = (old ≡ new → ⊥) × (r ≡ with_word at (codes "UPDATE") new)
 
--- a row tells a key as the item had it after so many events of its history, at the places of a schema
-pub record HadKey (p : Shape) (h : List Entry) (places : List ℕ) (i : ℕ) (r : List Value) : Type 0 where
+-- a row tells a client, to whom this had come, of a key as the item had it after so many events of its history, at the places of a schema
+pub record HadKey (p : Shape) (h : List Entry) (places : List ℕ) (before : List What) (i : ℕ) (r : List Value) : Type 0 where
   pub within : i ≤ length h
   pub key : List ℕ
-  pub told : KeyTold (record { key = place_in p.key places; command = place_in p.command places }) places key (row_at key (keyed p h i)) r
+  pub told : KeyTold (shown_at p places) (length places) key (table_at (shown_at p places) key before) (projected_row places (row_at key (keyed p h i))) r
 
--- a line of mode COMMAND: a row tells of all events that were enqueued then
-pub record IsKeyLine (p : Shape) (h : List Entry) (places : List ℕ) (c : Came) : Type 0 where
+-- a line of mode COMMAND, by what had come before it: a row tells of all events that were enqueued then
+pub record IsKeyLine (p : Shape) (h : List Entry) (places : List ℕ) (before : List What) (c : Came) : Type 0 where
   pub reached : c.upto ≤ c.at
   pub within : c.at ≤ length h
-  pub rows : (r : List Value) → c.what ≡ Row r → (c.upto ≡ c.at) × HadKey p h places c.upto r
+  pub rows : (r : List Value) → c.what ≡ Row r → (c.upto ≡ c.at) × HadKey p h places before c.upto r
 
 -- each is such a line, and the numbers that were enqueued then never fall
 abbrev pub KeyLines : Shape → List Entry → List ℕ → ℕ → List Came → Type 0
 KeyLines p h places top [] = Unit {0}
-KeyLines p h places top (c ∷ cs) = (c.at ≤ top) × IsKeyLine p h places c × KeyLines p h places c.at cs
+KeyLines p h places top (c ∷ cs) = (c.at ≤ top) × IsKeyLine p h places (whats cs) c × KeyLines p h places c.at cs
 
 pub record LawfulCommand (h : List Entry) (w : Wanted) (s : Slot) (cs : List Came) : Type 0 where
   pub sound : IsKeyed s.plan w.places

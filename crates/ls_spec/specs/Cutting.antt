@@ -10,7 +10,7 @@ use Rattle.ls_event.specs.declared.event.Taken.TheVariants as taken
 use Rattle.ls_event.specs.Slots.{Plan, Slot, passed}
 use Rattle.ls_mirror.specs.Client.{What, Row, Lost, Cleared, End}
 use Rattle.ls_spec.specs.Came.{Came, came_by, whats}
-use Rattle.ls_spec.specs.Tables.{InSchema, place_in, key_told, table_at, projected_row}
+use Rattle.ls_spec.specs.Tables.{InSchema, shown_at, key_told, table_at, projected_row}
 use Rattle.ls_event.specs.Cuts.{cut}
 use Rattle.ls_spec.specs.Lines.{last_row}
 
@@ -36,7 +36,7 @@ changed given old new = if given && row_eq old new then None else Some (Row new)
 
 -- the places of the item's key and command in the schema
 abbrev pub schema_of : Wanted → Plan → InSchema
-schema_of w p = record { key = place_in p.shape.key w.places; command = place_in p.shape.command w.places }
+schema_of w p = shown_at p.shape w.places
 
 -- the line that a cut makes, if any
 abbrev pub accepted : Wanted → Slot → List Came → Taken → Option What

@@ -3,6 +3,7 @@ use Rattle.std.specs.Prelude.{◌==◌, ℕ, ◌+◌, List, [], ◌∷◌, set, 
 use Rattle.ls_value.specs.declared.row.Value.{Value}
 use Rattle.ls_value.specs.declared.row.Value.TheVariants as value
 use Rattle.ls_value.specs.Values.{nulls, projected, value_at, text_eq, row_eq}
+use Rattle.ls_event.specs.Shapes.{Shape}
 use Rattle.ls_mirror.specs.Client.{What, Row, Lost, Cleared, End}
 
 -- the places of the key and the command in a schema, from 0
@@ -14,6 +15,10 @@ pub record InSchema : Type 0 where
 abbrev pub place_in : ℕ → List ℕ → ℕ
 place_in field [] = 0
 place_in field (p ∷ places) = if p == field then 0 else place_in field places + 1
+
+-- the places of an item's key and command in a schema
+abbrev pub shown_at : Shape → List ℕ → InSchema
+shown_at p places = record { key = place_in p.key places; command = place_in p.command places }
 
 -- the text of a value, which is empty where it is null
 abbrev pub text_in : Value → List ℕ

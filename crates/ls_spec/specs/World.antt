@@ -16,7 +16,7 @@ use Rattle.ls_spec.specs.Came.{Came}
 use Rattle.ls_line.specs.declared.line.Line.TheVariants as line
 use Rattle.ls_line.specs.Lines.{text_of}
 use Rattle.ls_spec.specs.Lines.{Line, Begins, Configures, Tells, came}
-use Rattle.ls_spec.specs.Tables.{InSchema, place_in}
+use Rattle.ls_spec.specs.Tables.{InSchema, shown_at}
 use Rattle.ls_spec.specs.Cutting.{Wanted, Ask, Turn, turn}
 
 -- an item: its definition and its history
@@ -150,13 +150,14 @@ abbrev pub first_of : List Ask → Option Ask
 first_of [] = None
 first_of (a ∷ asks) = Some a
 
--- the places of the key and the command in the schema of a subscription of mode COMMAND, by what is asked of its first item
-abbrev pub keys_in : Mode → Wanted → Shape → Option InSchema
-keys_in mode.Command w p = Some (record { key = place_in p.key w.places; command = place_in p.command w.places })
-keys_in m w p = None
+-- a schema shows the key and the command in mode COMMAND alone
+abbrev pub keys_in : Mode → InSchema → Option InSchema
+keys_in mode.Command at = Some at
+keys_in m at = None
 
+-- their places in the schema of a subscription, by what is asked of its first item
 abbrev pub keys_shown : List Item → List Ask → Option InSchema
-keys_shown items asks = option_and_then (λ a. keys_in a.mode a.wanted (shape_at items a.item)) (first_of asks)
+keys_shown items asks = option_and_then (λ a. keys_in a.mode (shown_at (shape_at items a.item) a.wanted.places)) (first_of asks)
 
 -- RAW knows no frequency, so it isn't filtered
 abbrev pub is_filtered : Mode → Bool

@@ -17,7 +17,7 @@ ghost use Rattle.ls_spec.specs.World.{World, Session, Live, empty, history_of, s
 ghost use Rattle.ls_script.specs.declared.step.Repeat.{Repeat};
 ghost use Rattle.ls_spec.specs.Steps.{does_all};
 ghost use Rattle.ls_spec.specs.Script.{world_of};
-ghost use Rattle.ls_spec.specs.Lawful.{Each, LawfulSlot, Lawful};
+ghost use Rattle.ls_spec.specs.Lawful.{Each, IsMergeLine, LawfulSlot, Lawful};
 ghost use Rattle.ls_mirror.specs.Client.{Row};
 ghost use Rattle.ls_spec.specs.RawMode.{Accounts};
 ghost use Rattle.ls_spec.specs.DistinctMode.{LeavesOut};
@@ -45,7 +45,7 @@ pub fn settled_clients_have_the_items_state()
 
 /// In a lawful world each row that came to a client is a state that the item had, at a number that its history reached, and no line goes back behind an
 /// earlier one: in mode MERGE it is the merged state, in mode RAW the own row of the update of that number, in mode DISTINCT such a row or one of the snapshot,
-/// and in mode COMMAND a key's row or its absence.
+/// and in mode COMMAND a key's row or its absence, told by the word that the client's own table asks for.
 pub fn no_state_is_invented()
     ensures { (w : World) (s : Session) (v : Live) → Lawful w → Contains w.sessions s → Contains s.board.round v
         → IsTrueOf v.slot.plan.mode (shape_at w.items v.item) (history_of w.items v.item) v.wanted.places (came v.sub v.place s.board.lines) }
@@ -66,6 +66,11 @@ pub fn settled_clients_know_of_each_update()
 pub fn only_old_rows_are_left_out()
     ensures { (h : List Entry) (w : Wanted) (s : Slot) (cs : List Came) → LawfulSlot h w s cs → s.plan.mode ≡ mode.Distinct
         → (c : Came) (r : List Value) → Contains cs c → c.what ≡ Row r → c.before < c.upto → LeavesOut s.plan.size h c }
+{}
+
+/// In mode MERGE each row is the item's merged state at a number among the last n that had been enqueued then, where n is the size of the buffer.
+pub fn each_row_is_among_the_last_states()
+    ensures { (h : List Entry) (w : Wanted) (s : Slot) (cs : List Came) → LawfulSlot h w s cs → s.plan.mode ≡ mode.Merge → (c : Came) → Contains cs c → IsMergeLine s.plan w h c }
 {}
 
 /// In mode COMMAND each key that had its turn is in the client's table as the item had it at the place of that key, which is no further than the last event that

@@ -8,12 +8,12 @@ use Rattle.ls_spec.specs.World.{World}
 use Rattle.ls_spec.specs.Steps.{Stepped}
 use Rattle.ls_spec.specs.Lawful.{LawfulRecords}
 use Rattle.ls_spec.specs.Script.{known_of, text_of_outs}
-use Rattle.tlcpd.specs.Hub.{StandsHub}
+use Rattle.ls_hub.specs.Hub.{StandsHub}
 use Rattle.tlcpd.specs.declared.engine.Engine.{Engine}
 use Rattle.tlcpd.specs.declared.engine.LineRefused.{LineRefused}
 use Rattle.tlcpd.specs.declared.engine.LineRefused.TheVariants as line
-use Rattle.tlcpd.specs.declared.hub.StepRefused.{StepRefused}
-use Rattle.tlcpd.specs.declared.hub.StepRefused.TheVariants as step
+use Rattle.ls_hub.specs.declared.hub.StepRefused.{StepRefused}
+use Rattle.ls_hub.specs.declared.hub.StepRefused.TheVariants as step
 
 -- an engine stands for a world, which is lawful
 pub record StandsEngine (e : Engine) (w : World) : Type 0 where

@@ -1,10 +1,3 @@
-pub mod Subscribed
-pub mod Subscription
-pub mod Session
-pub mod Hub
-pub mod Adding
-pub mod Requests
-pub mod Repeats
 pub mod Engine
 pub mod Replay
 pub mod Ran

@@ -1,16 +1,9 @@
 //! A push server for the protocol TLCP 2.1: the program.
 #![tactic(auto)]
 
-pub mod adding;
 pub mod engine;
-pub mod hub;
-pub mod lines;
 pub mod replay;
-pub mod requests;
 pub mod running;
-pub mod schema;
-pub mod session;
-pub mod subscription;
 #[cfg(test)]
 mod tests;
 

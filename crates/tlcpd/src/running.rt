@@ -1,5 +1,5 @@
 //! A run of the program, from its words to its status.
-ghost use Rattle.std.specs.Prelude.{◌≡◌, ◌≤◌, ◌⊎◌, ◌↔◌, IsTrue, map};
+ghost use Rattle.std.specs.Prelude.{◌≡◌, ◌⊎◌, ◌↔◌, IsTrue, map};
 ghost use Rattle.std.specs.String.{string_bytes};
 ghost use Rattle.ls_outside.specs.Causes.{Rose, RoseBy};
 ghost use Rattle.tlcpd.specs.Ran.{Ran, IsReplay, status_at, number_at};

@@ -1,7 +1,7 @@
 use Rattle.std.proofs.Common.{refl, ap, ◌∙◌}
 use Rattle.ls_spec.proofs.Scripts.{in_range}
 use Rattle.ls_spec.specs.Script.{text_of_outs}
-use Rattle.tlcpd.proofs.Stepping.{line_did}
+use Rattle.tlcpd.proofs.EngineLines.{line_did}
 use Rattle.tlcpd.proofs.engine.Engine.line.Goals as goal
 
 pub step-requires-clause-range : goal.step-requires-clause-range

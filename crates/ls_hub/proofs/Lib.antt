@@ -1,0 +1,7 @@
+pub mod Hubs
+pub mod Publishing
+pub mod Repeats
+pub mod Alone
+pub mod Connected
+pub mod Requesting
+pub mod HubSteps

@@ -1,0 +1,92 @@
+-- Like steps, one after another, up to one that ends them.
+use Rattle.std.proofs.Common.{◌≡◌, ℕ, zero, suc, ◌+◌, ◌-◌, ◌<◌, ◌&&◌, List, [], ◌∷◌, ◌++◌, refl, sym, ◌∙◌, ap, arith, subst, cond, Bool, true, false, append-nil, slice_get, Option}
+use Rattle.ls_value.proofs.Rows.{and_left, and_right}
+use Rattle.ls_script.specs.declared.out.Out.{Out}
+use Rattle.ls_spec.specs.World.{World}
+use Rattle.ls_spec.specs.Steps.{Once, Stepped, repeated, stays, take_once}
+use Rattle.ls_script.specs.declared.step.Step.TheVariants as step
+use Rattle.ls_spec.specs.Lawful.{LawfulRecords}
+use Rattle.ls_spec.proofs.Laws.{lawful_does}
+use Rattle.ls_hub.specs.Hub.{StandsParts, IsOf, DidOnce, DidStep}
+use Rattle.ls_hub.specs.Repeats.{nth_world, nth_outs, all_go_on, Going}
+use Rattle.ls_session.specs.declared.session.Item.{Item as Kept}
+use Rattle.ls_session.specs.declared.session.Session.{Session as Holding}
+
+-- one more
+world_next : (f : World → Once) (n : ℕ) (w : World) → nth_world f (suc n) w ≡ (f (nth_world f n w)).after
+world_next f zero w = refl
+world_next f (suc n) w = world_next f n (f w).after
+
+outs_next : (f : World → Once) (n : ℕ) (w : World) → nth_outs f (suc n) w ≡ nth_outs f n w ++ (f (nth_world f n w)).out ∷ []
+outs_next f zero w = refl
+outs_next f (suc n) w = ap (λ t. (f w).out ∷ t) (outs_next f n (f w).after)
+
+go_next : (f : World → Once) (n : ℕ) (w : World) → all_go_on f n w ≡ true → (f (nth_world f n w)).more ≡ true → all_go_on f (suc n) w ≡ true
+go_next f zero w go more = ap (λ b. b && true) more
+go_next f (suc n) w go more =
+    ap (λ b. b && all_go_on f (suc n) (f w).after) (and_left (f w).more (all_go_on f n (f w).after) go)
+    ∙ go_next f n (f w).after (and_right (f w).more (all_go_on f n (f w).after) go) more
+
+-- where the first n go on, the others follow
+abbrev behind_outs : List Out → Stepped → Stepped
+behind_outs outs s = record { after = s.after; outs = outs ++ s.outs }
+
+repeated_from : (f : World → Once) (n k : ℕ) (w : World) → all_go_on f n w ≡ true → repeated f (n + k) w ≡ behind_outs (nth_outs f n w) (repeated f k (nth_world f n w))
+repeated_from f zero k w go = ap (λ m. repeated f m w) {x = zero + k} {y = k} (omega arith)
+repeated_from f (suc n) k w go =
+    let this : (f w).more ≡ true = and_left (f w).more (all_go_on f n (f w).after) go in
+    let rest : all_go_on f n (f w).after ≡ true = and_right (f w).more (all_go_on f n (f w).after) go in
+    ap (λ m. repeated f m w) {x = suc n + k} {y = suc (n + k)} (omega arith)
+    ∙ ap (λ b. cond b (behind_outs ((f w).out ∷ []) (repeated f (n + k) (f w).after)) (record { after = (f w).after; outs = (f w).out ∷ [] })) this
+    ∙ ap (behind_outs ((f w).out ∷ [])) (repeated_from f n k (f w).after rest)
+
+-- before any
+pub going_start : (f : World → Once) (w : World) (connection : ℕ) (called : List ℕ) (c : Option Kept) (k : Option Holding) → StandsParts c k w → IsOf w connection called → Going f w connection called 0 [] c k
+going_start f w connection called c k st named = record { stands = st; named = named; prints = refl; goes = refl }
+
+-- one more was done, and another one follows
+pub going_on : (f : World → Once) (w : World) (connection : ℕ) (called : List ℕ) (n : ℕ) (outs : List Out) (one : Out) (c c' : Option Kept) (k k' : Option Holding) (again : Bool)
+    → Going f w connection called n outs c k → DidOnce (nth_world f n w) (f (nth_world f n w)) one again c' k' → again ≡ true → Going f w connection called (n + 1) (outs ++ one ∷ []) c' k'
+going_on f w connection called n outs one c c' k k' again g d more =
+    let e : n + 1 ≡ suc n = omega arith in
+    subst (λ (m : ℕ). Going f w connection called m (outs ++ one ∷ []) c' k') (sym e)
+    (record {
+      stands = subst (λ (v : World). StandsParts c' k' v) (sym (world_next f n w)) d.stands;
+      named = subst (λ (v : World). IsOf v connection called) (sym (world_next f n w))
+          (record { value = g.named.value; found = ap (λ cs. slice_get cs connection) d.connections ∙ g.named.found; name = g.named.name; session = g.named.session });
+      prints = ap (λ os. os ++ one ∷ []) g.prints ∙ ap (λ o. nth_outs f n w ++ o ∷ []) (sym d.out) ∙ sym (outs_next f n w);
+      goes = go_next f n w g.goes (d.more ∙ more);
+    })
+
+-- all were done
+pub going_all : (f : World → Once) (w : World) (connection : ℕ) (called : List ℕ) (n times : ℕ) (outs : List Out) (c : Option Kept) (k : Option Holding) → n ≡ times → Going f w connection called n outs c k → DidStep (repeated f times w) outs c k
+going_all f w connection called n times outs c k all g =
+    let e : repeated f times w ≡ behind_outs (nth_outs f n w) (stays (nth_world f n w) []) = ap (λ m. repeated f m w) {x = times} {y = n + zero} (omega (arith, all)) ∙ repeated_from f n zero w g.goes in
+    subst (λ (s : Stepped). DidStep s outs c k) (sym e) (record { prints = g.prints ∙ sym (append-nil (nth_outs f n w)); stands = g.stands })
+
+-- one more was done, which ends them
+pub going_ended : (f : World → Once) (w : World) (connection : ℕ) (called : List ℕ) (n times : ℕ) (outs : List Out) (one : Out) (c c' : Option Kept) (k k' : Option Holding) (again : Bool)
+    → n < times → Going f w connection called n outs c k → DidOnce (nth_world f n w) (f (nth_world f n w)) one again c' k' → again ≡ false → DidStep (repeated f times w) (outs ++ one ∷ []) c' k'
+going_ended f w connection called n times outs one c c' k k' again low g d ends =
+    let stop : (f (nth_world f n w)).more ≡ false = d.more ∙ ends in
+    let last : repeated f (suc (times - n - 1)) (nth_world f n w) ≡ record { after = (f (nth_world f n w)).after; outs = (f (nth_world f n w)).out ∷ [] } =
+    ap (λ b. cond b (behind_outs ((f (nth_world f n w)).out ∷ []) (repeated f (times - n - 1) (f (nth_world f n w)).after)) (record { after = (f (nth_world f n w)).after; outs = (f (nth_world f n w)).out ∷ [] })) stop in
+    let e : repeated f times w ≡ behind_outs (nth_outs f n w) (record { after = (f (nth_world f n w)).after; outs = (f (nth_world f n w)).out ∷ [] }) =
+    ap (λ m. repeated f m w) {x = times} {y = n + suc (times - n - 1)} (omega (arith, low)) ∙ repeated_from f n (suc (times - n - 1)) w g.goes ∙ ap (behind_outs (nth_outs f n w)) last in
+    subst (λ (s : Stepped). DidStep s (outs ++ one ∷ []) c' k') (sym e)
+    (record { prints = ap (λ os. os ++ one ∷ []) g.prints ∙ ap (λ o. nth_outs f n w ++ o ∷ []) (sym d.out); stands = d.stands })
+
+-- turns keep a world lawful
+once_after : (f : World → Once) (w : World) → (repeated f 1 w).after ≡ (f w).after
+once_after f w = by_more (f w).more
+  where
+    by_more : (b : Bool) → (cond b (behind_outs ((f w).out ∷ []) (stays (f w).after [])) (record { after = (f w).after; outs = (f w).out ∷ [] })).after ≡ (f w).after
+    by_more true = refl
+    by_more false = refl
+
+lawful_once : (connection : ℕ) (w : World) → LawfulRecords w → LawfulRecords (take_once connection w).after
+lawful_once connection w l = subst LawfulRecords (once_after (take_once connection) w) (lawful_does w (step.Take connection) 1 tt l)
+
+pub lawful_nth : (connection n : ℕ) (w : World) → LawfulRecords w → LawfulRecords (nth_world (take_once connection) n w)
+lawful_nth connection zero w l = l
+lawful_nth connection (suc n) w l = lawful_nth connection n (take_once connection w).after (lawful_once connection w l)

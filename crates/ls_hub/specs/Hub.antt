@@ -1,0 +1,139 @@
+-- What the hub's item and session stand for in the world, and what its steps do.
+use Rattle.std.specs.Prelude.{◌≡◌, ◌==◌, ◌&&◌, ◌≤◌, ◌⊎◌, ℕ, List, [], ◌∷◌, length, map, Bool, true, false, Option, None, Some, Result, Ok, Err, slice_get}
+use Rattle.ls_event.specs.declared.event.PublishRefused.{PublishRefused}
+use Rattle.ls_event.specs.Slots.{Slot}
+use Rattle.ls_cell.specs.Cell.{enqueued_at, enqueue_answer}
+use Rattle.ls_cell.specs.declared.cell.Enqueued.{Enqueued}
+use Rattle.ls_cell.specs.declared.cell.Enqueued.TheVariants as enqueued
+use Rattle.ls_script.specs.declared.out.Out.{Out}
+use Rattle.ls_script.specs.declared.out.Out.TheVariants as out
+use Rattle.ls_script.specs.declared.step.Step.{Step}
+use Rattle.ls_script.specs.declared.step.Step.TheVariants as step
+use Rattle.ls_spec.specs.World.{World, Item, Session, Connection, history_of, change, on_board, added, free_number}
+use Rattle.ls_spec.specs.Cutting.{Ask}
+use Rattle.ls_spec.specs.Acting.{add_asked}
+use Rattle.ls_spec.specs.Built.{has_lines, is_accepted}
+use Rattle.ls_request.specs.declared.request.Add.{Add}
+use Rattle.ls_spec.specs.Steps.{Once, Stepped, refused_out}
+use Rattle.ls_spec.specs.Lawful.{Each}
+use Rattle.ls_subs.specs.Subscription.{Subscribed}
+use Rattle.ls_session.specs.Session.{StandsItem, StandsSession}
+use Rattle.ls_session.specs.declared.session.Item.{Item as Kept}
+use Rattle.ls_session.specs.declared.session.Session.{Session as Holding}
+use Rattle.ls_session.specs.declared.session.Given.{Given}
+use Rattle.ls_session.specs.declared.session.Given.TheVariants as given
+use Rattle.ls_hub.specs.declared.hub.Hub.{Hub}
+use Rattle.ls_hub.specs.declared.hub.Connection.{Connection as Linked}
+
+-- the only session, if there is one
+abbrev pub StandsAll : Option Kept → Option Holding → List Item → List Session → Type 0
+StandsAll c None items [] = StandsItem c [] items
+StandsAll c None items (s ∷ sessions) = ⊥
+StandsAll c (Some k) items [] = ⊥
+StandsAll c (Some k) items (s ∷ []) = StandsSession c k items s
+StandsAll c (Some k) items (s ∷ t ∷ sessions) = ⊥
+
+-- a connection has the only session, or none
+abbrev pub Leads : List Session → Option ℕ → Type 0
+Leads sessions None = Unit {0}
+Leads [] (Some n) = ⊥
+Leads (s ∷ sessions) (Some n) = n ≡ 0
+
+-- an item and a session stand for those of a world
+pub record StandsParts (c : Option Kept) (k : Option Holding) (w : World) : Type 0 where
+  pub all : StandsAll c k w.items w.sessions
+  pub leads : Each (λ x. Leads w.sessions x.session) w.connections
+
+-- a connection as it is kept
+abbrev pub seen : Linked → Connection
+seen c = record { name = c.name; link = c.link; session = c.session }
+
+-- a hub stands for a world
+pub record StandsHub (h : Hub) (w : World) : Type 0 where
+  pub set : h.set ≡ w.set
+  pub connections : map seen h.connections.items ≡ w.connections
+  pub parts : StandsParts h.item h.session w
+
+-- a subscription was added to the only session, or it isn't built: there is no session, it has numbered lines, or the add is refused
+pub record DidAdd (w : World) (a : Add) (c : Option Kept) (k : Option Holding) : Type 0 where
+  pub session : Session
+  pub only : w.sessions ≡ session ∷ []
+  pub first : has_lines w.sessions ≡ false
+  pub asks : List Ask
+  pub asked : add_asked w session a ≡ Ok asks
+  pub stands : StandsParts c k (record w { sessions = change 0 (on_board (added w.items (free_number w.sessions) a.sub (length a.schema) asks)) w.sessions })
+
+abbrev pub DidSubscribe : Bool → World → Add → Option Kept → Option Holding → Type 0
+DidSubscribe true w a c k = DidAdd w a c k
+DidSubscribe false w a c k = (w.sessions ≡ []) ⊎ ((has_lines w.sessions ≡ true) ⊎ ((s : Session) × (w.sessions ≡ s ∷ []) × (is_accepted (add_asked w s a) ≡ false)))
+
+-- a hub did a step, which prints these, and stands for the world after it
+pub record DidHub (s : Stepped) (outs : List Out) (h : Hub) : Type 0 where
+  pub prints : outs ≡ s.outs
+  pub stands : StandsHub h s.after
+
+-- a connection of a world, by its place and its name, which has the only session
+pub record IsOf (w : World) (connection : ℕ) (called : List ℕ) : Type 0 where
+  pub value : Connection
+  pub found : slice_get w.connections connection ≡ Some value
+  pub name : value.name ≡ called
+  pub session : value.session ≡ Some 0
+
+-- one of several like steps was done, and prints this
+pub record DidOnce (w : World) (o : Once) (printed : Out) (again : Bool) (c : Option Kept) (k : Option Holding) : Type 0 where
+  pub more : o.more ≡ again
+  pub out : o.out ≡ printed
+  pub stands : StandsParts c k o.after
+  pub connections : o.after.connections ≡ w.connections
+
+-- a step was done, and prints these
+pub record DidStep (s : Stepped) (outs : List Out) (c : Option Kept) (k : Option Holding) : Type 0 where
+  pub prints : outs ≡ s.outs
+  pub stands : StandsParts c k s.after
+
+-- what a turn prints, and whether another one follows
+abbrev pub out_given : List ℕ → Given → Out
+out_given name (given.Line text) = out.Line name text
+out_given name given.Idle = out.Idle
+out_given name given.Spent = out.Spent
+
+abbrev pub is_line : Given → Bool
+is_line (given.Line text) = true
+is_line given.Idle = false
+is_line given.Spent = false
+
+-- whether the only slot is of this place in this subscription
+abbrev pub is_slot_of : Option Subscribed → ℕ → ℕ → Bool
+is_slot_of None sub place = false
+is_slot_of (Some u) sub place = (sub == u.sub) && (place == 1)
+
+abbrev pub is_slot : Option Holding → ℕ → ℕ → Bool
+is_slot None sub place = false
+is_slot (Some k) sub place = is_slot_of k.subscription sub place
+
+-- an enqueue into the only slot
+pub record DidEnqueue (s : Slot) (items : List Item) (said : Option Enqueued) (c : Option Kept) : Type 0 where
+  pub answer : said ≡ Some (enqueue_answer (length (history_of items 0)) s.last)
+  pub item : StandsItem c (Some (enqueued_at (history_of items 0) s) ∷ []) items
+
+-- what an enqueue prints, and whether another one follows; there may be no slot
+abbrev pub out_enqueued : Option Enqueued → Out
+out_enqueued None = out.NoSlot
+out_enqueued (Some (enqueued.Moved n)) = out.Moved n
+out_enqueued (Some enqueued.UpToDate) = out.UpToDate
+
+abbrev pub has_moved : Option Enqueued → Bool
+has_moved None = false
+has_moved (Some (enqueued.Moved n)) = true
+has_moved (Some enqueued.UpToDate) = false
+
+-- what a publish prints
+abbrev pub outs_published : Result ℕ PublishRefused → List Out
+outs_published (Ok n) = out.Published n ∷ []
+outs_published (Err cause) = refused_out cause
+
+-- a published event has an adapter from 1 to 64
+abbrev pub HasAdapter : Step → Type 0
+HasAdapter (step.Publish adapter seq item cells) = adapter ≤ 64
+HasAdapter (step.Clear adapter seq item) = adapter ≤ 64
+HasAdapter s = Unit {0}

@@ -1,0 +1,4 @@
+pub mod Hub
+pub mod Adding
+pub mod Requests
+pub mod Repeats

@@ -1,0 +1,28 @@
+-- Like steps, one after another.
+use Rattle.std.specs.Prelude.{◌≡◌, ℕ, zero, suc, List, [], ◌∷◌, Bool, true, ◌&&◌, Option}
+use Rattle.ls_script.specs.declared.out.Out.{Out}
+use Rattle.ls_spec.specs.World.{World}
+use Rattle.ls_spec.specs.Steps.{Once}
+use Rattle.ls_hub.specs.Hub.{StandsParts, IsOf}
+use Rattle.ls_session.specs.declared.session.Item.{Item as Kept}
+use Rattle.ls_session.specs.declared.session.Session.{Session as Holding}
+
+-- the world after n of them, what they print, and whether each asks for a next one
+abbrev pub nth_world : (World → Once) → ℕ → World → World
+nth_world f zero w = w
+nth_world f (suc n) w = nth_world f n (f w).after
+
+abbrev pub nth_outs : (World → Once) → ℕ → World → List Out
+nth_outs f zero w = []
+nth_outs f (suc n) w = (f w).out ∷ nth_outs f n (f w).after
+
+abbrev pub all_go_on : (World → Once) → ℕ → World → Bool
+all_go_on f zero w = true
+all_go_on f (suc n) w = (f w).more && all_go_on f n (f w).after
+
+-- the first n of them were done and printed these, and each asks for a next one
+pub record Going (f : World → Once) (w : World) (connection : ℕ) (called : List ℕ) (n : ℕ) (outs : List Out) (c : Option Kept) (k : Option Holding) : Type 0 where
+  pub stands : StandsParts c k (nth_world f n w)
+  pub named : IsOf (nth_world f n w) connection called
+  pub prints : outs ≡ nth_outs f n w
+  pub goes : all_go_on f n w ≡ true
