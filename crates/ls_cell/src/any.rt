@@ -8,7 +8,6 @@ use ls_event::{Buffer, Stored, Taken};
 use ls_merge::MergeBuffer;
 use ls_raw::RawBuffer;
 use ls_value::NoMemory;
-use std::alloc::Global;
 
 /// What a slot in one of the modes still has to tell.
 #[derive(Drop)]
@@ -60,33 +59,33 @@ impl Buffer for AnyBuffer {
 
     ghost longer = { any_longer };
 
-    fn enqueue(&mut self, alloc: Global, event: &Stored) -> Result<(), NoMemory> {
+    fn enqueue(&mut self, event: &Stored) -> Result<(), NoMemory> {
         match self {
             AnyBuffer::Raw(buffer) => {
-                Buffer::enqueue(buffer, alloc, event)?;
+                Buffer::enqueue(buffer, event)?;
                 Ok(())
             }
             AnyBuffer::Merge(buffer) => {
-                Buffer::enqueue(buffer, alloc, event)?;
+                Buffer::enqueue(buffer, event)?;
                 Ok(())
             }
             AnyBuffer::Distinct(buffer) => {
-                Buffer::enqueue(buffer, alloc, event)?;
+                Buffer::enqueue(buffer, event)?;
                 Ok(())
             }
             AnyBuffer::Command(buffer) => {
-                Buffer::enqueue(buffer, alloc, event)?;
+                Buffer::enqueue(buffer, event)?;
                 Ok(())
             }
         }
     }
 
-    fn look(&self, alloc: Global) -> Result<Option<Taken>, NoMemory> {
+    fn look(&self) -> Result<Option<Taken>, NoMemory> {
         match self {
-            AnyBuffer::Raw(buffer) => Buffer::look(buffer, alloc),
-            AnyBuffer::Merge(buffer) => Buffer::look(buffer, alloc),
-            AnyBuffer::Distinct(buffer) => Buffer::look(buffer, alloc),
-            AnyBuffer::Command(buffer) => Buffer::look(buffer, alloc),
+            AnyBuffer::Raw(buffer) => Buffer::look(buffer),
+            AnyBuffer::Merge(buffer) => Buffer::look(buffer),
+            AnyBuffer::Distinct(buffer) => Buffer::look(buffer),
+            AnyBuffer::Command(buffer) => Buffer::look(buffer),
         }
     }
 

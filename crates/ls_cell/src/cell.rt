@@ -47,9 +47,10 @@ const LAST: u64 = 1 << 60;
 const KEPT: usize = 64;
 
 /// An item with its slots: its state, its number of events, the last 64 of them, the last seq of each adapter, and the
-/// slots by number. A slot's number is the least from 1 that is not in use.
+/// slots by number. A slot's number is the least from 1 that is not in use. It keeps the allocator that its constructor took.
 #[derive(Drop)]
 pub struct ItemCell {
+    alloc: Global,
     item: ItemState,
     number: u64,
     tail: VecDeque<Stored>,
@@ -69,6 +70,7 @@ impl Model for ItemCell {
 
 impl ItemCell {
     /// An item as declared, without events and without a slot. It has 1 to 64 fields, and in kind COMMAND a key and a command among them.
+    /// Its later calls take memory by this allocator.
     pub fn new(alloc: Global, item: &ItemDef) -> Result<ItemCell, NoMemory>
         requires { IsShape (shape_of item.now) }
         ensures shape { IfOk result (λ c. c.item.shape ≡ shape_of item.now) }
@@ -79,6 +81,7 @@ impl ItemCell {
         let seqs = vec![in alloc; 0u64; 65]?;
         let state = ItemState::new(alloc, item)?;
         Ok(ItemCell {
+            alloc,
             item: state,
             number: 0,
             tail: VecDeque::new(alloc),
@@ -134,13 +137,7 @@ impl ItemCell {
     /// - `Backlog`: a slot lags by 64 events, of which the least is named;
     /// - `Spent`: there are 2^60 events;
     /// - `NoMemory`: want of memory, where nothing else is in the way.
-    pub fn publish(
-        &mut self,
-        alloc: Global,
-        adapter: u8,
-        seq: u64,
-        event: Event,
-    ) -> Result<u64, PublishRefused>
+    pub fn publish(&mut self, adapter: u8, seq: u64, event: Event) -> Result<u64, PublishRefused>
         requires adapter { adapter ≤ 64 }
         requires fields { HasFields self.old.item.shape.fields event }
         ensures answer { AnswersFirst (refusal_of self.old adapter seq event) (self.old.number + 1) result }
@@ -156,18 +153,12 @@ impl ItemCell {
             → StandsCell self.new ss (h ++ record { adapter = adapter; seq = seq; event = event } ∷ [])) }
         ensures err { OnErr result (self.new ≡ self.old) }
     {
-        self.append(alloc, adapter, seq, event)
+        self.append(adapter, seq, event)
     }
 
     /// Joins a slot at the item's number, in mode RAW or the one of the item's kind. Its buffer has the size `n`, which is 1 to 256 and counts
     /// in modes MERGE and DISTINCT alone. Fewer than 4,096 slots are live. After `NoMemory` all is as before.
-    pub fn join(
-        &mut self,
-        alloc: Global,
-        mode: Mode,
-        n: u32,
-        snapshot: Snap,
-    ) -> Result<Joined, NoMemory>
+    pub fn join(&mut self, mode: Mode, n: u32, snapshot: Snap) -> Result<Joined, NoMemory>
         requires mode { IsModeOf self.old.item.shape.kind mode }
         requires some { 0 < n }
         requires most { n ≤ 256 }
@@ -183,7 +174,7 @@ impl ItemCell {
         ensures err { OnErr result (self.new ≡ self.old) }
     {
         let base = self.number;
-        let buffer = buffer_of(alloc, &self.item, base, mode, n, snapshot)?;
+        let buffer = buffer_of(self.alloc, &self.item, base, mode, n, snapshot)?;
         let slot = self.slots.join(buffer)?;
         Ok(Joined { slot, base })
     }
@@ -199,7 +190,7 @@ impl ItemCell {
 
     /// Enqueues the next event into a live slot: `UpToDate` exactly where it has every event of the item.
     /// After `NoMemory` all is as before.
-    pub fn enqueue(&mut self, alloc: Global, slot: u32) -> Result<Enqueued, NoMemory>
+    pub fn enqueue(&mut self, slot: u32) -> Result<Enqueued, NoMemory>
         requires { HasSlot self.old slot }
         ensures answer { IfOk result (λ e. e ≡ enqueue_answer self.old.number (last_in self.old slot)) }
         ensures answered { IfOk result (λ e. (ss : List (Option Slot)) (h : List Entry) (s : Slot) → StandsCell self.old ss h → slot_at ss slot ≡ Some s
@@ -216,16 +207,18 @@ impl ItemCell {
             return Ok(Enqueued::UpToDate);
         }
         let place = last - (self.number - self.tail.len() as u64);
-        self.slots.enqueue(alloc, slot, &self.tail[place as usize])?;
+        self.slots.enqueue(slot, &self.tail[place as usize])?;
         Ok(Enqueued::Moved { no: last + 1 })
     }
 
-    /// Enqueues into a live slot until it has every event of the item. After `NoMemory` it has taken some of them in order, as
-    /// `lag` tells. No memory is taken where it has them all.
-    pub fn catch_up(&mut self, alloc: Global, slot: u32) -> Result<(), NoMemory>
+    /// Enqueues into a live slot until it has every event of the item. After `NoMemory` the slot has made some of these enqueues in order,
+    /// maybe none and never all, and `lag` tells how many are left; the rest of the cell is as before. No memory is taken where it has
+    /// them all.
+    pub fn catch_up(&mut self, slot: u32) -> Result<(), NoMemory>
         requires { HasSlot self.old slot }
         ensures last { OnOk result (last_in self.new slot ≡ self.old.number) }
         ensures some { last_in self.old slot ≤ last_in self.new slot }
+        ensures left { OnErr result (last_in self.new slot < self.old.number) }
         ensures free { last_in self.old slot ≡ self.old.number → IsOk result }
         ensures rest { self.new ≡ record self.old { slots = set_slot self.old.slots slot (slot_at self.new.slots slot) } }
         ensures live { HasSlot self.new slot }
@@ -237,19 +230,19 @@ impl ItemCell {
             → StandsCell self.new (set_slot ss slot (Some (record s { last = last_in self.new slot }))) h }
     {
         for _ in 0..self.lag(slot) {
-            self.enqueue(alloc, slot)?;
+            self.enqueue(slot)?;
         }
         Ok(())
     }
 
     /// The next cut of a live slot, where cuts that make no line aren't told apart; `None` where there is none.
-    pub fn look(&self, alloc: Global, slot: u32) -> Result<Option<Taken>, NoMemory>
+    pub fn look(&self, slot: u32) -> Result<Option<Taken>, NoMemory>
         requires { HasSlot self.now slot }
         ensures head { IfOk result (λ t. t ≡ head_at self.now slot) }
         ensures fits { IfOk result (Fits self.now.item.shape.fields) }
         ensures cut { IfOk result (λ t. (ss : List (Option Slot)) (h : List Entry) (s : Slot) → StandsCell self.now ss h → slot_at ss slot ≡ Some s → t ≡ cut h s) }
     {
-        let taken = self.slots.look(alloc, slot)?;
+        let taken = self.slots.look(slot)?;
         Ok(taken)
     }
 
@@ -283,13 +276,7 @@ impl ItemCell {
     }
 
     /// Adds an event, or answers the first cause to refuse it.
-    fn append(
-        &mut self,
-        alloc: Global,
-        adapter: u8,
-        seq: u64,
-        event: Event,
-    ) -> Result<u64, PublishRefused>
+    fn append(&mut self, adapter: u8, seq: u64, event: Event) -> Result<u64, PublishRefused>
         requires adapter { adapter ≤ 64 }
         requires fields { HasFields self.old.item.shape.fields event }
         ensures answer { AnswersFirst (refusal_of self.old adapter seq event) (self.old.number + 1) result }
@@ -299,7 +286,7 @@ impl ItemCell {
         ensures err { OnErr result (self.new ≡ self.old) }
     {
         self.check(adapter, seq, &event)?;
-        self.store(alloc, adapter, seq, event)?;
+        self.store(adapter, seq, event)?;
         Ok(self.number)
     }
 
@@ -325,7 +312,7 @@ impl ItemCell {
     }
 
     /// Adds an event that isn't refused.
-    fn store(&mut self, alloc: Global, adapter: u8, seq: u64, event: Event) -> Result<(), NoMemory>
+    fn store(&mut self, adapter: u8, seq: u64, event: Event) -> Result<(), NoMemory>
         requires adapter { adapter ≤ 64 }
         requires fields { HasFields self.old.item.shape.fields event }
         requires free { refusal_of self.old adapter seq event ≡ None }
@@ -334,13 +321,7 @@ impl ItemCell {
             → StandsCell self.new ss (h ++ record { adapter = adapter; seq = seq; event = event } ∷ [])) }
         ensures err { OnErr result (self.new ≡ self.old) }
     {
-        add(
-            alloc,
-            &mut self.item,
-            &mut self.tail,
-            self.number + 1,
-            event,
-        )?;
+        add(&mut self.item, &mut self.tail, self.number + 1, event)?;
         self.seqs[adapter as usize] = seq;
         self.number += 1;
         Ok(())
@@ -349,7 +330,6 @@ impl ItemCell {
 
 /// Adds the event of a number, which isn't refused, to the state and to the tail.
 fn add(
-    alloc: Global,
     item: &mut ItemState,
     tail: &mut VecDeque<Stored>,
     no: u64,
@@ -364,7 +344,7 @@ fn add(
     ensures err { OnErr result ((item.new ≡ item.old) × (tail.new.items ≡ tail.old.items)) }
 {
     tail.reserve(1)?;
-    let after = push(alloc, item, &event)?;
+    let after = push(item, &event)?;
     tail.push_back_reserved(Stored { no, event, after });
     if tail.len() > KEPT {
         let _first = tail.pop_front();
@@ -373,7 +353,7 @@ fn add(
 }
 
 /// Adds an event that isn't refused to the state, and answers the row that it leaves its key.
-fn push(alloc: Global, item: &mut ItemState, event: &Event) -> Result<Option<Row>, NoMemory>
+fn push(item: &mut ItemState, event: &Event) -> Result<Option<Row>, NoMemory>
     requires fields { HasFields item.old.shape.fields event.now }
     requires admitted { push_refusal item.old.shape item.old.state event.now ≡ None }
     ensures item { OnOk result (item.new ≡ record item.old { state = state_after item.old.shape item.old.state event.now }) }
@@ -381,7 +361,7 @@ fn push(alloc: Global, item: &mut ItemState, event: &Event) -> Result<Option<Row
     ensures fits { IfOk result (RowFits item.old.shape.fields) }
     ensures err { OnErr result (item.new ≡ item.old) }
 {
-    match item.push(alloc, event) {
+    match item.push(event) {
         Ok(row) => Ok(row),
         Err(_) => Err(NoMemory),
     }

@@ -64,7 +64,7 @@ fn merge_buffer(
     requires most { n ≤ 256 }
     ensures { IfOk result (Joins item.now number Mode.Merge n (rows_asked snapshot)) }
 {
-    let Snapshot::Merge(row) = item.snapshot(alloc)? else {
+    let Snapshot::Merge(row) = item.snapshot()? else {
         unreachable!()
     };
     let buffer = MergeBuffer::new(alloc, number, n, row, is_asked(snapshot))?;
@@ -84,7 +84,7 @@ fn distinct_buffer(
     requires most { n ≤ 256 }
     ensures { IfOk result (Joins item.now number Mode.Distinct n (rows_asked snapshot)) }
 {
-    let first = snapshot_asked(alloc, item, snapshot)?;
+    let first = snapshot_asked(item, snapshot)?;
     let rows = rows_owed(&first, snapshot);
     let buffer = DistinctBuffer::new(alloc, number, n, first, rows)?;
     Ok(AnyBuffer::Distinct(buffer))
@@ -100,22 +100,18 @@ fn command_buffer(
     requires { item.now.shape.kind ≡ Kind.Command }
     ensures { IfOk result (λ b. (n : ℕ) → Joins item.now number Mode.Command n (rows_asked snapshot) b) }
 {
-    let first = snapshot_asked(alloc, item, snapshot)?;
+    let first = snapshot_asked(item, snapshot)?;
     let buffer = CommandBuffer::new(alloc, number, item.key(), first)?;
     Ok(AnyBuffer::Command(buffer))
 }
 
 /// The item's state, where it is asked for.
-fn snapshot_asked(
-    alloc: Global,
-    item: &ItemState,
-    snapshot: Snap,
-) -> Result<Option<Snapshot>, NoMemory>
+fn snapshot_asked(item: &ItemState, snapshot: Snap) -> Result<Option<Snapshot>, NoMemory>
     ensures state { IfOk result (λ first. first ≡ (if is_some (rows_asked snapshot) then Some item.now.state else None)) }
     ensures fits { IfOk result (λ first. ForSome first (IsStateOf item.now.shape)) }
 {
     if is_asked(snapshot) {
-        let first = item.snapshot(alloc)?;
+        let first = item.snapshot()?;
         return Ok(Some(first));
     }
     Ok(None)

@@ -9,6 +9,3 @@ mod table;
 pub use any::AnyBuffer;
 pub use cell::{Enqueued, ItemCell, Joined};
 pub use ls_event::PublishRefused;
-
-#[cfg(test)]
-mod tests;

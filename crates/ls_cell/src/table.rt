@@ -77,17 +77,17 @@ impl Slots {
     }
 
     /// What a live slot tells next.
-    pub fn look(&self, alloc: Global, slot: u32) -> Result<Option<Taken>, NoMemory>
+    pub fn look(&self, slot: u32) -> Result<Option<Taken>, NoMemory>
         requires { IsSome (slot_at self.now slot) }
         ensures head { IfOk result (λ t. t ≡ option_and_then any_head (slot_at self.now slot)) }
         ensures fits { IfOk result (λ t. (p : Shape) (number kept : ℕ) → EachSlot (IsSlotOf p number kept) self.now → Fits p.fields t) }
     {
-        let taken = look_at(alloc, &self.slots[slot as usize - 1])?;
+        let taken = look_at(&self.slots[slot as usize - 1])?;
         Ok(taken)
     }
 
     /// Takes the event of the next number into a live slot. After `NoMemory` all is as before.
-    pub fn enqueue(&mut self, alloc: Global, slot: u32, event: &Stored) -> Result<(), NoMemory>
+    pub fn enqueue(&mut self, slot: u32, event: &Stored) -> Result<(), NoMemory>
         requires live { IsSome (slot_at self.old slot) }
         requires next { event.now.no ≡ last_at (slot_at self.old slot) + 1 }
         requires few { event.now.no ≤ 2 ^ 60 }
@@ -101,7 +101,7 @@ impl Slots {
             → slot_at ss slot ≡ Some s → IsNext s h event.now → StandsAll (StandsSlot p) self.new (set_slot ss slot (Some (enqueued s))) h) }
         ensures err { OnErr result (self.new ≡ self.old) }
     {
-        enqueue_at(alloc, &mut self.slots[slot as usize - 1], event)?;
+        enqueue_at(&mut self.slots[slot as usize - 1], event)?;
         Ok(())
     }
 
@@ -187,21 +187,21 @@ fn is_left(slot: &Option<AnyBuffer>) -> bool
 }
 
 /// What a slot tells next, if there is one.
-fn look_at(alloc: Global, slot: &Option<AnyBuffer>) -> Result<Option<Taken>, NoMemory>
+fn look_at(slot: &Option<AnyBuffer>) -> Result<Option<Taken>, NoMemory>
     ensures head { IfOk result (λ t. t ≡ option_and_then any_head slot.now) }
     ensures fits { IfOk result (λ t. (p : Shape) (number kept : ℕ) → IsAt (IsSlotOf p number kept) slot.now → Fits p.fields t) }
 {
     match slot {
         None => Ok(None),
         Some(buffer) => {
-            let taken = Buffer::look(buffer, alloc)?;
+            let taken = Buffer::look(buffer)?;
             Ok(taken)
         }
     }
 }
 
 /// Takes the event of the next number into a slot, if there is one.
-fn enqueue_at(alloc: Global, slot: &mut Option<AnyBuffer>, event: &Stored) -> Result<(), NoMemory>
+fn enqueue_at(slot: &mut Option<AnyBuffer>, event: &Stored) -> Result<(), NoMemory>
     requires next { event.now.no ≡ last_at slot.old + 1 }
     requires few { event.now.no ≤ 2 ^ 60 }
     requires admits { ForSome slot.old (λ b. AnyAdmits b event.now.event) }
@@ -216,7 +216,7 @@ fn enqueue_at(alloc: Global, slot: &mut Option<AnyBuffer>, event: &Stored) -> Re
     match slot {
         None => Ok(()),
         Some(buffer) => {
-            Buffer::enqueue(buffer, alloc, event)?;
+            Buffer::enqueue(buffer, event)?;
             Ok(())
         }
     }

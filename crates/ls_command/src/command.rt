@@ -13,9 +13,10 @@ use std::alloc::Global;
 use std::marker::Model;
 
 /// What a slot in mode COMMAND still has to tell: the keys of the snapshot that are owed and its end, the last Clear, and the keys
-/// that were touched since their last turns, each with its row.
+/// that were touched since their last turns, each with its row. It keeps the allocator that `new` took, for all that its later calls take.
 #[derive(Drop)]
 pub struct CommandBuffer {
+    alloc: Global,
     key: usize,
     last: u64,
     owed: usize,
@@ -59,6 +60,7 @@ impl CommandBuffer {
         let rows = rows_from(alloc, first);
         let owed = rows.len();
         Ok(CommandBuffer {
+            alloc,
             key,
             last: base,
             owed,
@@ -109,7 +111,7 @@ impl CommandBuffer {
 
     /// Takes the event of the next number, with the row that it leaves its key. An update has a text in its key's cell. After
     /// `NoMemory` it is as before.
-    pub fn enqueue(&mut self, alloc: Global, event: &Stored) -> Result<(), NoMemory>
+    pub fn enqueue(&mut self, event: &Stored) -> Result<(), NoMemory>
         requires few { self.old.last < 2 ^ 60 }
         requires key { NamesKey self.old.key event.now.event }
         ensures ok { OnOk result (self.new ≡ command_after self.old event.now.event event.now.after) }
@@ -117,8 +119,8 @@ impl CommandBuffer {
     {
         match &event.event {
             Event::Update(cells) => {
-                let key = key_text(cells, self.key).copy(alloc)?;
-                let row = copied_row(alloc, &event.after)?;
+                let key = key_text(cells, self.key).copy(self.alloc)?;
+                let row = copied_row(self.alloc, &event.after)?;
                 self.touch(key, row)
             }
             Event::Clear => {
@@ -159,7 +161,7 @@ impl CommandBuffer {
 
     /// The next cut: where a Clear came, the snapshot's end, if it is owed, and then the Clear; else the snapshot's end, where none of
     /// its keys is owed, or the first key with its row. `None` where nothing is left.
-    pub fn look(&self, alloc: Global) -> Result<Option<Taken>, NoMemory>
+    pub fn look(&self) -> Result<Option<Taken>, NoMemory>
         ensures { IfOk result (λ t. t ≡ command_head self.now) }
     {
         if let Some(upto) = self.cleared {
@@ -171,7 +173,7 @@ impl CommandBuffer {
         if self.is_whole() {
             return Ok(Some(Taken::EndOfSnapshot));
         }
-        match self.queue.first(alloc)? {
+        match self.queue.first()? {
             None => Ok(None),
             Some(first) => Ok(Some(Taken::Key {
                 key: first.key,

@@ -6,6 +6,3 @@ mod queue;
 pub mod told;
 
 pub use command::CommandBuffer;
-
-#[cfg(test)]
-mod tests;

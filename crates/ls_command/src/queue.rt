@@ -24,9 +24,10 @@ pub struct Kept {
     touched: bool,
 }
 
-/// Keys that have a turn, in its order. Each stands once.
+/// Keys that have a turn, in its order. Each stands once. They keep the allocator that `new` took.
 #[derive(Drop)]
 pub struct Queue {
+    alloc: Global,
     entries: IndexMap<String, Kept>,
 }
 
@@ -46,6 +47,7 @@ impl Queue {
         ensures { result ≡ [] }
     {
         Queue {
+            alloc,
             entries: IndexMap::new(alloc),
         }
     }
@@ -67,14 +69,14 @@ impl Queue {
     }
 
     /// The first key with its row, copied; `None` where there is no key.
-    pub fn first(&self, alloc: Global) -> Result<Option<Queued>, NoMemory>
+    pub fn first(&self) -> Result<Option<Queued>, NoMemory>
         ensures { IfOk result (λ first. first ≡ slice_get self.now 0) }
     {
         match self.entries.first() {
             None => Ok(None),
             Some((key, kept)) => Ok(Some(Queued {
-                key: Text::from_string(String::from_str(alloc, key.as_str())?),
-                row: copied_row(alloc, &kept.row)?,
+                key: Text::from_string(String::from_str(self.alloc, key.as_str())?),
+                row: copied_row(self.alloc, &kept.row)?,
                 touched: kept.touched,
             })),
         }

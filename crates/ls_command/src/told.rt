@@ -3,7 +3,6 @@
 use crate::command::CommandBuffer;
 use ls_event::{Buffer, Stored, Taken};
 use ls_value::NoMemory;
-use std::alloc::Global;
 
 impl Buffer for CommandBuffer {
     ghost use Rattle.ls_command.specs.Command.{StandsCommand, AreWide, NamesKey, command_head, is_left};
@@ -33,13 +32,13 @@ impl Buffer for CommandBuffer {
 
     ghost longer = { command_longer };
 
-    fn enqueue(&mut self, alloc: Global, event: &Stored) -> Result<(), NoMemory> {
-        CommandBuffer::enqueue(self, alloc, event)?;
+    fn enqueue(&mut self, event: &Stored) -> Result<(), NoMemory> {
+        CommandBuffer::enqueue(self, event)?;
         Ok(())
     }
 
-    fn look(&self, alloc: Global) -> Result<Option<Taken>, NoMemory> {
-        CommandBuffer::look(self, alloc)
+    fn look(&self) -> Result<Option<Taken>, NoMemory> {
+        CommandBuffer::look(self)
     }
 
     fn pass(&mut self) {

@@ -12,7 +12,7 @@ use std::marker::Model;
 /// The most items of a config (this project's profile).
 const MOST_ITEMS: usize = 4096;
 
-/// Items with distinct names, in the order of their numbers: at most 4,096.
+/// Items with distinct names, in the order of their numbers: at most 4,096. They keep the allocator of `new`.
 #[derive(Drop)]
 pub struct Items {
     /// The items.
@@ -45,7 +45,7 @@ impl Items {
     }
 
     /// Adds an item behind the others, or answers `false` exactly where there are 4,096 or one of them has its name.
-    pub fn add(&mut self, alloc: Global, item: ItemDef) -> Result<bool, NoMemory>
+    pub fn add(&mut self, item: ItemDef) -> Result<bool, NoMemory>
         ensures told { IfOk result (λ added. added ≡ may_follow self.old item.name) }
         ensures new { IfOk result (λ added. self.new ≡ (if added then self.old ++ item ∷ [] else self.old)) }
         ensures err { OnErr result (self.new ≡ self.old) }
@@ -54,7 +54,7 @@ impl Items {
             return Ok(false);
         }
         self.defs.reserve(1)?;
-        self.names.add(alloc, item.name.as_bytes())?;
+        self.names.add(item.name.as_bytes())?;
         self.defs.push_reserved(item);
         Ok(true)
     }

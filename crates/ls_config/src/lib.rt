@@ -13,6 +13,3 @@ pub use items::Items;
 pub use ls_event::{ItemDef, Kind};
 pub use names::Declared;
 pub use reading::{ConfigRefused, is_skipped, read};
-
-#[cfg(test)]
-mod tests;

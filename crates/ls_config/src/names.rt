@@ -7,9 +7,10 @@ use ls_value::NoMemory;
 use std::alloc::{AllocError, AllocFailed, Global};
 use std::marker::Model;
 
-/// Names in the order in which they were declared, found by their bytes.
+/// Names in the order in which they were declared, found by their bytes. They keep the allocator of `new`.
 #[derive(Drop)]
 pub struct Declared {
+    alloc: Global,
     names: IndexSet<Vec<u8>>,
 }
 
@@ -27,6 +28,7 @@ impl Declared {
         ensures { result ≡ [] }
     {
         Declared {
+            alloc,
             names: IndexSet::new(alloc),
         }
     }
@@ -54,12 +56,12 @@ impl Declared {
     }
 
     /// Adds a name that isn't among them behind the others.
-    pub fn add(&mut self, alloc: Global, name: &[u8]) -> Result<(), NoMemory>
+    pub fn add(&mut self, name: &[u8]) -> Result<(), NoMemory>
         requires { place_of self.old name.now ≡ None }
         ensures ok { OnOk result (self.new ≡ self.old ++ name.now ∷ []) }
         ensures err { OnErr result (self.new ≡ self.old) }
     {
-        let name = copied(alloc, name)?;
+        let name = copied(self.alloc, name)?;
         self.names.insert(name)?;
         Ok(())
     }

@@ -151,7 +151,7 @@ fn add_item(
     let Some(item) = item_said(alloc, name, word, fields)? else {
         return Ok(false);
     };
-    if draft.items.add(alloc, item)? {
+    if draft.items.add(item)? {
         draft.begun = true;
         Ok(true)
     } else {

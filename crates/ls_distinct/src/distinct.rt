@@ -15,9 +15,10 @@ use std::alloc::Global;
 use std::marker::Model;
 
 /// What a slot in mode DISTINCT still has to tell: the rows of the snapshot that are owed and its end, the last Clear, and the
-/// last n updates since then, each with its own row.
+/// last n updates since then, each with its own row. It keeps the allocator that `new` took, for all that its later calls take.
 #[derive(Drop)]
 pub struct DistinctBuffer {
+    alloc: Global,
     size: usize,
     base: u64,
     last: u64,
@@ -64,6 +65,7 @@ impl DistinctBuffer {
         let all = rows_from(alloc, first);
         let given = all.len() - rows as usize;
         Ok(DistinctBuffer {
+            alloc,
             size: n as usize,
             base,
             last: base,
@@ -98,13 +100,13 @@ impl DistinctBuffer {
     }
 
     /// Takes the event of the next number. After `NoMemory` it is as before.
-    pub fn enqueue(&mut self, alloc: Global, event: &Event) -> Result<(), NoMemory>
+    pub fn enqueue(&mut self, event: &Event) -> Result<(), NoMemory>
         requires { self.old.last < 2 ^ 60 }
         ensures ok { OnOk result (self.new ≡ distinct_after self.old event.now) }
         ensures err { OnErr result (self.new ≡ self.old) }
     {
         match event {
-            Event::Update(cells) => self.keep(own_row(alloc, cells)?),
+            Event::Update(cells) => self.keep(own_row(self.alloc, cells)?),
             Event::Clear => {
                 self.last += 1;
                 self.cleared = Some(self.last);
@@ -128,7 +130,7 @@ impl DistinctBuffer {
 
     /// The next cut: where a Clear came, the snapshot's end, if it is owed, and then the Clear; else the next row of the snapshot,
     /// its end, or the own row of the first update that is kept. `None` where nothing is left.
-    pub fn look(&self, alloc: Global) -> Result<Option<Taken>, NoMemory>
+    pub fn look(&self) -> Result<Option<Taken>, NoMemory>
         ensures { IfOk result (λ t. t ≡ distinct_head self.now) }
     {
         if let Some(upto) = self.cleared {
@@ -139,7 +141,7 @@ impl DistinctBuffer {
         }
         if self.given < self.rows.len() {
             return Ok(Some(Taken::Row {
-                row: self.rows[self.given].copy(alloc)?,
+                row: self.rows[self.given].copy(self.alloc)?,
                 upto: self.base,
             }));
         }
@@ -149,7 +151,7 @@ impl DistinctBuffer {
         match self.kept.front() {
             None => Ok(None),
             Some(own) => Ok(Some(Taken::Row {
-                row: own.row.copy(alloc)?,
+                row: own.row.copy(self.alloc)?,
                 upto: own.no,
             })),
         }

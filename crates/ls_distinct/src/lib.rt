@@ -5,6 +5,3 @@ pub mod distinct;
 pub mod told;
 
 pub use distinct::DistinctBuffer;
-
-#[cfg(test)]
-mod tests;

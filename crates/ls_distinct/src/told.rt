@@ -3,7 +3,6 @@
 use crate::distinct::DistinctBuffer;
 use ls_event::{Buffer, Stored, Taken};
 use ls_value::NoMemory;
-use std::alloc::Global;
 
 impl Buffer for DistinctBuffer {
     ghost use Rattle.std.specs.Prelude.{length};
@@ -34,13 +33,13 @@ impl Buffer for DistinctBuffer {
 
     ghost longer = { distinct_longer };
 
-    fn enqueue(&mut self, alloc: Global, event: &Stored) -> Result<(), NoMemory> {
-        DistinctBuffer::enqueue(self, alloc, &event.event)?;
+    fn enqueue(&mut self, event: &Stored) -> Result<(), NoMemory> {
+        DistinctBuffer::enqueue(self, &event.event)?;
         Ok(())
     }
 
-    fn look(&self, alloc: Global) -> Result<Option<Taken>, NoMemory> {
-        DistinctBuffer::look(self, alloc)
+    fn look(&self) -> Result<Option<Taken>, NoMemory> {
+        DistinctBuffer::look(self)
     }
 
     fn pass(&mut self) {

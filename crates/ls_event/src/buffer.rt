@@ -9,9 +9,9 @@ ghost use Rattle.ls_event.specs.declared.event.Taken.{Taken};
 
 use crate::event::{Stored, Taken};
 use ls_value::NoMemory;
-use std::alloc::Global;
 
 /// The buffer of a slot: the events that were enqueued and are not told yet, as far as the slot's mode keeps them.
+/// It keeps the allocator that its constructor took, and its calls take none.
 pub trait Buffer {
     /// The slots and histories that it stands for.
     ghost stands: { Self → Slot → List Entry → Type 0 };
@@ -35,7 +35,7 @@ pub trait Buffer {
     ghost waits: { Self → ℕ };
 
     /// Takes the event of the next number. After `NoMemory` it is as before.
-    fn enqueue(&mut self, alloc: Global, event: &Stored) -> Result<(), NoMemory>
+    fn enqueue(&mut self, event: &Stored) -> Result<(), NoMemory>
         requires next { event.now.no ≡ last self.old + 1 }
         requires few { last self.old < 2 ^ 60 }
         requires event { admits self.old event.now.event }
@@ -46,7 +46,7 @@ pub trait Buffer {
         ensures err { OnErr result (self.new ≡ self.old) };
 
     /// The next cut by the slot's mode, where cuts that make no line aren't told apart; `None` where there is none.
-    fn look(&self, alloc: Global) -> Result<Option<Taken>, NoMemory>
+    fn look(&self) -> Result<Option<Taken>, NoMemory>
         ensures head { IfOk result (λ t. t ≡ head self.now) }
         ensures fits { IfOk result (λ t. (n : ℕ) → has_fields self.now n → Fits n t) };
 
@@ -83,12 +83,12 @@ pub trait Buffer {
 }
 
 /// The next cut, past which the buffer has moved; `None` where there is none. After `NoMemory` the buffer is as before.
-pub fn take_one<B: Buffer>(alloc: Global, buffer: &mut B) -> Result<Option<Taken>, NoMemory>
+pub fn take_one<B: Buffer>(buffer: &mut B) -> Result<Option<Taken>, NoMemory>
     ensures cut { IfOk result (λ t. (s : Slot) (h : List Entry) → B.stands buffer.old s h → t ≡ cut h s) }
     ensures after { IfOk result (λ t. (u : Taken) → t ≡ Some u → (s : Slot) (h : List Entry) → B.stands buffer.old s h → B.stands buffer.new (passed s u) h) }
     ensures err { OnErr result (buffer.new ≡ buffer.old) }
 {
-    let taken = buffer.look(alloc)?;
+    let taken = buffer.look()?;
     if taken.is_some() {
         buffer.pass();
     }

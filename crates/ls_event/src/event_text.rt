@@ -13,9 +13,6 @@ use ls_words::{first_piece, split_once};
 use percent_encoding::percent_decode;
 use std::alloc::{AllocError, Global};
 
-#[cfg(test)]
-mod tests;
-
 /// Why a text says no event. Pairs are counted from 1; of a text's pairs the first that has a cause is told, and of
 /// its causes the first in this order.
 #[derive(Clone, Copy, Debug, PartialEq, Eq)]

@@ -16,6 +16,3 @@ pub use item::{ItemDef, Kind};
 pub use orders::{CommandRefused, Order, command_of, own_row};
 pub use snapshot::{KeyedRow, KeyedRows, RowList, Snapshot};
 pub use updates::OwnRow;
-
-#[cfg(test)]
-mod tests;

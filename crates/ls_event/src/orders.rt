@@ -6,9 +6,6 @@ ghost use Rattle.ls_event.specs.Updates.{own_value, own_row};
 use ls_value::{Cell, Cells, NoMemory, Row, Text, Value, same_bytes};
 use std::alloc::Global;
 
-#[cfg(test)]
-mod tests;
-
 /// What an update of a COMMAND item does to its key (General Concepts, mode COMMAND).
 #[derive(Clone, Copy, Debug, PartialEq, Eq)]
 pub enum Order {

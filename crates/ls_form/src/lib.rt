@@ -8,6 +8,3 @@ pub mod milli;
 pub use form::{FormRefused, Pair, Params, pairs};
 pub use law::a_printed_decimal_is_read_as_itself;
 pub use milli::{print_milli, read_milli};
-
-#[cfg(test)]
-mod tests;

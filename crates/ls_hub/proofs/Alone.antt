@@ -7,9 +7,9 @@ use Rattle.ls_value.specs.Values.{text_eq, place_of}
 use Rattle.ls_value.proofs.Rows.{text_eq_true, text_eq_same}
 use Rattle.ls_request.specs.declared.request.Add.{Add}
 use Rattle.ls_config.specs.Items.{are_distinct}
-use Rattle.ls_spec.specs.Cutting.{Ask}
-use Rattle.ls_spec.specs.World.{World, Item, Session, is_used, all_live}
-use Rattle.ls_spec.specs.Acting.{placed, places_among, are_some_names, group_of, is_mode_of, is_allowed, shows_keys, ask_of, asked_more, schema_asked, subscriptions, unsent, asked_or_spent, asked_with, asked_of, add_asked}
+use Rattle.ls_world.specs.Cutting.{Ask}
+use Rattle.ls_world.specs.World.{World, Item, Session, is_used, all_live}
+use Rattle.ls_world.specs.Acting.{placed, places_among, are_some_names, group_of, is_mode_of, is_allowed, shows_keys, ask_of, asked_more, schema_asked, subscriptions, unsent, asked_or_spent, asked_with, asked_of, add_asked}
 use Rattle.ls_hub.specs.Adding.{is_group, places_asked, AskedAlone}
 
 -- two names that are both the same one are no distinct names

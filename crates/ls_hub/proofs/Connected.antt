@@ -12,12 +12,12 @@ use Rattle.ls_request.specs.declared.request.LinkKind.{LinkKind}
 use Rattle.ls_request.specs.declared.request.LinkKind.TheVariants as link
 use Rattle.ls_script.specs.declared.out.Out.{Out}
 use Rattle.ls_script.specs.declared.out.Out.TheVariants as out
-use Rattle.ls_spec.specs.World.{World, Item, Session, Connection, change}
-use Rattle.ls_spec.specs.Acting.{message_of}
-use Rattle.ls_spec.specs.Built.{lacks}
-use Rattle.ls_spec.specs.Steps.{Stepped, stays, on, session_of, name_of, link_of, session_named, with_session, is_opening, malformed, malformed_control, connects}
-use Rattle.ls_spec.specs.Lawful.{Each}
-use Rattle.ls_spec.proofs.Each.{each_at, each_append}
+use Rattle.ls_world.specs.World.{World, Item, Session, Connection, change}
+use Rattle.ls_world.specs.Acting.{message_of}
+use Rattle.ls_world.specs.Built.{lacks}
+use Rattle.ls_world.specs.Steps.{Stepped, stays, on, session_of, name_of, link_of, session_named, with_session, is_opening, malformed, malformed_control, connects}
+use Rattle.ls_world.specs.Lawful.{Each}
+use Rattle.ls_world.proofs.Each.{each_at, each_append}
 use Rattle.ls_hub.specs.Hub.{Leads, StandsAll, StandsParts, StandsHub, DidHub, IsOf, seen}
 use Rattle.ls_hub.specs.Requests.{session_at, name_at, link_at, is_first_session, malformed_line, malformed_control_line}
 use Rattle.ls_hub.specs.declared.hub.Hub.{Hub}

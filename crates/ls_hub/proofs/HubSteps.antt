@@ -7,11 +7,10 @@ use Rattle.ls_event.specs.Slots.{Slot}
 use Rattle.ls_request.specs.declared.request.LinkKind.TheVariants as link
 use Rattle.ls_script.specs.declared.out.Out.{Out}
 use Rattle.ls_script.specs.declared.out.Out.TheVariants as out
-use Rattle.ls_spec.specs.World.{World, Item, live_at}
-use Rattle.ls_spec.specs.Steps.{Stepped, Once, stays, behind, session_of, with_session, publishes, creates, created, connects, plain_create, repeated, enqueued_by, enqueue_once, turned, took_by, take_once}
-use Rattle.ls_spec.specs.Built.{none_yet}
-use Rattle.ls_spec.specs.Lawful.{LawfulRecords}
-use Rattle.ls_spec.proofs.Unmoved.{Unmoved, enqueues_unmoved, takes_unmoved, publishes_unmoved}
+use Rattle.ls_world.specs.World.{World, Item, live_at}
+use Rattle.ls_world.specs.Steps.{Stepped, Once, stays, behind, session_of, with_session, publishes, creates, created, connects, plain_create, repeated, enqueued_by, enqueue_once, turned, took_by, take_once}
+use Rattle.ls_world.specs.Built.{none_yet}
+use Rattle.ls_world.proofs.Unmoved.{Unmoved, enqueues_unmoved, takes_unmoved, publishes_unmoved}
 use Rattle.ls_session.specs.Session.{IsItem, StandsItem}
 use Rattle.ls_hub.specs.Hub.{StandsAll, StandsParts, StandsHub, DidHub, DidStep, IsOf, seen}
 use Rattle.ls_hub.specs.Requests.{session_at, name_at}
@@ -83,11 +82,11 @@ enqueues_did h h' w n sub place times outs some set connections did st =
     (did w n (name_at h.connections.items n) st.parts (named_at h w n st some))
 
 pub takes_did : (h h' : Hub) (w : World) (n times : ℕ) (called : List ℕ) (outs : List Out) → is_none (session_at h.connections.items n) ≡ false → called ≡ name_at h.connections.items n → h'.set ≡ h.set → h'.connections ≡ h.connections
-    → ((v : World) (connection : ℕ) → StandsParts h.item h.session v → LawfulRecords v → IsOf v connection called → DidStep (repeated (take_once connection) times v) outs h'.item h'.session)
-    → StandsHub h w → LawfulRecords w → DidHub (repeated (take_once n) times w) outs h'
-takes_did h h' w n times called outs some name set connections did st lawful =
+    → ((v : World) (connection : ℕ) → StandsParts h.item h.session v → IsOf v connection called → DidStep (repeated (take_once connection) times v) outs h'.item h'.session)
+    → StandsHub h w → DidHub (repeated (take_once n) times w) outs h'
+takes_did h h' w n times called outs some name set connections did st =
     did_step h h' w (repeated (take_once n) times w) outs st (takes_unmoved (Same w) (same_unmoved w) n times w (refl, refl)) set connections
-    (did w n st.parts lawful (subst (λ (t : List ℕ). IsOf w n t) (sym name) (named_at h w n st some)))
+    (did w n st.parts (subst (λ (t : List ℕ). IsOf w n t) (sym name) (named_at h w n st some)))
 
 -- another adapter set
 pub set_did : (h : Hub) (w : World) (name : List ℕ) → StandsHub h w → DidHub (stays (record w { set = name }) []) [] (record h { set = name })

@@ -8,11 +8,11 @@ use Rattle.ls_cell.specs.Table.{slot_at, set_slot}
 use Rattle.ls_cell.specs.declared.cell.Enqueued.{Enqueued}
 use Rattle.ls_cell.specs.declared.cell.Enqueued.TheVariants as enqueued_said
 use Rattle.ls_script.specs.declared.out.Out.TheVariants as out
-use Rattle.ls_spec.specs.Lines.{Line}
-use Rattle.ls_spec.specs.World.{World, Item, Live, Session, change, is_unsent, history_of, live_at, is_at, enqueue_slot, enqueue_at, enqueued_in, on_board, Told}
-use Rattle.ls_spec.specs.Steps.{Once, with_session, session_of, name_of, Answer, Gave, Idle, Spent, Turned, next_given, round_given, round_taken, round_asked, owed_given, turned, took_by, take_once, enqueued_by, enqueue_once}
-use Rattle.ls_spec.specs.Lawful.{Each, LawfulRecords, LawfulSession}
-use Rattle.ls_spec.proofs.Each.{each_at, each_map}
+use Rattle.ls_world.specs.Lines.{Line}
+use Rattle.ls_world.specs.World.{World, Item, Live, Session, change, is_unsent, history_of, live_at, is_at, enqueue_slot, enqueue_at, enqueued_in, on_board, Told}
+use Rattle.ls_world.specs.Steps.{Once, with_session, session_of, name_of, Answer, Gave, Idle, Spent, Turned, next_given, round_given, round_taken, round_asked, owed_given, turned, took_by, take_once, enqueued_by, enqueue_once}
+use Rattle.ls_world.specs.Lawful.{Each}
+use Rattle.ls_world.proofs.Each.{each_at, each_map}
 use Rattle.ls_subs.specs.Subscription.{Subscribed}
 use Rattle.ls_session.specs.Session.{slots_in, StandsItem, StandsRound, StandsSession, DidTurned}
 use Rattle.ls_hub.specs.Hub.{StandsAll, Leads, StandsParts, IsOf, DidOnce, out_given, is_line, is_slot_of, is_slot, DidEnqueue, out_enqueued, has_moved}
@@ -126,17 +126,16 @@ took w connection called s t given.Spent c c' k k' only name st same d a is =
     })
 
 pub turn_taken : (c c' : Option Kept) (k k' : Holding) (said : Said) (w : World) (connection : ℕ) (called : List ℕ)
-    → ((items : List Item) (s : Session) → StandsSession c k items s → LawfulSession items s → DidTurned (turned items s) said c' k' items)
-    → StandsParts c (Some k) w → LawfulRecords w → IsOf w connection called → DidOnce w (take_once connection w) (out_given called said) (is_line said) c' (Some k')
-turn_taken c c' k k' said w connection called did st lawful named =
+    → ((items : List Item) (s : Session) → StandsSession c k items s → DidTurned (turned items s) said c' k' items)
+    → StandsParts c (Some k) w → IsOf w connection called → DidOnce w (take_once connection w) (out_given called said) (is_line said) c' (Some k')
+turn_taken c c' k k' said w connection called did st named =
     let at : AtSession c (Some k) w connection called = at_session c (Some k) w connection called st named in
     let same : at.kept ≡ k = cc in
     let stands : StandsSession c k w.items at.session = subst (λ (q : Holding). StandsSession c q w.items at.session) same at.stands in
-    let sound : LawfulSession w.items at.session = (subst (λ (ss : List Session). Each (LawfulSession w.items) ss) at.only lawful.sessions).0 in
     let e : take_once connection w ≡ took_by w connection 0 (turned w.items at.session).session (turned w.items at.session).answer =
     with_only w connection at.session _ (λ n x. took_by w connection n (turned w.items x).session (turned w.items x).answer) at.only at.number in
     subst (λ (o : Once). DidOnce w o (out_given called said) (is_line said) c' (Some k')) (sym e)
-    (took w connection called at.session (turned w.items at.session) said c c' (Some k) k' at.only at.name st (spent_stays w.items at.session at.session.owed) (did w.items at.session stands sound) (turned w.items at.session).answer refl)
+    (took w connection called at.session (turned w.items at.session) said c c' (Some k) k' at.only at.name st (spent_stays w.items at.session at.session.owed) (did w.items at.session stands) (turned w.items at.session).answer refl)
 
 -- an enqueue
 

@@ -9,9 +9,9 @@ use Rattle.ls_event.specs.Publishes.{refusal}
 use Rattle.ls_event.specs.Slots.{Slot, is_far}
 use Rattle.ls_cell.specs.Cell.{Held, StandsCell, AnswersFirst, least_far as least_far_of}
 use Rattle.ls_script.specs.declared.out.Out.TheVariants as out
-use Rattle.ls_spec.specs.Lines.{Line}
-use Rattle.ls_spec.specs.World.{World, Item, Live, Session, change, least_far, least_of, far_numbers}
-use Rattle.ls_spec.specs.Steps.{stays, grown, is_whole, published_by, published, publishes, refused_out}
+use Rattle.ls_world.specs.Lines.{Line}
+use Rattle.ls_world.specs.World.{World, Item, Live, Session, change, least_far, least_of, far_numbers}
+use Rattle.ls_world.specs.Steps.{stays, grown, is_whole, published_by, published, publishes, refused_out}
 use Rattle.ls_subs.specs.Subscription.{Subscribed}
 use Rattle.ls_session.specs.Session.{slots_in, definition_of, IsItem, StandsItem, StandsRound}
 use Rattle.ls_hub.specs.Hub.{StandsAll, StandsParts, DidStep, outs_published}

@@ -2,11 +2,8 @@
 use Rattle.std.proofs.Common.{◌≡◌, ℕ, zero, suc, ◌+◌, ◌-◌, ◌<◌, ◌&&◌, List, [], ◌∷◌, ◌++◌, refl, sym, ◌∙◌, ap, arith, subst, cond, Bool, true, false, append-nil, slice_get, Option}
 use Rattle.ls_value.proofs.Rows.{and_left, and_right}
 use Rattle.ls_script.specs.declared.out.Out.{Out}
-use Rattle.ls_spec.specs.World.{World}
-use Rattle.ls_spec.specs.Steps.{Once, Stepped, repeated, stays, take_once}
-use Rattle.ls_script.specs.declared.step.Step.TheVariants as step
-use Rattle.ls_spec.specs.Lawful.{LawfulRecords}
-use Rattle.ls_spec.proofs.Laws.{lawful_does}
+use Rattle.ls_world.specs.World.{World}
+use Rattle.ls_world.specs.Steps.{Once, Stepped, repeated, stays}
 use Rattle.ls_hub.specs.Hub.{StandsParts, IsOf, DidOnce, DidStep}
 use Rattle.ls_hub.specs.Repeats.{nth_world, nth_outs, all_go_on, Going}
 use Rattle.ls_session.specs.declared.session.Item.{Item as Kept}
@@ -75,18 +72,3 @@ going_ended f w connection called n times outs one c c' k k' again low g d ends 
     ap (λ m. repeated f m w) {x = times} {y = n + suc (times - n - 1)} (omega (arith, low)) ∙ repeated_from f n (suc (times - n - 1)) w g.goes ∙ ap (behind_outs (nth_outs f n w)) last in
     subst (λ (s : Stepped). DidStep s (outs ++ one ∷ []) c' k') (sym e)
     (record { prints = ap (λ os. os ++ one ∷ []) g.prints ∙ ap (λ o. nth_outs f n w ++ o ∷ []) (sym d.out); stands = d.stands })
-
--- turns keep a world lawful
-once_after : (f : World → Once) (w : World) → (repeated f 1 w).after ≡ (f w).after
-once_after f w = by_more (f w).more
-  where
-    by_more : (b : Bool) → (cond b (behind_outs ((f w).out ∷ []) (stays (f w).after [])) (record { after = (f w).after; outs = (f w).out ∷ [] })).after ≡ (f w).after
-    by_more true = refl
-    by_more false = refl
-
-lawful_once : (connection : ℕ) (w : World) → LawfulRecords w → LawfulRecords (take_once connection w).after
-lawful_once connection w l = subst LawfulRecords (once_after (take_once connection) w) (lawful_does w (step.Take connection) 1 tt l)
-
-pub lawful_nth : (connection n : ℕ) (w : World) → LawfulRecords w → LawfulRecords (nth_world (take_once connection) n w)
-lawful_nth connection zero w l = l
-lawful_nth connection (suc n) w l = lawful_nth connection n (take_once connection w).after (lawful_once connection w l)

@@ -28,14 +28,14 @@ use Rattle.ls_script.specs.declared.out.Out.TheVariants as out
 use Rattle.ls_line.specs.declared.line.Line.TheVariants as line
 use Rattle.ls_line.specs.Lines.{text_of}
 use Rattle.ls_cell.specs.Cell.{StandsCell}
-use Rattle.ls_spec.specs.Lines.{Line, Begins, Configures, line_text, came}
-use Rattle.ls_spec.specs.Tables.{InSchema, place_in, shown_at}
-use Rattle.ls_spec.specs.Cutting.{schema_of}
-use Rattle.ls_spec.specs.World.{World, Item, Live, Session, Connection, change, opened, opening_lines, added, joined_slot, free_number, on_board, keys_in, keys_shown, is_filtered}
-use Rattle.ls_spec.specs.Acting.{snapshot_asked, ask_of, add_asked, is_set_of, create_code, places_among, group_of, asked_of, placed}
-use Rattle.ls_spec.specs.Steps.{Stepped, stays, with_session, with_found, session_named, with_link, created, creates, creates_by, adds_by, operates, controls, malformed, request_on, requests_by, requests}
-use Rattle.ls_spec.specs.Built.{are_built, is_built_if_read, none_yet, has_lines, lacks, is_accepted, is_built_op, is_built_control, is_built_request}
-use Rattle.ls_spec.specs.Lawful.{Each}
+use Rattle.ls_world.specs.Lines.{Line, Begins, Configures, line_text, came}
+use Rattle.ls_world.specs.Tables.{InSchema, place_in, shown_at}
+use Rattle.ls_world.specs.Cutting.{schema_of}
+use Rattle.ls_world.specs.World.{World, Item, Live, Session, Connection, change, opened, opening_lines, added, joined_slot, free_number, on_board, keys_in, keys_shown, is_filtered}
+use Rattle.ls_world.specs.Acting.{snapshot_asked, ask_of, add_asked, is_set_of, create_code, places_among, group_of, asked_of, placed}
+use Rattle.ls_world.specs.Steps.{Stepped, stays, with_session, with_found, session_named, with_link, created, creates, creates_by, adds_by, operates, controls, malformed, request_on, requests_by, requests}
+use Rattle.ls_world.specs.Built.{are_built, is_built_if_read, none_yet, has_lines, lacks, is_accepted, is_built_op, is_built_control, is_built_request}
+use Rattle.ls_world.specs.Lawful.{Each}
 use Rattle.ls_subs.specs.declared.schema.KeyPlaces.{KeyPlaces}
 use Rattle.ls_subs.specs.Subscription.{Subscribed, StandsSubscribed, keys_of, GivenRow, HoldsKeys}
 use Rattle.ls_session.specs.Session.{texts_behind, slots_in, definition_of, IsItem, StandsItem, StandsRound, StandsSession}

@@ -3,9 +3,9 @@ use Rattle.std.specs.Prelude.{◌≡◌, ℕ, List, [], ◌∷◌, Bool, false, 
 use Rattle.ls_value.specs.Values.{text_eq}
 use Rattle.ls_event.specs.declared.item.ItemDef.{ItemDef}
 use Rattle.ls_request.specs.declared.request.Add.{Add}
-use Rattle.ls_spec.specs.Cutting.{Ask}
-use Rattle.ls_spec.specs.Acting.{places_among, are_some_names, is_mode_of, shows_keys, ask_of}
-use Rattle.ls_spec.specs.Built.{is_accepted}
+use Rattle.ls_world.specs.Cutting.{Ask}
+use Rattle.ls_world.specs.Acting.{places_among, are_some_names, is_mode_of, shows_keys, ask_of}
+use Rattle.ls_world.specs.Built.{is_accepted}
 
 -- a group is the item of this name alone
 abbrev pub is_group : List ℕ → List (List ℕ) → Bool

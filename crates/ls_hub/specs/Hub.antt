@@ -9,13 +9,13 @@ use Rattle.ls_script.specs.declared.out.Out.{Out}
 use Rattle.ls_script.specs.declared.out.Out.TheVariants as out
 use Rattle.ls_script.specs.declared.step.Step.{Step}
 use Rattle.ls_script.specs.declared.step.Step.TheVariants as step
-use Rattle.ls_spec.specs.World.{World, Item, Session, Connection, history_of, change, on_board, added, free_number}
-use Rattle.ls_spec.specs.Cutting.{Ask}
-use Rattle.ls_spec.specs.Acting.{add_asked}
-use Rattle.ls_spec.specs.Built.{has_lines, is_accepted}
+use Rattle.ls_world.specs.World.{World, Item, Session, Connection, history_of, change, on_board, added, free_number}
+use Rattle.ls_world.specs.Cutting.{Ask}
+use Rattle.ls_world.specs.Acting.{add_asked}
+use Rattle.ls_world.specs.Built.{has_lines, is_accepted}
 use Rattle.ls_request.specs.declared.request.Add.{Add}
-use Rattle.ls_spec.specs.Steps.{Once, Stepped, refused_out}
-use Rattle.ls_spec.specs.Lawful.{Each}
+use Rattle.ls_world.specs.Steps.{Once, Stepped, refused_out}
+use Rattle.ls_world.specs.Lawful.{Each}
 use Rattle.ls_subs.specs.Subscription.{Subscribed}
 use Rattle.ls_session.specs.Session.{StandsItem, StandsSession}
 use Rattle.ls_session.specs.declared.session.Item.{Item as Kept}

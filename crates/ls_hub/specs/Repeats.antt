@@ -1,8 +1,8 @@
 -- Like steps, one after another.
 use Rattle.std.specs.Prelude.{◌≡◌, ℕ, zero, suc, List, [], ◌∷◌, Bool, true, ◌&&◌, Option}
 use Rattle.ls_script.specs.declared.out.Out.{Out}
-use Rattle.ls_spec.specs.World.{World}
-use Rattle.ls_spec.specs.Steps.{Once}
+use Rattle.ls_world.specs.World.{World}
+use Rattle.ls_world.specs.Steps.{Once}
 use Rattle.ls_hub.specs.Hub.{StandsParts, IsOf}
 use Rattle.ls_session.specs.declared.session.Item.{Item as Kept}
 use Rattle.ls_session.specs.declared.session.Session.{Session as Holding}

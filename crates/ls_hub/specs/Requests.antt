@@ -13,11 +13,11 @@ use Rattle.ls_request.specs.declared.request.LinkKind.TheVariants as link
 use Rattle.ls_cell.specs.Cell.{StandsCell}
 use Rattle.ls_line.specs.declared.line.Line.TheVariants as line
 use Rattle.ls_line.specs.Lines.{text_of}
-use Rattle.ls_spec.specs.Acting.{message_of}
-use Rattle.ls_spec.specs.Steps.{is_opening}
-use Rattle.ls_spec.specs.Lines.{line_text, Begins, Configures}
-use Rattle.ls_spec.specs.Tables.{InSchema, place_in}
-use Rattle.ls_spec.specs.World.{is_filtered}
+use Rattle.ls_world.specs.Acting.{message_of}
+use Rattle.ls_world.specs.Steps.{is_opening}
+use Rattle.ls_world.specs.Lines.{line_text, Begins, Configures}
+use Rattle.ls_world.specs.Tables.{InSchema, place_in}
+use Rattle.ls_world.specs.World.{is_filtered}
 use Rattle.ls_subs.specs.Subscription.{keys_of}
 use Rattle.ls_session.specs.Session.{definition_of}
 use Rattle.ls_hub.specs.Adding.{places_asked}

@@ -3,7 +3,7 @@ ghost use Rattle.std.specs.Prelude.{◌≡◌, ◌≤◌, IfOk, IfSome, Option, 
 ghost use Rattle.ls_event.specs.Joining.{buffer_size, asked_or};
 ghost use Rattle.ls_value.specs.Values.{place_of};
 ghost use Rattle.ls_config.specs.Items.{are_distinct};
-ghost use Rattle.ls_spec.specs.Acting.{places_among, are_some_names, is_mode_of, shows_keys};
+ghost use Rattle.ls_world.specs.Acting.{places_among, are_some_names, is_mode_of, shows_keys};
 ghost use Rattle.ls_hub.specs.Adding.{places_asked, is_group};
 
 use ls_event::{Kind, Mode};

@@ -3,8 +3,8 @@ ghost use Rattle.std.specs.Prelude.{◌≡◌, ◌++◌, codes, IfOk};
 ghost use Rattle.std.specs.Fmt.{decimal};
 ghost use Rattle.ls_line.specs.declared.line.Line.TheVariants as line;
 ghost use Rattle.ls_line.specs.Lines.{text_of};
-ghost use Rattle.ls_spec.specs.World.{opening_lines};
-ghost use Rattle.ls_spec.specs.Acting.{message_of};
+ghost use Rattle.ls_world.specs.World.{opening_lines};
+ghost use Rattle.ls_world.specs.Acting.{message_of};
 
 use ls_line::{Line, text};
 use ls_subs::lines::plain;
@@ -96,6 +96,3 @@ fn malformed(alloc: Global) -> Result<Text, NoMemory>
 {
     plain(alloc, "Malformed request")
 }
-
-#[cfg(test)]
-mod tests;

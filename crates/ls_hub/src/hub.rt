@@ -2,9 +2,8 @@
 ghost use Rattle.std.specs.Prelude.{◌≡◌, ◌<◌, ◌≤◌, ℕ, List, [], ◌∷◌, Some, None, Ok, Err, IfOk, OnOk, Option, Result, true, false};
 ghost use Rattle.ls_event.specs.Shapes.{shape_of, IsShape};
 ghost use Rattle.ls_event.specs.Slots.{Slot};
-ghost use Rattle.ls_spec.specs.World.{World, Item as AnItem};
-ghost use Rattle.ls_spec.specs.Steps.{take_once as one_turn, enqueue_once as one_enqueue, repeated, publishes, is_whole as is_whole_event};
-ghost use Rattle.ls_spec.specs.Lawful.{LawfulRecords};
+ghost use Rattle.ls_world.specs.World.{World, Item as AnItem};
+ghost use Rattle.ls_world.specs.Steps.{take_once as one_turn, enqueue_once as one_enqueue, repeated, publishes, is_whole as is_whole_event};
 ghost use Rattle.ls_session.specs.declared.session.Session.{Session as Holding};
 ghost use Rattle.ls_session.specs.Session.{StandsItem, IsItem};
 ghost use Rattle.ls_hub.specs.Hub.{StandsParts, IsOf, DidOnce, DidStep, out_given, is_line, is_slot, DidEnqueue, out_enqueued, has_moved, outs_published};
@@ -46,9 +45,11 @@ pub struct Connection {
     pub session: Option<u32>,
 }
 
-/// The adapter set's name, the connections in the order in which they came, the item and the session.
+/// The adapter set's name, the connections in the order in which they came, the item and the session. It keeps the allocator that
+/// its constructor took.
 #[derive(Drop)]
 pub struct Hub {
+    pub(crate) alloc: Global,
     pub set: Text,
     pub connections: Vec<Connection>,
     pub item: Option<Item>,
@@ -70,7 +71,7 @@ pub fn takes(
     name: &Text,
     times: u32,
 ) -> Result<Vec<Out>, NoMemory>
-    ensures did { IfOk result (λ outs. (w : World) (connection : ℕ) → StandsParts item.old session.old w → LawfulRecords w → IsOf w connection name.now
+    ensures did { IfOk result (λ outs. (w : World) (connection : ℕ) → StandsParts item.old session.old w → IsOf w connection name.now
         → DidStep (repeated (one_turn connection) times w) outs.items item.new session.new) }
 {
     let mut outs = Vec::new(alloc);
@@ -91,7 +92,7 @@ fn take_once(
     session: &mut Option<Session>,
     name: &Text,
 ) -> Result<Once, NoMemory>
-    ensures did { IfOk result (λ once. (w : World) (connection : ℕ) → StandsParts item.old session.old w → LawfulRecords w → IsOf w connection name.now
+    ensures did { IfOk result (λ once. (w : World) (connection : ℕ) → StandsParts item.old session.old w → IsOf w connection name.now
         → DidOnce w (one_turn connection w) once.out once.more item.new session.new) }
 {
     match session {
@@ -100,7 +101,7 @@ fn take_once(
             more: false,
         }),
         Some(session) => {
-            let given = turn(alloc, item, session)?;
+            let given = turn(item, session)?;
             let once = once_given(alloc, name, given)?;
             Ok(once)
         }
@@ -171,7 +172,7 @@ fn enqueue_once(
             more: false,
         });
     }
-    let answer = enqueue_slot(alloc, item)?;
+    let answer = enqueue_slot(item)?;
     Ok(once_enqueued(answer))
 }
 
@@ -189,7 +190,7 @@ fn has_slot(session: &Option<Session>, sub: u64, place: u64) -> bool
 }
 
 /// An enqueue into the item's slot, if there is one.
-fn enqueue_slot(alloc: Global, item: &mut Option<Item>) -> Result<Option<Enqueued>, NoMemory>
+fn enqueue_slot(item: &mut Option<Item>) -> Result<Option<Enqueued>, NoMemory>
     ensures did { IfOk result (λ answer. (items : List AnItem) (s : Slot) → StandsItem item.old (Some s ∷ []) items → DidEnqueue s items answer item.new) }
 {
     match item {
@@ -198,7 +199,7 @@ fn enqueue_slot(alloc: Global, item: &mut Option<Item>) -> Result<Option<Enqueue
             if !item.cell.has(SLOT) {
                 return Ok(None);
             }
-            let answer = item.cell.enqueue(alloc, SLOT)?;
+            let answer = item.cell.enqueue(SLOT)?;
             Ok(Some(answer))
         }
     }
@@ -247,7 +248,7 @@ pub fn publish(
             if !is_whole(item.cell.fields(), &event) {
                 return Ok(Vec::new(alloc));
             }
-            let answer = item.cell.publish(alloc, adapter, seq, event);
+            let answer = item.cell.publish(adapter, seq, event);
             let outs = outs_published(alloc, answer)?;
             Ok(outs)
         }

@@ -6,11 +6,11 @@ ghost use Rattle.ls_request.specs.Ranges.{AddFits, OpFits, RequestFits};
 ghost use Rattle.ls_script.specs.declared.out.Out.TheVariants as out;
 ghost use Rattle.ls_cell.specs.Cell.{StandsCell};
 ghost use Rattle.ls_cell.specs.Table.{live_slots};
-ghost use Rattle.ls_spec.specs.Tables.{place_in};
-ghost use Rattle.ls_spec.specs.World.{World, change, is_filtered};
-ghost use Rattle.ls_spec.specs.Acting.{is_set_of, is_mode_of};
-ghost use Rattle.ls_spec.specs.Steps.{requests, malformed, acts, creates, created, controls, connects, is_opening};
-ghost use Rattle.ls_spec.specs.Built.{are_built, is_built_request, is_built_control, lacks};
+ghost use Rattle.ls_world.specs.Tables.{place_in};
+ghost use Rattle.ls_world.specs.World.{World, change, is_filtered};
+ghost use Rattle.ls_world.specs.Acting.{is_set_of, is_mode_of};
+ghost use Rattle.ls_world.specs.Steps.{requests, malformed, acts, creates, created, controls, connects, is_opening};
+ghost use Rattle.ls_world.specs.Built.{are_built, is_built_request, is_built_control, lacks};
 ghost use Rattle.ls_hub.specs.Hub.{StandsHub, StandsParts, DidHub, DidSubscribe, seen};
 ghost use Rattle.ls_hub.specs.Requests.{session_at, name_at, link_at, is_first_session, keys_shown_in, malformed_line, Joined, Adds};
 ghost use Rattle.ls_subs.specs.Subscription.{keys_of};
@@ -35,7 +35,6 @@ impl Hub {
     /// A request by its name and its parameters, which are none where they are no form: it is done, or refused in reading.
     pub fn request(
         &mut self,
-        alloc: Global,
         connection: u32,
         name: &[u8],
         params: Option<Params>,
@@ -44,13 +43,13 @@ impl Hub {
         ensures refused { IsErrOf result StepRefused.NotBuilt → (w : World) → StandsHub self.old w → are_built w connection name.now params ≡ false }
     {
         let Some(params) = params else {
-            let outs = self.malformed(alloc, connection, name, None)?;
+            let outs = self.malformed(connection, name, None)?;
             return Ok(outs);
         };
-        match read_pairs(alloc, self.link_of(connection), name, &params) {
-            Ok(request) => self.act(alloc, connection, &params, request),
+        match read_pairs(self.alloc, self.link_of(connection), name, &params) {
+            Ok(request) => self.act(connection, &params, request),
             Err(RequestRefused::Malformed { req }) => {
-                let outs = self.malformed(alloc, connection, name, req)?;
+                let outs = self.malformed(connection, name, req)?;
                 Ok(outs)
             }
             Err(RequestRefused::NoMemory) => Err(StepRefused::NoMemory),
@@ -60,7 +59,6 @@ impl Hub {
     /// A request that was read.
     fn act(
         &mut self,
-        alloc: Global,
         connection: u32,
         params: &Params,
         request: Request,
@@ -70,12 +68,12 @@ impl Hub {
         ensures refused { IsErrOf result StepRefused.NotBuilt → (w : World) → StandsHub self.old w → is_built_request w connection params.now request ≡ false }
     {
         match request {
-            Request::Create(create) => self.create(alloc, connection, params, create),
+            Request::Create(create) => self.create(connection, params, create),
             Request::Bind(_) => Err(StepRefused::NotBuilt),
-            Request::Control(control) => self.control(alloc, connection, params, control),
+            Request::Control(control) => self.control(connection, params, control),
             Request::Wsok => {
-                let text = wsok_text(alloc)?;
-                let outs = self.line(alloc, connection, text)?;
+                let text = wsok_text(self.alloc)?;
+                let outs = self.line(connection, text)?;
                 Ok(outs)
             }
         }
@@ -84,7 +82,6 @@ impl Hub {
     /// A new session, which is the connection's.
     fn create(
         &mut self,
-        alloc: Global,
         connection: u32,
         params: &Params,
         create: Create,
@@ -98,18 +95,18 @@ impl Hub {
         {
             return Err(StepRefused::NotBuilt);
         }
-        self.open(alloc, connection as usize, create.keepalive)?;
-        Ok(Vec::new(alloc))
+        self.open(connection as usize, create.keepalive)?;
+        Ok(Vec::new(self.alloc))
     }
 
     /// Opens the session, which is the connection's.
-    pub fn open(&mut self, alloc: Global, connection: usize, keepalive: u32) -> Result<(), NoMemory>
+    pub fn open(&mut self, connection: usize, keepalive: u32) -> Result<(), NoMemory>
         ensures { OnOk result ((w : World) → StandsHub self.old w → w.sessions ≡ [] → StandsHub self.new (created w connection keepalive)) }
     {
-        let owed = opening(alloc, 1, keepalive)?;
+        let owed = opening(self.alloc, 1, keepalive)?;
         self.session = Some(Session {
             owed: VecDeque::from(owed),
-            unsent: VecDeque::new(alloc),
+            unsent: VecDeque::new(self.alloc),
             last: 0,
             subscription: None,
         });
@@ -130,7 +127,6 @@ impl Hub {
     /// A control request: the first subscription is added.
     fn control(
         &mut self,
-        alloc: Global,
         connection: u32,
         params: &Params,
         control: Control,
@@ -149,11 +145,11 @@ impl Hub {
         if !self.is_named(connection, session) {
             return Err(StepRefused::NotBuilt);
         }
-        if !subscribe(alloc, &mut self.item, &mut self.session, &add)? {
+        if !subscribe(self.alloc, &mut self.item, &mut self.session, &add)? {
             return Err(StepRefused::NotBuilt);
         }
-        let text = accepted_text(alloc, req)?;
-        let outs = self.line(alloc, connection, text)?;
+        let text = accepted_text(self.alloc, req)?;
+        let outs = self.line(connection, text)?;
         Ok(outs)
     }
 
@@ -170,37 +166,36 @@ impl Hub {
     /// The answer to a malformed request, by its name, and by its own name where that was read.
     fn malformed(
         &self,
-        alloc: Global,
         connection: u32,
         name: &[u8],
         req: Option<Text>,
     ) -> Result<Vec<Out>, NoMemory>
         ensures { IfOk result (λ outs. (w : World) → StandsHub self.now w → DidHub (malformed w connection name.now req) outs.items self.now) }
     {
-        let text = malformed_line(alloc, name, req)?;
-        let outs = self.line(alloc, connection, text)?;
+        let text = malformed_line(self.alloc, name, req)?;
+        let outs = self.line(connection, text)?;
         Ok(outs)
     }
 
     /// A line on a connection.
-    fn line(&self, alloc: Global, connection: u32, text: Bytes) -> Result<Vec<Out>, NoMemory>
+    fn line(&self, connection: u32, text: Bytes) -> Result<Vec<Out>, NoMemory>
         ensures { IfOk result (λ outs. outs.items ≡ out.Line (name_at self.now.connections.items connection) text ∷ []) }
     {
-        let mut outs = Vec::new(alloc);
+        let mut outs = Vec::new(self.alloc);
         outs.push(Out::Line {
-            connection: self.name_of(alloc, connection)?,
+            connection: self.name_of(connection)?,
             text,
         })?;
         Ok(outs)
     }
 
     /// The name of a connection; it is empty where there is none.
-    pub fn name_of(&self, alloc: Global, connection: u32) -> Result<Text, NoMemory>
+    pub fn name_of(&self, connection: u32) -> Result<Text, NoMemory>
         ensures { IfOk result (λ name. name ≡ name_at self.now.connections.items connection) }
     {
         match self.connections.get(connection as usize) {
-            None => Ok(Text::from_string(String::new(alloc))),
-            Some(connection) => connection.name.copy(alloc),
+            None => Ok(Text::from_string(String::new(self.alloc))),
+            Some(connection) => connection.name.copy(self.alloc),
         }
     }
 
@@ -340,7 +335,7 @@ fn join(
     session.unsent.push_back(begins)?;
     session.unsent.push_back(configures)?;
     let size = buffer_size(add.mode, add.size);
-    let _joined = item.cell.join(alloc, add.mode, size, add.snapshot)?;
+    let _joined = item.cell.join(add.mode, size, add.snapshot)?;
     session.last = 2;
     session.subscription = Some(Subscription::new(alloc, add.sub, places, keys));
     Ok(())

@@ -2,11 +2,10 @@
 ghost use Rattle.std.specs.Prelude.{◌≡◌, ◌++◌, ◌<◌, [], ◌∷◌, IfOk, IsErrOf, true, false, length};
 ghost use Rattle.ls_form.specs.Forms.{form_of};
 ghost use Rattle.ls_event.specs.Shapes.{IsShape, shape_of};
-ghost use Rattle.ls_spec.specs.World.{World, empty};
-ghost use Rattle.ls_spec.specs.Steps.{does, stays, creates, connects, plain_create, repeated, enqueue_once, take_once};
-ghost use Rattle.ls_spec.specs.Lawful.{LawfulRecords};
-ghost use Rattle.ls_spec.specs.Built.{is_built, is_ws, none_yet};
-ghost use Rattle.ls_spec.specs.Ranges.{StepInRange};
+ghost use Rattle.ls_world.specs.World.{World, empty};
+ghost use Rattle.ls_world.specs.Steps.{does, stays, creates, connects, plain_create, repeated, enqueue_once, take_once};
+ghost use Rattle.ls_world.specs.Built.{is_built, is_ws, none_yet};
+ghost use Rattle.ls_world.specs.Ranges.{StepInRange};
 ghost use Rattle.ls_hub.specs.Hub.{StandsHub, DidHub, HasAdapter};
 
 use crate::hub::{Hub, StepRefused, declare, enqueues, publish, takes};
@@ -24,6 +23,7 @@ impl Hub {
     {
         let set = String::from_str(alloc, "DEFAULT")?;
         Ok(Hub {
+            alloc,
             set: Text::from_string(set),
             connections: Vec::new(alloc),
             item: None,
@@ -33,42 +33,33 @@ impl Hub {
 
     /// Does a step of the script's line of this number, at most so often, and gives what it prints. After an error nothing is
     /// known of the hub.
-    pub fn step(
-        &mut self,
-        alloc: Global,
-        line: u64,
-        step: Step,
-        times: u32,
-    ) -> Result<Vec<Out>, StepRefused>
+    pub fn step(&mut self, line: u64, step: Step, times: u32) -> Result<Vec<Out>, StepRefused>
         requires range { StepInRange step }
         requires adapter { HasAdapter step }
         requires times { 0 < times }
-        ensures ok { IfOk result (λ outs. (w : World) → StandsHub self.old w → LawfulRecords w → line ≡ w.line → (is_built w step ≡ true) × DidHub (does w step times) outs.items self.new) }
+        ensures ok { IfOk result (λ outs. (w : World) → StandsHub self.old w → line ≡ w.line → (is_built w step ≡ true) × DidHub (does w step times) outs.items self.new) }
         ensures refused { IsErrOf result StepRefused.NotBuilt → (w : World) → StandsHub self.old w → line ≡ w.line → is_built w step ≡ false }
     {
         match step {
             Step::Set { name } => {
                 self.set = name;
-                Ok(Vec::new(alloc))
+                Ok(Vec::new(self.alloc))
             }
-            Step::Item { name, kind, fields } => self.declare(
-                alloc,
-                ItemDef { name, kind, fields },
-            ),
+            Step::Item { name, kind, fields } => self.declare(ItemDef { name, kind, fields }),
             Step::Tick { ms: _ } | Step::Lose { connection: _ } => Err(StepRefused::NotBuilt),
-            Step::Conn { name, link } => self.connect_over(alloc, name, link),
-            Step::Open { name } => self.connect_and_open(alloc, name),
+            Step::Conn { name, link } => self.connect_over(name, link),
+            Step::Open { name } => self.connect_and_open(name),
             Step::Add { connection, words } => {
-                let params = add_params(alloc, line, &words)?;
-                self.request(alloc, connection, b"control", params)
+                let params = add_params(self.alloc, line, &words)?;
+                self.request(connection, b"control", params)
             }
             Step::Request {
                 connection,
                 name,
                 parameters,
             } => {
-                let params = form(alloc, parameters.as_slice())?;
-                self.request(alloc, connection, name.as_bytes(), params)
+                let params = form(self.alloc, parameters.as_slice())?;
+                self.request(connection, name.as_bytes(), params)
             }
             Step::Publish {
                 adapter,
@@ -77,7 +68,7 @@ impl Hub {
                 cells,
             } => {
                 let outs = publish(
-                    alloc,
+                    self.alloc,
                     &mut self.item,
                     item,
                     adapter,
@@ -87,7 +78,7 @@ impl Hub {
                 Ok(outs)
             }
             Step::Clear { adapter, seq, item } => {
-                let outs = publish(alloc, &mut self.item, item, adapter, seq, Event::Clear)?;
+                let outs = publish(self.alloc, &mut self.item, item, adapter, seq, Event::Clear)?;
                 Ok(outs)
             }
             Step::Enqueue {
@@ -95,18 +86,18 @@ impl Hub {
                 sub,
                 place,
             } => {
-                let outs = self.enqueue(alloc, connection, sub, place, times)?;
+                let outs = self.enqueue(connection, sub, place, times)?;
                 Ok(outs)
             }
             Step::Take { connection } => {
-                let outs = self.take(alloc, connection, times)?;
+                let outs = self.take(connection, times)?;
                 Ok(outs)
             }
         }
     }
 
     /// The first item.
-    fn declare(&mut self, alloc: Global, definition: ItemDef) -> Result<Vec<Out>, StepRefused>
+    fn declare(&mut self, definition: ItemDef) -> Result<Vec<Out>, StepRefused>
         requires { IsShape (shape_of definition) }
         ensures ok { IfOk result (λ outs. (w : World) → StandsHub self.old w → (none_yet w.items ≡ true) × DidHub (stays (record w { items = w.items ++ record { definition = definition; history = [] } ∷ [] }) []) outs.items self.new) }
         ensures refused { IsErrOf result StepRefused.NotBuilt → (w : World) → StandsHub self.old w → none_yet w.items ≡ false }
@@ -114,17 +105,12 @@ impl Hub {
         if self.item.is_some() {
             return Err(StepRefused::NotBuilt);
         }
-        self.item = Some(declare(alloc, definition)?);
-        Ok(Vec::new(alloc))
+        self.item = Some(declare(self.alloc, definition)?);
+        Ok(Vec::new(self.alloc))
     }
 
     /// A new connection over WebSocket.
-    fn connect_over(
-        &mut self,
-        alloc: Global,
-        name: Text,
-        link: LinkKind,
-    ) -> Result<Vec<Out>, StepRefused>
+    fn connect_over(&mut self, name: Text, link: LinkKind) -> Result<Vec<Out>, StepRefused>
         ensures ok { IfOk result (λ outs. (w : World) → StandsHub self.old w → (is_ws link ≡ true) × DidHub (stays (connects w name link) []) outs.items self.new) }
         ensures refused { IsErrOf result StepRefused.NotBuilt → is_ws link ≡ false }
     {
@@ -132,13 +118,13 @@ impl Hub {
             LinkKind::Http => Err(StepRefused::NotBuilt),
             LinkKind::Ws => {
                 self.connect(name, link)?;
-                Ok(Vec::new(alloc))
+                Ok(Vec::new(self.alloc))
             }
         }
     }
 
     /// A new connection over WebSocket with the session.
-    fn connect_and_open(&mut self, alloc: Global, name: Text) -> Result<Vec<Out>, StepRefused>
+    fn connect_and_open(&mut self, name: Text) -> Result<Vec<Out>, StepRefused>
         ensures ok { IfOk result (λ outs. (w : World) → StandsHub self.old w → (none_yet w.sessions ≡ true) × DidHub (creates (connects w name LinkKind.Ws) (length w.connections) plain_create) outs.items self.new) }
         ensures refused { IsErrOf result StepRefused.NotBuilt → (w : World) → StandsHub self.old w → none_yet w.sessions ≡ false }
     {
@@ -147,14 +133,13 @@ impl Hub {
         }
         let connection = self.connections.len();
         self.connect(name, LinkKind::Ws)?;
-        self.open(alloc, connection, 5000)?;
-        Ok(Vec::new(alloc))
+        self.open(connection, 5000)?;
+        Ok(Vec::new(self.alloc))
     }
 
     /// Enqueues on a connection.
     fn enqueue(
         &mut self,
-        alloc: Global,
         connection: u32,
         sub: u64,
         place: u64,
@@ -164,21 +149,21 @@ impl Hub {
         ensures { IfOk result (λ outs. (w : World) → StandsHub self.old w → DidHub (repeated (enqueue_once connection sub place) times w) outs.items self.new) }
     {
         if self.session_of(connection).is_none() {
-            return only(alloc, Out::NoSlot);
+            return only(self.alloc, Out::NoSlot);
         }
-        enqueues(alloc, &mut self.item, &self.session, sub, place, times)
+        enqueues(self.alloc, &mut self.item, &self.session, sub, place, times)
     }
 
     /// Turns on a connection.
-    fn take(&mut self, alloc: Global, connection: u32, times: u32) -> Result<Vec<Out>, NoMemory>
+    fn take(&mut self, connection: u32, times: u32) -> Result<Vec<Out>, NoMemory>
         requires { 0 < times }
-        ensures { IfOk result (λ outs. (w : World) → StandsHub self.old w → LawfulRecords w → DidHub (repeated (take_once connection) times w) outs.items self.new) }
+        ensures { IfOk result (λ outs. (w : World) → StandsHub self.old w → DidHub (repeated (take_once connection) times w) outs.items self.new) }
     {
         if self.session_of(connection).is_none() {
-            return only(alloc, Out::NoSession);
+            return only(self.alloc, Out::NoSession);
         }
-        let name = self.name_of(alloc, connection)?;
-        takes(alloc, &mut self.item, &mut self.session, &name, times)
+        let name = self.name_of(connection)?;
+        takes(self.alloc, &mut self.item, &mut self.session, &name, times)
     }
 }
 

@@ -24,6 +24,7 @@ use std::marker::Model;
 /// is null.
 #[derive(Drop)]
 pub struct CommandState {
+    alloc: Global,
     fields: usize,
     key: usize,
     command: usize,
@@ -54,8 +55,8 @@ enum Change {
 }
 
 impl CommandState {
-    /// The state of an item of so many fields without events: no keys. The key and the command stand at these places. It takes memory
-    /// as keys come.
+    /// The state of an item of so many fields without events: no keys. The key and the command stand at these places. It
+    /// keeps the allocator, by which its later calls take memory.
     pub fn new(
         alloc: Global,
         fields: usize,
@@ -68,6 +69,7 @@ impl CommandState {
     {
         let rows = Vec::new(alloc);
         Ok(CommandState {
+            alloc,
             fields,
             key,
             command,
@@ -113,7 +115,7 @@ impl CommandState {
     /// Adds an event, and answers the key's row after it, where it has one. It is refused, in this order, where an update has no text at
     /// the key, where it has no order at the command, where its texts or the row that it makes weigh more than 4,096 bytes, and
     /// where it would add a key to 1,024. After a refusal the state is as before.
-    pub fn push(&mut self, alloc: Global, event: &Event) -> Result<Option<Row>, PushRefused>
+    pub fn push(&mut self, event: &Event) -> Result<Option<Row>, PushRefused>
         requires { HasFields self.old.fields event.now }
         ensures answer { PushAnswers (push_refusal (shape_in self.old) (state.Command self.old.keys) event.now) result }
         ensures ok { OnOk result (self.new ≡ record self.old { keys = keyed_after (shape_in self.old) self.old.keys event.now }) }
@@ -124,7 +126,7 @@ impl CommandState {
         match event {
             Event::Update(cells) => {
                 let change = self.examine(cells)?;
-                let left = self.change(alloc, cells, change)?;
+                let left = self.change(cells, change)?;
                 Ok(left)
             }
             Event::Clear => {
@@ -135,11 +137,11 @@ impl CommandState {
     }
 
     /// The state, copied.
-    pub fn snapshot(&self, alloc: Global) -> Result<Snapshot, NoMemory>
+    pub fn snapshot(&self) -> Result<Snapshot, NoMemory>
         ensures state { IfOk result (λ s. s ≡ state.Command self.now.keys) }
         ensures fits { IfOk result (IsStateOf (shape_in self.now)) }
     {
-        let rows = copied_keys(alloc, &self.rows)?;
+        let rows = copied_keys(self.alloc, &self.rows)?;
         Ok(Snapshot::Command(KeyedRows::of(rows)))
     }
 
@@ -207,12 +209,7 @@ impl CommandState {
     }
 
     /// Makes the change of an update, and answers the key's row after it, where it has one. After `NoMemory` all is as before.
-    fn change(
-        &mut self,
-        alloc: Global,
-        cells: &Cells,
-        change: Change,
-    ) -> Result<Option<Row>, NoMemory>
+    fn change(&mut self, cells: &Cells, change: Change) -> Result<Option<Row>, NoMemory>
         requires cells { length cells.now ≡ self.old.fields }
         requires change { IsChange (shape_in self.old) self.old.keys cells.now change }
         requires few { keys_refusal (shape_in self.old) (state.Command self.old.keys) (event.Update cells.now) ≡ None }
@@ -227,13 +224,13 @@ impl CommandState {
                 let _removed = self.rows.remove(at);
                 Ok(None)
             }
-            Change::Update(at) => self.update(alloc, cells, at),
-            Change::Insert(at) => self.insert(alloc, cells, at),
+            Change::Update(at) => self.update(cells, at),
+            Change::Insert(at) => self.insert(cells, at),
         }
     }
 
     /// Changes the row of the key at a place.
-    fn update(&mut self, alloc: Global, cells: &Cells, at: usize) -> Result<Option<Row>, NoMemory>
+    fn update(&mut self, cells: &Cells, at: usize) -> Result<Option<Row>, NoMemory>
         requires cells { length cells.now ≡ self.old.fields }
         requires change { IsChange (shape_in self.old) self.old.keys cells.now (Change.Update at) }
         ensures ok { OnOk result (self.new ≡ record self.old { keys = keyed_after (shape_in self.old) self.old.keys (event.Update cells.now) }) }
@@ -241,14 +238,14 @@ impl CommandState {
         ensures fits { IfOk result (RowFits self.old.fields) }
         ensures err { OnErr result (self.new ≡ self.old) }
     {
-        let kept = cells_but(alloc, cells.as_slice(), self.command)?;
-        let left = applied_row(alloc, self.rows[at].row.as_slice(), kept.as_slice())?;
+        let kept = cells_but(self.alloc, cells.as_slice(), self.command)?;
+        let left = applied_row(self.alloc, self.rows[at].row.as_slice(), kept.as_slice())?;
         apply_owned(&mut self.rows[at].row, kept);
         Ok(Some(left))
     }
 
     /// Puts a new key with its row at a place.
-    fn insert(&mut self, alloc: Global, cells: &Cells, at: usize) -> Result<Option<Row>, NoMemory>
+    fn insert(&mut self, cells: &Cells, at: usize) -> Result<Option<Row>, NoMemory>
         requires cells { length cells.now ≡ self.old.fields }
         requires change { IsChange (shape_in self.old) self.old.keys cells.now (Change.Insert at) }
         requires few { keys_refusal (shape_in self.old) (state.Command self.old.keys) (event.Update cells.now) ≡ None }
@@ -257,10 +254,13 @@ impl CommandState {
         ensures fits { IfOk result (RowFits self.old.fields) }
         ensures err { OnErr result (self.new ≡ self.old) }
     {
-        let mut row = Row::nulls(alloc, self.fields)?;
-        apply_owned(&mut row, cells_but(alloc, cells.as_slice(), self.command)?);
-        let left = row.copy(alloc)?;
-        let key = text_copy(alloc, &cells.as_slice()[self.key])?;
+        let mut row = Row::nulls(self.alloc, self.fields)?;
+        apply_owned(
+            &mut row,
+            cells_but(self.alloc, cells.as_slice(), self.command)?,
+        );
+        let left = row.copy(self.alloc)?;
+        let key = text_copy(self.alloc, &cells.as_slice()[self.key])?;
         self.rows.insert(at, KeyedRow { key, row })?;
         Ok(Some(left))
     }

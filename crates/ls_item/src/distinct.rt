@@ -17,6 +17,7 @@ use std::marker::Model;
 /// DISTINCT; the number is this project's profile).
 #[derive(Drop)]
 pub struct DistinctState {
+    alloc: Global,
     fields: usize,
     rows: Vec<Row>,
 }
@@ -33,12 +34,16 @@ impl Model for DistinctState {
 }
 
 impl DistinctState {
-    /// The state of an item of so many fields without events: no rows. It takes memory as rows come.
+    /// The state of an item of so many fields without events: no rows. It keeps the allocator, by which its later calls take memory.
     pub fn new(alloc: Global, fields: usize) -> Result<DistinctState, NoMemory>
         ensures { IfOk result (λ s. s ≡ record { fields = fields; rows = [] }) }
     {
         let rows = Vec::new(alloc);
-        Ok(DistinctState { fields, rows })
+        Ok(DistinctState {
+            alloc,
+            fields,
+            rows,
+        })
     }
 
     /// The number of fields.
@@ -61,7 +66,7 @@ impl DistinctState {
 
     /// Adds an event, and answers `None`: a DISTINCT item has no keys. It is refused where the event's texts, which are those of its
     /// own row, weigh more than 4,096 bytes. After a refusal the state is as before.
-    pub fn push(&mut self, alloc: Global, event: &Event) -> Result<Option<Row>, PushRefused>
+    pub fn push(&mut self, event: &Event) -> Result<Option<Row>, PushRefused>
         requires { HasFields self.old.fields event.now }
         ensures answer { PushAnswers (push_refusal (keyless kind.Distinct self.old.fields) (state.Distinct self.old.rows) event.now) result }
         ensures ok { OnOk result (self.new ≡ record self.old { rows = rows_after self.old.rows event.now }) }
@@ -71,7 +76,7 @@ impl DistinctState {
         self.check(event)?;
         match event {
             Event::Update(cells) => {
-                let row = own_row(alloc, cells)?;
+                let row = own_row(self.alloc, cells)?;
                 keep_last(&mut self.rows, row)?;
             }
             Event::Clear => self.rows.clear(),
@@ -80,11 +85,11 @@ impl DistinctState {
     }
 
     /// The state, copied.
-    pub fn snapshot(&self, alloc: Global) -> Result<Snapshot, NoMemory>
+    pub fn snapshot(&self) -> Result<Snapshot, NoMemory>
         ensures state { IfOk result (λ s. s ≡ state.Distinct self.now.rows) }
         ensures fits { IfOk result (IsStateOf (keyless kind.Distinct self.now.fields)) }
     {
-        let rows = copied_rows(alloc, &self.rows)?;
+        let rows = copied_rows(self.alloc, &self.rows)?;
         Ok(Snapshot::Distinct(RowList::of(rows)))
     }
 }

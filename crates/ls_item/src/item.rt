@@ -44,7 +44,7 @@ impl Model for ItemState {
 }
 
 impl ItemState {
-    /// The state of an item without events.
+    /// The state of an item without events. It keeps the allocator, by which its later calls take memory.
     pub fn new(alloc: Global, item: &ItemDef) -> Result<ItemState, NoMemory>
         requires { IsShape (shape_of item.now) }
         ensures { IfOk result (λ s. s ≡ record { shape = shape_of item.now; state = state_at (shape_of item.now) [] 0 }) }
@@ -114,7 +114,7 @@ impl ItemState {
     /// Adds an event, and answers, in a COMMAND item, the row that it leaves its key. It is refused, in this order, where an update of a
     /// COMMAND item has no text at the key, where it has no order at the command, where the event's texts or the row that it makes weigh
     /// more than 4,096 bytes, and where it would add a key to 1,024. After a refusal the state is as before.
-    pub fn push(&mut self, alloc: Global, event: &Event) -> Result<Option<Row>, PushRefused>
+    pub fn push(&mut self, event: &Event) -> Result<Option<Row>, PushRefused>
         requires { HasFields self.old.shape.fields event.now }
         ensures answer { PushAnswers (push_refusal self.old.shape self.old.state event.now) result }
         ensures ok { OnOk result (self.new ≡ record self.old { state = state_after self.old.shape self.old.state event.now }) }
@@ -122,25 +122,25 @@ impl ItemState {
         ensures fits { IfOk result (RowFits self.old.shape.fields) }
         ensures err { OnErr result (self.new ≡ self.old) }
     {
-        self.held.push(alloc, event)
+        self.held.push(event)
     }
 
     /// The state, copied.
-    pub fn snapshot(&self, alloc: Global) -> Result<Snapshot, NoMemory>
+    pub fn snapshot(&self) -> Result<Snapshot, NoMemory>
         ensures state { IfOk result (λ s. s ≡ self.now.state) }
         ensures fits { IfOk result (IsStateOf self.now.shape) }
     {
         match &self.held {
-            Held::Merge(state) => state.snapshot(alloc),
-            Held::Distinct(state) => state.snapshot(alloc),
-            Held::Command(state) => state.snapshot(alloc),
+            Held::Merge(state) => state.snapshot(),
+            Held::Distinct(state) => state.snapshot(),
+            Held::Command(state) => state.snapshot(),
         }
     }
 }
 
 impl Held {
     /// Adds an event, as `ItemState::push` does, wherever the fields stand that are named as a key and a command.
-    fn push(&mut self, alloc: Global, event: &Event) -> Result<Option<Row>, PushRefused>
+    fn push(&mut self, event: &Event) -> Result<Option<Row>, PushRefused>
         requires { HasFields (kept_of 0 0 self.old).shape.fields event.now }
         ensures answer { (key command : ℕ) → PushAnswers (push_refusal (kept_of key command self.old).shape (kept_of key command self.old).state event.now) result }
         ensures shape { (key command : ℕ) → (kept_of key command self.new).shape ≡ (kept_of key command self.old).shape }
@@ -150,9 +150,9 @@ impl Held {
         ensures err { OnErr result (self.new ≡ self.old) }
     {
         match self {
-            Held::Merge(state) => state.push(alloc, event),
-            Held::Distinct(state) => state.push(alloc, event),
-            Held::Command(state) => state.push(alloc, event),
+            Held::Merge(state) => state.push(event),
+            Held::Distinct(state) => state.push(event),
+            Held::Command(state) => state.push(event),
         }
     }
 }

@@ -13,6 +13,3 @@ pub use command::CommandState;
 pub use distinct::DistinctState;
 pub use item::{ItemState, a_state_grows_with_its_history};
 pub use merge::MergeState;
-
-#[cfg(test)]
-mod tests;

@@ -16,6 +16,7 @@ use std::marker::Model;
 /// The state of a MERGE item: each field's last value since the last Clear (General Concepts, mode MERGE). It is seen as that row.
 #[derive(Drop)]
 pub struct MergeState {
+    alloc: Global,
     row: Row,
 }
 
@@ -29,12 +30,12 @@ impl Model for MergeState {
 }
 
 impl MergeState {
-    /// The state of an item of so many fields without events: all null.
+    /// The state of an item of so many fields without events: all null. It keeps the allocator, by which its later calls take memory.
     pub fn new(alloc: Global, fields: usize) -> Result<MergeState, NoMemory>
         ensures { IfOk result (λ s. s ≡ nulls fields) }
     {
         let row = Row::nulls(alloc, fields)?;
-        Ok(MergeState { row })
+        Ok(MergeState { alloc, row })
     }
 
     /// The number of fields.
@@ -56,7 +57,7 @@ impl MergeState {
     #[tactic(auto, using(ls_event::proofs::Merged::row_after_length))]
     /// Adds an event, and answers `None`: a MERGE item has no keys. It is refused where the event's texts or the row that it makes
     /// weigh more than 4,096 bytes. After a refusal the state is as before.
-    pub fn push(&mut self, alloc: Global, event: &Event) -> Result<Option<Row>, PushRefused>
+    pub fn push(&mut self, event: &Event) -> Result<Option<Row>, PushRefused>
         requires { HasFields (length self.old) event.now }
         ensures answer { PushAnswers (push_refusal (keyless kind.Merge (length self.old)) (state.Merge self.old) event.now) result }
         ensures ok { OnOk result (self.new ≡ row_after self.old event.now) }
@@ -66,18 +67,18 @@ impl MergeState {
     {
         self.check(event)?;
         match event {
-            Event::Update(cells) => apply(alloc, &mut self.row, cells)?,
-            Event::Clear => self.row = Row::nulls(alloc, self.row.len())?,
+            Event::Update(cells) => apply(self.alloc, &mut self.row, cells)?,
+            Event::Clear => self.row = Row::nulls(self.alloc, self.row.len())?,
         }
         Ok(None)
     }
 
     /// The state, copied.
-    pub fn snapshot(&self, alloc: Global) -> Result<Snapshot, NoMemory>
+    pub fn snapshot(&self) -> Result<Snapshot, NoMemory>
         ensures state { IfOk result (λ s. s ≡ state.Merge self.now) }
         ensures fits { IfOk result (IsStateOf (keyless kind.Merge (length self.now))) }
     {
-        let row = self.row.copy(alloc)?;
+        let row = self.row.copy(self.alloc)?;
         Ok(Snapshot::Merge(row))
     }
 }

@@ -14,6 +14,3 @@ pub use buffer::LineBuf;
 pub use line::{Line, LineRefused, counts};
 pub use reading::read;
 pub use writing::text;
-
-#[cfg(test)]
-mod tests;

@@ -6,6 +6,3 @@ pub mod merge;
 pub mod told;
 
 pub use merge::MergeBuffer;
-
-#[cfg(test)]
-mod tests;

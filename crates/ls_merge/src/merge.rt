@@ -15,8 +15,10 @@ use std::marker::Model;
 
 /// What a slot in mode MERGE still has to tell: the item's merged state at one of its numbers, which of its fields the next
 /// line tells, and what each later event says. Once there are more of these than the size, the first one is merged into the state.
+/// It keeps the allocator that `new` took, for all that its later calls take.
 #[derive(Drop)]
 pub struct MergeBuffer {
+    alloc: Global,
     size: u32,
     last: u64,
     owed: bool,
@@ -55,6 +57,7 @@ impl MergeBuffer {
     {
         let touched = flags(alloc, state.len(), true)?;
         Ok(MergeBuffer {
+            alloc,
             size: n,
             last: base,
             owed: is_owed(owed, base),
@@ -93,13 +96,13 @@ impl MergeBuffer {
     }
 
     /// Takes the event of the next number, which has a cell for each field. After `NoMemory` it is as before.
-    pub fn enqueue(&mut self, alloc: Global, event: &Event) -> Result<(), NoMemory>
+    pub fn enqueue(&mut self, event: &Event) -> Result<(), NoMemory>
         requires few { self.old.last < 2 ^ 60 }
         requires fields { HasFields (length self.old.row) event.now }
         ensures ok { OnOk result (self.new ≡ merge_after self.old event.now) }
         ensures err { OnErr result (self.new ≡ self.old) }
     {
-        let said = said_cells(alloc, event, self.row.len())?;
+        let said = said_cells(self.alloc, event, self.row.len())?;
         self.later.push_back(said)?;
         self.last += 1;
         self.merge_first();
@@ -138,30 +141,35 @@ impl MergeBuffer {
 
     /// The next cut: the merged values of the fields that the events since the last line touched, and of every field
     /// before the first line. `None` where nothing is pending.
-    pub fn look(&self, alloc: Global) -> Result<Option<Taken>, NoMemory>
+    pub fn look(&self) -> Result<Option<Taken>, NoMemory>
         ensures head { IfOk result (λ t. t ≡ merge_head self.now) }
         ensures fits { IfOk result (Fits (length self.now.row)) }
     {
         if !self.pending() {
             return Ok(None);
         }
-        let cells = self.next_cells(alloc)?;
+        let cells = self.next_cells()?;
         let upto = self.next_number();
         Ok(Some(Taken::Change { cells, upto }))
     }
 
     /// The cells of the next cut.
-    fn next_cells(&self, alloc: Global) -> Result<Cells, NoMemory>
+    fn next_cells(&self) -> Result<Cells, NoMemory>
         ensures cells { IfOk result (λ cells. cells ≡ told_cells (due self.now).touched (due self.now).row) }
         ensures fields { IfOk result (λ cells. length cells ≡ length self.now.row) }
     {
         let row = self.row.as_slice();
         if self.owed {
-            return Ok(Cells::of(cells_at(alloc, &self.touched, row)?));
+            return Ok(Cells::of(cells_at(self.alloc, &self.touched, row)?));
         }
         match self.later.front() {
-            None => Ok(Cells::of(cells_at(alloc, &self.touched, row)?)),
-            Some(said) => Ok(Cells::of(cells_with(alloc, &self.touched, row, said.as_slice())?)),
+            None => Ok(Cells::of(cells_at(self.alloc, &self.touched, row)?)),
+            Some(said) => Ok(Cells::of(cells_with(
+                self.alloc,
+                &self.touched,
+                row,
+                said.as_slice(),
+            )?)),
         }
     }
 

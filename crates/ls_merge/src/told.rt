@@ -3,7 +3,6 @@
 use crate::merge::MergeBuffer;
 use ls_event::{Buffer, Stored, Taken};
 use ls_value::NoMemory;
-use std::alloc::Global;
 
 impl Buffer for MergeBuffer {
     ghost use Rattle.std.specs.Prelude.{◌≡◌, length};
@@ -35,13 +34,13 @@ impl Buffer for MergeBuffer {
 
     ghost longer = { merge_longer };
 
-    fn enqueue(&mut self, alloc: Global, event: &Stored) -> Result<(), NoMemory> {
-        MergeBuffer::enqueue(self, alloc, &event.event)?;
+    fn enqueue(&mut self, event: &Stored) -> Result<(), NoMemory> {
+        MergeBuffer::enqueue(self, &event.event)?;
         Ok(())
     }
 
-    fn look(&self, alloc: Global) -> Result<Option<Taken>, NoMemory> {
-        MergeBuffer::look(self, alloc)
+    fn look(&self) -> Result<Option<Taken>, NoMemory> {
+        MergeBuffer::look(self)
     }
 
     fn pass(&mut self) {

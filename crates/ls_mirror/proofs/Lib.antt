@@ -6,3 +6,4 @@ pub mod Counting
 pub mod Determined
 pub mod Feeding
 pub mod Turning
+pub mod KeyRows

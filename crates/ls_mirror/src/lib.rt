@@ -14,6 +14,3 @@ pub use keyed::Keyed;
 pub use law::{a_table_is_determined, what_came_is_determined};
 pub use refused::MirrorRefused;
 pub use table::Table;
-
-#[cfg(test)]
-mod tests;

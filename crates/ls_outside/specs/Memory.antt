@@ -1,5 +1,6 @@
 -- What objects in memory hold, and how their calls go.
 use Rattle.std.specs.Prelude.{◌≡◌, ℕ, ◌+◌, ◌-◌, ◌^◌, min, max, List, [], ◌∷◌, ◌++◌, length, take, drop, nat_lt, ◌==◌, if◌then◌else◌, ⊤}
+use Rattle.ls_outside.specs.Causes.{one_more}
 use Rattle.ls_outside.specs.declared.call.Call.{Call}
 use Rattle.ls_outside.specs.declared.call.Call.TheVariants as call
 use Rattle.ls_outside.specs.declared.source.Got.{Got}
@@ -25,10 +26,6 @@ pub record SinkState : Type 0 where
   pub held : List ℕ
   pub calls : List Call
   pub faults : ℕ
-
--- a count after one more, which stands still at its type's end
-abbrev pub one_more : ℕ → ℕ
-one_more count = min (count + 1) (2 ^ 64 - 1)
 
 -- how the next call goes
 abbrev pub next_call : List Call → Call

@@ -25,15 +25,16 @@ pub trait Sink {
     fn write_faults(&self) -> u64
         ensures { result ≡ faults self.now };
 
-    /// Writes bytes from the front of a piece, as many as the sink likes to take. `Failed` comes only where
-    /// `write_faults` rose, and then no byte was taken.
+    /// Writes bytes from the front of a piece, as many as the sink likes to take. At `Failed` no byte was taken and
+    /// `write_faults` rises by one; else it is as before.
     fn write(&mut self, piece: &[u8]) -> Put
         ensures bytes { TakesOf (held self.old) (held self.new) result piece.now }
         ensures cause { HasWriteCause result (faults self.old) (faults self.new) };
 }
 
-/// Writes a whole piece, in as many writes as the sink needs. `Taken` has the length of the piece. After `Failed` the
-/// sink took a part of the piece from its front, less than all of it. It takes no memory of its own.
+/// Writes a whole piece, in as many writes as the sink needs. `Taken` has the length of the piece, and then no write
+/// failed. `Failed` ends with the first write that failed: the sink took a part of the piece from its front, less than
+/// all of it. It takes no memory of its own.
 pub fn write_all<K: Sink>(sink: &mut K, piece: &[u8]) -> Put
     ensures bytes { WritesAll (K.held sink.old) (K.held sink.new) result piece.now }
     ensures cause { HasWriteCause result (K.faults sink.old) (K.faults sink.new) }

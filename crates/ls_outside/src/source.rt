@@ -39,8 +39,9 @@ pub trait Source {
         ensures { result ≡ waits self.now };
 
     /// Reads the next bytes into the front of a piece, which isn't empty, as many as the source likes to give.
-    /// `End` comes only where no byte is left, if the source tells; `Failed` only where `read_faults` rose, and
-    /// `NotYet` only where `idles` rose. Only `Bytes` takes bytes from the source.
+    /// `End` comes only where no byte is left, if the source tells. Only `Bytes` takes bytes from the source. At
+    /// `Failed` `read_faults` rises by one, at `NotYet` `idles` does, and else both counts are as before. So a source
+    /// whose counts are always 0 answers neither.
     fn read(&mut self, piece: &mut [u8]) -> Got
         requires { 0 < length piece.old }
         ensures bytes { Gives (left self.old) (left self.new) result piece.new }

@@ -1,11 +1,17 @@
 //! A source over std's readers, and a sink over its writers.
-ghost use Rattle.std.specs.Prelude.{◌≡◌, ◌≤◌, ◌↔◌, ◌⊎◌, IsTrue, MatchOption, length, take};
+ghost use Rattle.std.specs.Prelude.{◌≡◌, ◌<◌, ◌≤◌, ◌↔◌, ℕ, IsTrue, MatchOption, length, take};
+ghost use Rattle.std.specs.declared.option.Option.{Option as Optional};
+ghost use Rattle.std.specs.declared.result.Result.{Result as Answer};
 ghost use Rattle.std.specs.IoError.{error_kind};
 ghost use Rattle.std.specs.Io.KnownBytes.{Keeps, Appends};
+ghost use Rattle.std.specs.declared.io.Error.{Error as Fault};
+ghost use Rattle.ls_outside.specs.Causes.{Gives, HasReadCause, TakesOf, HasWriteCause};
+ghost use Rattle.ls_outside.specs.Adapters.{GotBy, TriedBy, PutBy};
 
+use crate::once::{Reader, Writer};
 use crate::sink::{Put, Sink};
 use crate::source::{Got, Source};
-use std::io::{Error, ErrorKind, Read, Write};
+use std::io::{Error, ErrorKind};
 
 /// How often a write that is interrupted is tried, in one call.
 const WRITE_TRIES: u32 = 1000;
@@ -35,10 +41,10 @@ pub struct StdSource<R> {
     idles: u64,
 }
 
-impl<R: Read> StdSource<R> {
+impl<R: Reader> StdSource<R> {
     /// A source over this reader, with both counts 0.
     pub fn new(inner: R) -> StdSource<R>
-        ensures left { ⟦<StdSource<R> as Source>⟧.left result ≡ R.remaining inner }
+        ensures left { ⟦<StdSource<R> as Source>⟧.left result ≡ R.left inner }
         ensures faults { ⟦<StdSource<R> as Source>⟧.faults result ≡ 0 }
         ensures waits { ⟦<StdSource<R> as Source>⟧.waits result ≡ 0 }
     {
@@ -50,8 +56,8 @@ impl<R: Read> StdSource<R> {
     }
 }
 
-impl<R: Read> Source for StdSource<R> {
-    ghost left = { λ s. R.remaining s.inner };
+impl<R: Reader> Source for StdSource<R> {
+    ghost left = { λ s. R.left s.inner };
 
     ghost faults = { λ s. s.faults };
 
@@ -65,8 +71,15 @@ impl<R: Read> Source for StdSource<R> {
         self.idles
     }
 
-    fn read(&mut self, piece: &mut [u8]) -> Got {
-        match self.inner.read(piece) {
+    /// Reads once. The answer is the reader's own.
+    fn read(&mut self, piece: &mut [u8]) -> Got
+        requires { 0 < length piece.old }
+        ensures bytes { Gives (R.left self.old.inner) (R.left self.new.inner) result piece.new }
+        ensures cause { HasReadCause result self.old.faults self.new.faults self.old.idles self.new.idles }
+        ensures answer { (answer : Answer ℕ Fault) × R.answers self.old.inner piece.new answer self.new.inner
+            × GotBy result answer }
+    {
+        match self.inner.read_once(piece) {
             Ok(0) => Got::End,
             Ok(count) => Got::Bytes(count),
             Err(error) => {
@@ -91,10 +104,10 @@ pub struct StdSink<W> {
     faults: u64,
 }
 
-impl<W: Write> StdSink<W> {
+impl<W: Writer> StdSink<W> {
     /// A sink over this writer, with a count of 0.
     pub fn new(inner: W) -> StdSink<W>
-        ensures held { ⟦<StdSink<W> as Sink>⟧.held result ≡ W.contents inner }
+        ensures held { ⟦<StdSink<W> as Sink>⟧.held result ≡ W.held inner }
         ensures faults { ⟦<StdSink<W> as Sink>⟧.faults result ≡ 0 }
     {
         StdSink { inner, faults: 0 }
@@ -102,13 +115,14 @@ impl<W: Write> StdSink<W> {
 }
 
 /// Writes once, and again while the write is interrupted. Answers how many bytes the writer took.
-fn write_retrying<W: Write>(writer: &mut W, piece: &[u8]) -> Option<usize>
-    ensures { MatchOption result
-        (Keeps (W.contents writer.old) (W.contents writer.new))
-        (λ count. (count ≤ length piece.now) × Appends (W.contents writer.old) (W.contents writer.new) (take count piece.now)) }
+fn write_retrying<W: Writer>(writer: &mut W, piece: &[u8]) -> Option<usize>
+    ensures bytes { MatchOption result
+        (Keeps (W.held writer.old) (W.held writer.new))
+        (λ count. (count ≤ length piece.now) × Appends (W.held writer.old) (W.held writer.new) (take count piece.now)) }
+    ensures tried { TriedBy W.answers piece.now 1000 writer.old writer.new result }
 {
     for _ in 0..WRITE_TRIES {
-        match writer.write(piece) {
+        match writer.write_once(piece) {
             Ok(count) => return Some(count),
             Err(error) => {
                 if !is_interrupted(&error) {
@@ -120,8 +134,8 @@ fn write_retrying<W: Write>(writer: &mut W, piece: &[u8]) -> Option<usize>
     None
 }
 
-impl<W: Write> Sink for StdSink<W> {
-    ghost held = { λ s. W.contents s.inner };
+impl<W: Writer> Sink for StdSink<W> {
+    ghost held = { λ s. W.held s.inner };
 
     ghost faults = { λ s. s.faults };
 
@@ -129,7 +143,13 @@ impl<W: Write> Sink for StdSink<W> {
         self.faults
     }
 
-    fn write(&mut self, piece: &[u8]) -> Put {
+    /// Writes once, and again while the write is interrupted. The answer is that of the last try.
+    fn write(&mut self, piece: &[u8]) -> Put
+        ensures bytes { TakesOf (W.held self.old.inner) (W.held self.new.inner) result piece.now }
+        ensures cause { HasWriteCause result self.old.faults self.new.faults }
+        ensures answer { (taken : Optional ℕ) × TriedBy W.answers piece.now 1000 self.old.inner self.new.inner taken
+            × PutBy result taken (length piece.now) }
+    {
         match write_retrying(&mut self.inner, piece) {
             Some(count) if count > 0 || piece.is_empty() => Put::Taken(count),
             _ => {

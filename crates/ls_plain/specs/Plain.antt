@@ -1,5 +1,5 @@
 -- The slots of which the plain programs speak.
-use Rattle.std.specs.Prelude.{ℕ, List, map}
+use Rattle.std.specs.Prelude.{ℕ, List, map, Bool}
 use Rattle.ls_event.specs.declared.event.Mode.TheVariants as mode
 use Rattle.ls_event.specs.declared.item.Kind.TheVariants as kind
 use Rattle.ls_event.specs.Shapes.{Shape}
@@ -12,6 +12,11 @@ use Rattle.ls_plain.specs.Shapes.{command_shape}
 -- an item whose fields the modes RAW and DISTINCT don't look at
 abbrev any_shape : Shape
 any_shape = record { kind = kind.Distinct; fields = 0; key = 0; command = 0 }
+
+-- a slot of mode MERGE: the item's number of fields, the buffer's size, the last number that was enqueued, the place, and whether a first line was given
+abbrev pub merge_slot : ℕ → ℕ → ℕ → ℕ → Bool → Slot
+merge_slot fields size last place given =
+    record (fresh (record { mode = mode.Merge; shape = record { kind = kind.Merge; fields = fields; key = 0; command = 0 }; size = size; base = 0 }) place) { last = last; given = given }
 
 -- a slot of mode RAW, by the last number that was enqueued and the place
 abbrev pub raw_slot : ℕ → ℕ → Slot

@@ -5,6 +5,3 @@ pub mod raw;
 pub mod told;
 
 pub use raw::RawBuffer;
-
-#[cfg(test)]
-mod tests;

@@ -17,8 +17,10 @@ use std::marker::Model;
 const MOST: usize = 256;
 
 /// What a slot in mode RAW still has to tell: the last 256 updates, each with its own row, and how many older ones were lost.
+/// It keeps the allocator that `new` took, for all that its later calls take.
 #[derive(Drop)]
 pub struct RawBuffer {
+    alloc: Global,
     kept: HeapCircularBuffer<OwnRow>,
     lost: u64,
     place: u64,
@@ -46,6 +48,7 @@ impl RawBuffer {
     {
         let kept = HeapCircularBuffer::with_capacity(alloc, 0)?;
         Ok(RawBuffer {
+            alloc,
             kept,
             lost: 0,
             place: base,
@@ -75,13 +78,13 @@ impl RawBuffer {
     }
 
     /// Takes the event of the next number. After `NoMemory` it is as before.
-    pub fn enqueue(&mut self, alloc: Global, event: &Event) -> Result<(), NoMemory>
+    pub fn enqueue(&mut self, event: &Event) -> Result<(), NoMemory>
         requires { self.old.last < 2 ^ 60 }
         ensures ok { OnOk result (self.new ≡ raw_after self.old event.now) }
         ensures err { OnErr result (self.new ≡ self.old) }
     {
         match event {
-            Event::Update(cells) => self.keep(own_row(alloc, cells)?),
+            Event::Update(cells) => self.keep(own_row(self.alloc, cells)?),
             Event::Clear => {
                 self.last += 1;
                 Ok(())
@@ -105,13 +108,13 @@ impl RawBuffer {
 
     /// The next cut: how many updates were lost, where some were, and else the own row of the first that is kept. `None` where
     /// no update is left.
-    pub fn look(&self, alloc: Global) -> Result<Option<Taken>, NoMemory>
+    pub fn look(&self) -> Result<Option<Taken>, NoMemory>
         ensures { IfOk result (λ t. t ≡ raw_head self.now) }
     {
         match self.kept.front() {
             None => Ok(None),
             Some(own) => {
-                let taken = taken_of(alloc, own, self.lost)?;
+                let taken = taken_of(self.alloc, own, self.lost)?;
                 Ok(Some(taken))
             }
         }

@@ -3,7 +3,6 @@
 use crate::raw::RawBuffer;
 use ls_event::{Buffer, Stored, Taken};
 use ls_value::NoMemory;
-use std::alloc::Global;
 
 impl Buffer for RawBuffer {
     ghost use Rattle.std.specs.Prelude.{◌≡◌, length, nat_lt, All};
@@ -34,13 +33,13 @@ impl Buffer for RawBuffer {
 
     ghost longer = { raw_longer };
 
-    fn enqueue(&mut self, alloc: Global, event: &Stored) -> Result<(), NoMemory> {
-        RawBuffer::enqueue(self, alloc, &event.event)?;
+    fn enqueue(&mut self, event: &Stored) -> Result<(), NoMemory> {
+        RawBuffer::enqueue(self, &event.event)?;
         Ok(())
     }
 
-    fn look(&self, alloc: Global) -> Result<Option<Taken>, NoMemory> {
-        RawBuffer::look(self, alloc)
+    fn look(&self) -> Result<Option<Taken>, NoMemory> {
+        RawBuffer::look(self)
     }
 
     fn pass(&mut self) {

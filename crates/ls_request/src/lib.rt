@@ -11,6 +11,3 @@ mod values;
 pub use reading::{read, read_pairs};
 pub use request::{Add, Bind, Control, Create, LinkKind, Op, Request, RequestRefused};
 pub use values::mode_of;
-
-#[cfg(test)]
-mod tests;

@@ -4,6 +4,3 @@
 pub mod ring;
 
 pub use ring::push;
-
-#[cfg(test)]
-mod tests;

@@ -13,6 +13,3 @@ pub use adding::add_params;
 pub use out::{Out, print};
 pub use script::{Script, ScriptRefused};
 pub use step::{AddWords, Repeat, Step};
-
-#[cfg(test)]
-mod tests;

@@ -132,7 +132,7 @@ impl Script {
             kind,
             fields: copied_names(self.alloc, fields)?,
         };
-        self.items.add(self.alloc, item)?;
+        self.items.add(item)?;
         Ok(())
     }
 
@@ -142,7 +142,7 @@ impl Script {
         ensures ok { OnOk result (self.new ≡ known_after self.old (Step.Open name.now)) }
         ensures err { OnErr result (self.new ≡ self.old) }
     {
-        self.connections.add(self.alloc, name.as_bytes())
+        self.connections.add(name.as_bytes())
     }
 
     /// What a line asks for that is neither empty nor a comment.

@@ -3,13 +3,12 @@ use Rattle.std.proofs.Common.{◌≡◌, ◌==◌, ℕ, ◌+◌, ◌<◌, ◌≤
 use Rattle.std.proofs.lemmas.Bool.{ltb-true, ltb-false, leb-true, leb-false, eq-eqb, ne_eqb}
 use Rattle.ls_event.specs.declared.event.Entry.{Entry}
 use Rattle.ls_event.specs.Slots.{Slot}
-use Rattle.ls_spec.specs.Came.{Came}
+use Rattle.ls_world.specs.Came.{Came}
 use Rattle.ls_cell.specs.Cell.{Held, StandsCell}
-use Rattle.ls_spec.specs.Lawful.{Each, LawfulSlot, LawfulLive, LawfulSession}
-use Rattle.ls_spec.specs.Lines.{Line, Tells, line_text, text_at, came, tells_text, last_row}
-use Rattle.ls_spec.specs.Cutting.{Wanted, Turn, turn}
-use Rattle.ls_spec.specs.World.{Item, Live, Session, history_of, met_by, asked, given_by, on_board, is_unsent, noted_in}
-use Rattle.ls_spec.specs.Steps.{Gave, Idle, Spent, Turned, next_given, round_given, round_taken, round_asked, owed_given, turned}
+use Rattle.ls_world.specs.Lines.{Line, Tells, line_text, text_at, came, tells_text, last_row}
+use Rattle.ls_world.specs.Cutting.{Wanted, Turn, turn}
+use Rattle.ls_world.specs.World.{Item, Live, Session, history_of, met_by, asked, given_by, on_board, is_unsent, noted_in}
+use Rattle.ls_world.specs.Steps.{Gave, Idle, Spent, Turned, next_given, round_given, round_taken, round_asked, owed_given, turned}
 use Rattle.ls_subs.specs.Subscription.{Subscribed, StandsSubscribed, Heard, DidTurn}
 use Rattle.ls_session.specs.Session.{texts_behind, slots_in, definition_of, StandsItem, StandsLive, StandsRound, StandsSession, DidLine, DidTurned}
 use Rattle.ls_session.specs.declared.session.Item.{Item as Kept}
@@ -209,23 +208,22 @@ record RoundOf (c c' : Option Kept) (k : Holding) (items : List Item) (s : Sessi
   stands : StandsLive u s.board.lines live
   did : DidLine u live.wanted items (came live.sub live.place s.board.lines) (turn_of items s live) text c' u'
 
-round_of : (c c' : Option Kept) (k : Holding) (items : List Item) (s : Session) (u u' : Subscribed) (text : Option (List ℕ)) → StandsSession c k items s → LawfulSession items s → k.subscription ≡ Some u
-    → ((is : List Item) (w : Wanted) (slot : Slot) (cs : List Came) → StandsItem c (Some slot ∷ []) is → StandsSubscribed u w slot cs → LawfulSlot (history_of is 0) w slot cs → DidLine u w is cs (turn (history_of is 0) w slot cs) text c' u')
+round_of : (c c' : Option Kept) (k : Holding) (items : List Item) (s : Session) (u u' : Subscribed) (text : Option (List ℕ)) → StandsSession c k items s → k.subscription ≡ Some u
+    → ((is : List Item) (w : Wanted) (slot : Slot) (cs : List Came) → StandsItem c (Some slot ∷ []) is → StandsSubscribed u w slot cs → DidLine u w is cs (turn (history_of is 0) w slot cs) text c' u')
     → RoundOf c c' k items s u u' text
-round_of c c' k items s u u' text st lawful is did =
-    by_round s.board.round refl (subst (λ (o : Option Subscribed). StandsRound o s.board.lines s.board.round) is st.round) st.item lawful.board.slots
+round_of c c' k items s u u' text st is did =
+    by_round s.board.round refl (subst (λ (o : Option Subscribed). StandsRound o s.board.lines s.board.round) is st.round) st.item
   where
-    by_round : (vs : List Live) → s.board.round ≡ vs → StandsRound (Some u) s.board.lines vs → StandsItem c (slots_in vs) items → Each (LawfulLive items s.board.lines) vs → RoundOf c c' k items s u u' text
-    by_round [] e x i l = absurd x
-    by_round (v ∷ x ∷ vs) e y i l = absurd y
-    by_round (v ∷ []) e x i l =
+    by_round : (vs : List Live) → s.board.round ≡ vs → StandsRound (Some u) s.board.lines vs → StandsItem c (slots_in vs) items → RoundOf c c' k items s u u' text
+    by_round [] e x i = absurd x
+    by_round (v ∷ x ∷ vs) e y i = absurd y
+    by_round (v ∷ []) e x i =
         record {
           live = v;
           only = e;
           stands = x;
           did = subst (λ (n : ℕ). DidLine u v.wanted items (came v.sub v.place s.board.lines) (turn (history_of items n) v.wanted v.slot (came v.sub v.place s.board.lines)) text c' u') (sym x.item)
-              (did items v.wanted v.slot (came v.sub v.place s.board.lines) i x.client
-              (subst (λ (n : ℕ). LawfulSlot (history_of items n) v.wanted v.slot (came v.sub v.place s.board.lines)) x.item l.0.told));
+              (did items v.wanted v.slot (came v.sub v.place s.board.lines) i x.client);
         }
 
 -- the round isn't asked once the numbers are spent
@@ -247,11 +245,11 @@ is_spent n high = by_test (nat_le (2 ^ 60) n) refl
     by_test false t = absurd (omega (arith, high, leb-false (2 ^ 60) n t))
 
 -- a line of the round is numbered and given
-pub round_line : (c c' : Option Kept) (k k' : Holding) (items : List Item) (s : Session) (u u' : Subscribed) (text : List ℕ) → StandsSession c k items s → LawfulSession items s → k.subscription ≡ Some u → k.unsent.items ≡ [] → k.last < 2 ^ 60
-    → ((is : List Item) (w : Wanted) (slot : Slot) (cs : List Came) → StandsItem c (Some slot ∷ []) is → StandsSubscribed u w slot cs → LawfulSlot (history_of is 0) w slot cs → DidLine u w is cs (turn (history_of is 0) w slot cs) (Some text) c' u')
+pub round_line : (c c' : Option Kept) (k k' : Holding) (items : List Item) (s : Session) (u u' : Subscribed) (text : List ℕ) → StandsSession c k items s → k.subscription ≡ Some u → k.unsent.items ≡ [] → k.last < 2 ^ 60
+    → ((is : List Item) (w : Wanted) (slot : Slot) (cs : List Came) → StandsItem c (Some slot ∷ []) is → StandsSubscribed u w slot cs → DidLine u w is cs (turn (history_of is 0) w slot cs) (Some text) c' u')
     → k' ≡ record k { last = k.last + 1; subscription = Some u' } → DidTurned (round_asked items s s.board.round) (given.Line text) c' k' items
-round_line c c' k k' items s u u' text st lawful is empty low did after =
-    let r : RoundOf c c' k items s u u' (Some text) = round_of c c' k items s u u' (Some text) st lawful is did in
+round_line c c' k k' items s u u' text st is empty low did after =
+    let r : RoundOf c c' k items s u u' (Some text) = round_of c c' k items s u u' (Some text) st is did in
     let few : nat_le (2 ^ 60) (length s.board.lines) ≡ false = not_spent (length s.board.lines) (omega (arith, low, st.last)) in
     let asks : round_asked items s s.board.round ≡ round_taken items s = spent_or items s r.live r.only ∙ ap (λ b. cond b (record { session = s; answer = Spent }) (round_taken items s)) few in
     subst (λ (t : Turned). DidTurned t (given.Line text) c' k' items) (sym asks) (by_told r (turn_of items s r.live).told refl r.did.heard)
@@ -264,11 +262,11 @@ round_line c c' k k' items s u u' text st lawful is empty low did after =
         (line_given c' k k' items s r.live u u' (turn_of items s r.live).slot x text (none_behind s.sent s.board.lines (sym st.unsent ∙ empty)) st.sent st.owed empty st.last r.stands r.did.item r.did.sub says heard.1 after)
 
 -- the round gives none
-pub round_none : (c c' : Option Kept) (k k' : Holding) (items : List Item) (s : Session) (u u' : Subscribed) → StandsSession c k items s → LawfulSession items s → k.subscription ≡ Some u → k.last < 2 ^ 60
-    → ((is : List Item) (w : Wanted) (slot : Slot) (cs : List Came) → StandsItem c (Some slot ∷ []) is → StandsSubscribed u w slot cs → LawfulSlot (history_of is 0) w slot cs → DidLine u w is cs (turn (history_of is 0) w slot cs) None c' u')
+pub round_none : (c c' : Option Kept) (k k' : Holding) (items : List Item) (s : Session) (u u' : Subscribed) → StandsSession c k items s → k.subscription ≡ Some u → k.last < 2 ^ 60
+    → ((is : List Item) (w : Wanted) (slot : Slot) (cs : List Came) → StandsItem c (Some slot ∷ []) is → StandsSubscribed u w slot cs → DidLine u w is cs (turn (history_of is 0) w slot cs) None c' u')
     → k' ≡ record k { subscription = Some u' } → DidTurned (round_asked items s s.board.round) given.Idle c' k' items
-round_none c c' k k' items s u u' st lawful is low did after =
-    let r : RoundOf c c' k items s u u' None = round_of c c' k items s u u' None st lawful is did in
+round_none c c' k k' items s u u' st is low did after =
+    let r : RoundOf c c' k items s u u' None = round_of c c' k items s u u' None st is did in
     let few : nat_le (2 ^ 60) (length s.board.lines) ≡ false = not_spent (length s.board.lines) (omega (arith, low, st.last)) in
     let asks : round_asked items s s.board.round ≡ round_taken items s = spent_or items s r.live r.only ∙ ap (λ b. cond b (record { session = s; answer = Spent }) (round_taken items s)) few in
     subst (λ (t : Turned). DidTurned t given.Idle c' k' items) (sym asks) (by_told r (turn_of items s r.live).told refl r.did.heard)
@@ -310,14 +308,14 @@ round_spent c k items s u st is high = by_round s.board.round refl (subst (λ (o
 
 -- the only item stands for its history
 pub line_did : (c c' : Kept) (u u' : Subscribed) (text : Option (List ℕ))
-    → ((w : Wanted) (s : Slot) (h : List Entry) (cs : List Came) → StandsCell c.cell (Some s ∷ []) h → StandsSubscribed u w s cs → LawfulSlot h w s cs → DidTurn u w h cs (turn h w s cs) text c'.cell u')
+    → ((w : Wanted) (s : Slot) (h : List Entry) (cs : List Came) → StandsCell c.cell (Some s ∷ []) h → StandsSubscribed u w s cs → DidTurn u w h cs (turn h w s cs) text c'.cell u')
     → definition_of c' ≡ definition_of c → c'.cell.item.shape ≡ c.cell.item.shape
-    → (items : List Item) (w : Wanted) (s : Slot) (cs : List Came) → StandsItem (Some c) (Some s ∷ []) items → StandsSubscribed u w s cs → LawfulSlot (history_of items 0) w s cs
+    → (items : List Item) (w : Wanted) (s : Slot) (cs : List Came) → StandsItem (Some c) (Some s ∷ []) items → StandsSubscribed u w s cs
     → DidLine u w items cs (turn (history_of items 0) w s cs) text (Some c') u'
-line_did c c' u u' text did same shape [] w s cs st su l = absurd st
-line_did c c' u u' text did same shape (i ∷ j ∷ items) w s cs st su l = absurd st
-line_did c c' u u' text did same shape (i ∷ []) w s cs st su l =
-    let d : DidTurn u w i.history cs (turn i.history w s cs) text c'.cell u' = did w s i.history cs st.cell su l in
+line_did c c' u u' text did same shape [] w s cs st su = absurd st
+line_did c c' u u' text did same shape (i ∷ j ∷ items) w s cs st su = absurd st
+line_did c c' u u' text did same shape (i ∷ []) w s cs st su =
+    let d : DidTurn u w i.history cs (turn i.history w s cs) text c'.cell u' = did w s i.history cs st.cell su in
     record { item = record { cell = d.cell; definition = same ∙ st.definition; shape = shape ∙ st.shape }; sub = d.sub; heard = d.heard }
 
 -- an item keeps its definition where its cell keeps its shape

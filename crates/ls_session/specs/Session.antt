@@ -4,11 +4,11 @@ use Rattle.ls_event.specs.Slots.{Slot}
 use Rattle.ls_event.specs.declared.item.ItemDef.{ItemDef}
 use Rattle.ls_event.specs.Shapes.{shape_of}
 use Rattle.ls_cell.specs.Cell.{StandsCell}
-use Rattle.ls_spec.specs.Came.{Came}
-use Rattle.ls_spec.specs.Lines.{Line, line_text, came}
-use Rattle.ls_spec.specs.Cutting.{Wanted, Turn}
-use Rattle.ls_spec.specs.World.{Item, Live, Session}
-use Rattle.ls_spec.specs.Steps.{Answer, Gave, Idle, Spent, Turned}
+use Rattle.ls_world.specs.Came.{Came}
+use Rattle.ls_world.specs.Lines.{Line, line_text, came}
+use Rattle.ls_world.specs.Cutting.{Wanted, Turn}
+use Rattle.ls_world.specs.World.{Item, Live, Session}
+use Rattle.ls_world.specs.Steps.{Answer, Gave, Idle, Spent, Turned}
 use Rattle.ls_subs.specs.Subscription.{Subscribed, StandsSubscribed, Heard}
 use Rattle.ls_session.specs.declared.session.Item.{Item as Kept}
 use Rattle.ls_session.specs.declared.session.Session.{Session as Holding}

@@ -1,18 +1,16 @@
 //! The session: the lines that its stream is still to be given, and its subscription.
 ghost use Rattle.std.specs.Prelude.{◌≡◌, ◌<◌, ◌+◌, List, [], ◌∷◌, Some, None, IfOk};
 ghost use Rattle.ls_event.specs.Slots.{Slot};
-ghost use Rattle.ls_spec.specs.Came.{Came};
-ghost use Rattle.ls_spec.specs.Cutting.{Wanted, turn as slot_turn};
-ghost use Rattle.ls_spec.specs.World.{Item as AnItem, Session as ASession, history_of};
-ghost use Rattle.ls_spec.specs.Steps.{turned, round_asked};
-ghost use Rattle.ls_spec.specs.Lawful.{LawfulSlot, LawfulSession};
+ghost use Rattle.ls_world.specs.Came.{Came};
+ghost use Rattle.ls_world.specs.Cutting.{Wanted, turn as slot_turn};
+ghost use Rattle.ls_world.specs.World.{Item as AnItem, Session as ASession, history_of};
+ghost use Rattle.ls_world.specs.Steps.{turned, round_asked};
 ghost use Rattle.ls_subs.specs.Subscription.{StandsSubscribed};
 ghost use Rattle.ls_session.specs.Session.{StandsItem, StandsSession, DidLine, DidTurned};
 
 use ls_cell::ItemCell;
 use ls_subs::{SLOT, Subscription, take_line};
 use ls_value::{Bytes, Names, NoMemory, Text};
-use std::alloc::Global;
 use std::collections::VecDeque;
 
 /// The greatest number of a line.
@@ -47,12 +45,8 @@ pub enum Given {
 }
 
 /// A session's turn: an owed line, else the next numbered line that isn't given, else the round's next line.
-pub fn turn(
-    alloc: Global,
-    item: &mut Option<Item>,
-    session: &mut Session,
-) -> Result<Given, NoMemory>
-    ensures did { IfOk result (λ given. (items : List AnItem) (s : ASession) → StandsSession item.old session.old items s → LawfulSession items s
+pub fn turn(item: &mut Option<Item>, session: &mut Session) -> Result<Given, NoMemory>
+    ensures did { IfOk result (λ given. (items : List AnItem) (s : ASession) → StandsSession item.old session.old items s
         → DidTurned (turned items s) given item.new session.new items) }
 {
     if let Some(text) = session.owed.pop_front() {
@@ -61,13 +55,13 @@ pub fn turn(
     if let Some(text) = session.unsent.pop_front() {
         return Ok(Given::Line(text));
     }
-    let given = round(alloc, item, session)?;
+    let given = round(item, session)?;
     Ok(given)
 }
 
 /// The round's next line.
-fn round(alloc: Global, item: &mut Option<Item>, session: &mut Session) -> Result<Given, NoMemory>
-    ensures did { IfOk result (λ given. (items : List AnItem) (s : ASession) → StandsSession item.old session.old items s → LawfulSession items s
+fn round(item: &mut Option<Item>, session: &mut Session) -> Result<Given, NoMemory>
+    ensures did { IfOk result (λ given. (items : List AnItem) (s : ASession) → StandsSession item.old session.old items s
         → session.old.owed.items ≡ [] → session.old.unsent.items ≡ [] → DidTurned (round_asked items s s.board.round) given item.new session.new items) }
 {
     match &mut session.subscription {
@@ -76,7 +70,7 @@ fn round(alloc: Global, item: &mut Option<Item>, session: &mut Session) -> Resul
             if session.last >= LAST {
                 return Ok(Given::Spent);
             }
-            let text = line_of(alloc, item, subscription)?;
+            let text = line_of(item, subscription)?;
             match text {
                 None => Ok(Given::Idle),
                 Some(text) => {
@@ -90,12 +84,11 @@ fn round(alloc: Global, item: &mut Option<Item>, session: &mut Session) -> Resul
 
 /// The next line of the item's slot, if there is one.
 fn line_of(
-    alloc: Global,
     item: &mut Option<Item>,
     subscription: &mut Subscription,
 ) -> Result<Option<Bytes>, NoMemory>
     ensures did { IfOk result (λ text. (items : List AnItem) (w : Wanted) (s : Slot) (cs : List Came) → StandsItem item.old (Some s ∷ []) items
-        → StandsSubscribed subscription.old w s cs → LawfulSlot (history_of items 0) w s cs
+        → StandsSubscribed subscription.old w s cs
         → DidLine subscription.old w items cs (slot_turn (history_of items 0) w s cs) text item.new subscription.new) }
 {
     match item {
@@ -104,7 +97,7 @@ fn line_of(
             if !item.cell.has(SLOT) {
                 return Ok(None);
             }
-            let text = take_line(alloc, &mut item.cell, subscription)?;
+            let text = take_line(&mut item.cell, subscription)?;
             Ok(text)
         }
     }

@@ -1,32 +1,20 @@
 -- The rows by key that are kept of a client are its own.
-use Rattle.std.proofs.Common.{◌≡◌, ◌==◌, ℕ, List, [], ◌∷◌, refl, ◌∙◌, ap, cond, ◌&&◌, Option, Some, None}
+use Rattle.std.proofs.Common.{◌≡◌, ℕ, List, ◌∷◌, ◌∙◌, ap, cond, Option, Some, None}
 use Rattle.std.specs.FinMap as finite
-use Rattle.std.specs.FinMap.{get-insert, get-remove, get-empty}
-use Rattle.std.specs.Ordering.{nat_cmp, eq_by_cmp}
-use Rattle.std.specs.Cmp.{eq_by_cmp_equiv}
-use Rattle.std.specs.Cmp.Lexicographic.{slice_cmp, nat_list_cmp_total}
-use Rattle.std.specs.Str.{bytes_eq}
-use Rattle.std.proofs.lemmas.Map.Text.{is_eq-slice_cmp}
+use Rattle.std.specs.FinMap.{get-empty}
+use Rattle.std.specs.Ordering.{nat_cmp}
+use Rattle.std.specs.Cmp.Lexicographic.{slice_cmp}
 use Rattle.ls_value.specs.declared.row.Value.{Value}
 use Rattle.ls_value.specs.Values.{text_eq, value_at}
 use Rattle.ls_mirror.specs.Client.{What, Row, Lost, Cleared, End}
 use Rattle.ls_mirror.specs.Keys.{KeyTable}
-use Rattle.ls_spec.specs.Tables.{InSchema, text_in, kept_of}
+use Rattle.ls_mirror.proofs.KeyRows.{get_inserted, get_removed}
+use Rattle.ls_world.specs.Tables.{InSchema, text_in, kept_of}
 use Rattle.ls_subs.specs.Subscription.{table_set, keyed_with, HoldsKeys}
 
-bytes_text : (a b : List ℕ) → bytes_eq a b ≡ text_eq a b
-bytes_text [] [] = refl
-bytes_text [] (y ∷ ys) = refl
-bytes_text (x ∷ xs) [] = refl
-bytes_text (x ∷ xs) (y ∷ ys) = ap (λ v. (x == y) && v) (bytes_text xs ys)
-
--- a key is found by the bytes of its text
-same_key : (k a : List ℕ) → eq_by_cmp (slice_cmp nat_cmp) k a ≡ text_eq a k
-same_key k a = (eq_by_cmp_equiv nat_list_cmp_total).symm k a ∙ is_eq-slice_cmp a k ∙ bytes_text a k
-
 get_set : (table : KeyTable) (a : List ℕ) (o : Option (List Value)) (k : List ℕ) → finite.get (table_set table a o) k ≡ cond (text_eq a k) o (finite.get table k)
-get_set table a None k = get-remove nat_list_cmp_total table a k ∙ ap (λ v. cond v None (finite.get table k)) (same_key k a)
-get_set table a (Some row) k = get-insert nat_list_cmp_total table a row k ∙ ap (λ v. cond v (Some row) (finite.get table k)) (same_key k a)
+get_set table a None k = get_removed table a k
+get_set table a (Some row) k = get_inserted table a row k
 
 -- what is told changes the rows by key as it changes the client's
 pub holds_more : (keys : Option InSchema) (table : KeyTable) (ws : List What) (what : What) → HoldsKeys keys table ws → HoldsKeys keys (keyed_with keys table what) (what ∷ ws)

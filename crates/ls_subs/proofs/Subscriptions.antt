@@ -10,11 +10,11 @@ use Rattle.ls_event.specs.declared.event.Taken.{Taken}
 use Rattle.ls_event.specs.declared.event.Taken.TheVariants as taken
 use Rattle.ls_event.specs.Slots.{Plan, Slot, passed}
 use Rattle.ls_mirror.specs.Client.{What, Row, Lost, Cleared, End, row_or}
-use Rattle.ls_spec.specs.Came.{Came, came_by, whats}
-use Rattle.ls_spec.specs.Lines.{last_row}
-use Rattle.ls_spec.specs.Tables.{InSchema, key_told, table_at, projected_row}
-use Rattle.ls_spec.specs.Cutting.{Wanted, client_row, changed, schema_of, accepted}
-use Rattle.ls_spec.specs.World.{keys_in}
+use Rattle.ls_world.specs.Came.{Came, came_by, whats}
+use Rattle.ls_world.specs.Lines.{last_row}
+use Rattle.ls_world.specs.Tables.{InSchema, key_told, table_at, projected_row}
+use Rattle.ls_world.specs.Cutting.{Wanted, client_row, changed, schema_of, accepted}
+use Rattle.ls_world.specs.World.{keys_in}
 use Rattle.ls_subs.specs.Subscribed.{Subscribed}
 use Rattle.ls_subs.specs.Subscription.{row_of, told_of, key_line, keys_of, told_to, HoldsKeys, GivenRow, StandsSubscribed}
 use Rattle.ls_subs.proofs.Cuts.{Suits}

@@ -6,16 +6,15 @@ use Rattle.ls_event.specs.Slots.{Slot, passed}
 use Rattle.ls_event.specs.Cuts.{cut}
 use Rattle.ls_mirror.specs.Client.{What}
 use Rattle.ls_cell.specs.Cell.{Held, HasSlot, StandsCell}
-use Rattle.ls_spec.specs.Came.{Came}
-use Rattle.ls_spec.specs.Lines.{tells_text}
-use Rattle.ls_spec.specs.Cutting.{Wanted, Turn, accepted, told_or, turned, turn_within, turn}
-use Rattle.ls_spec.specs.Lawful.{LawfulSlot}
+use Rattle.ls_world.specs.Came.{Came}
+use Rattle.ls_world.specs.Lines.{tells_text}
+use Rattle.ls_world.specs.Cutting.{Wanted, Turn, accepted, told_or, turned, turn_within, turn}
 use Rattle.ls_subs.specs.declared.subscription.Cutting.{Cutting}
 use Rattle.ls_subs.specs.declared.subscription.Cutting.TheVariants as cutting
 use Rattle.ls_subs.specs.Subscription.{Subscribed, StandsSubscribed, told_of, text_if, told_if, Keeps, DidTell, DidCut, DidTurn, GoesOn}
 use Rattle.ls_subs.proofs.Cuts.{cut_suits}
 use Rattle.ls_subs.proofs.Subscriptions.{told_is, stands_silent, stands_told}
-use Rattle.ls_spec.proofs.Turns.{turn_ends}
+use Rattle.ls_world.proofs.Turns.{turn_ends}
 
 -- the subscription and its text after a cut
 did_tell : (u : Subscribed) (w : Wanted) (s : Slot) (h : List Entry) (cs : List Came) (t : Taken) → cut h s ≡ Some t → StandsSubscribed u w s cs
@@ -42,12 +41,12 @@ did_cut u w s h cs t (Some text) c v is su st text_is v_is =
     (t, is, st, tell_as u w s cs t (Some text) (text_if u (told_of u t)) v (told_if u (told_of u t)) text_is v_is (did_tell u w s h cs t is su))
 
 -- a turn that goes on has a cut left where the slot has one
-cut_left : (h : List Entry) (w : Wanted) (s r : Slot) (cs : List Came) (n : ℕ) (t : Taken) → LawfulSlot h w s cs → turn h w s cs ≡ turn_within n h w r cs → cut h r ≡ Some t
+cut_left : (h : List Entry) (w : Wanted) (s r : Slot) (cs : List Came) (n : ℕ) (t : Taken) → turn h w s cs ≡ turn_within n h w r cs → cut h r ≡ Some t
     → (m : ℕ) × (turn h w s cs ≡ told_or r t (accepted w r cs t) (turn_within m h w (passed r t) cs))
-cut_left h w s r cs zero t lawful rest is =
-    let none : cut h (turn h w s cs).slot ≡ None = turn_ends h w s cs lawful (ap (λ x. x.told) rest) in
+cut_left h w s r cs zero t rest is =
+    let none : cut h (turn h w s cs).slot ≡ None = turn_ends h w s cs (ap (λ x. x.told) rest) in
     absurd (let x : None ≡ Some t = sym none ∙ ap (λ x. cut h x.slot) rest ∙ is in cc)
-cut_left h w s r cs (suc m) t lawful rest is = (m, rest ∙ ap (λ o. turned w r cs o (λ q. turn_within m h w q cs)) is)
+cut_left h w s r cs (suc m) t rest is = (m, rest ∙ ap (λ o. turned w r cs o (λ q. turn_within m h w q cs)) is)
 
 -- a turn without a cut is done
 none_left : (h : List Entry) (w : Wanted) (r : Slot) (cs : List Came) (n : ℕ) → cut h r ≡ None → turn_within n h w r cs ≡ record { slot = r; told = None }
@@ -66,10 +65,10 @@ ends w s h cs c d u v g did sub =
     (record { cell = did.1; sub = sub; heard = (refl, did.2) })
 
 -- it goes on behind a silent cut
-goes_on : (w : Wanted) (s : Slot) (h : List Entry) (cs : List Came) (c d : Held) (u v : Subscribed) → LawfulSlot h w s cs → (g : GoesOn w h cs (turn h w s cs) c u)
+goes_on : (w : Wanted) (s : Slot) (h : List Entry) (cs : List Came) (c d : Held) (u v : Subscribed) → (g : GoesOn w h cs (turn h w s cs) c u)
     → DidCut cutting.Silent u w g.slot h cs d v → GoesOn w h cs (turn h w s cs) d v
-goes_on w s h cs c d u v lawful g did =
-    let more = cut_left h w s g.slot cs g.left did.0 lawful g.rest did.1 in
+goes_on w s h cs c d u v g did =
+    let more = cut_left h w s g.slot cs g.left did.0 g.rest did.1 in
     record {
       slot = passed g.slot did.0;
       left = more.0;
@@ -79,10 +78,10 @@ goes_on w s h cs c d u v lawful g did =
     }
 
 -- it ends with a line
-tells : (w : Wanted) (s : Slot) (h : List Entry) (cs : List Came) (c d : Held) (u v : Subscribed) (text : List ℕ) → LawfulSlot h w s cs → (g : GoesOn w h cs (turn h w s cs) c u)
+tells : (w : Wanted) (s : Slot) (h : List Entry) (cs : List Came) (c d : Held) (u v : Subscribed) (text : List ℕ) → (g : GoesOn w h cs (turn h w s cs) c u)
     → DidCut (cutting.Line text) u w g.slot h cs d v → v.sub ≡ u.sub → DidTurn u w h cs (turn h w s cs) (Some text) d v
-tells w s h cs c d u v text lawful g did sub =
-    let more = cut_left h w s g.slot cs g.left did.0 lawful g.rest did.1 in
+tells w s h cs c d u v text g did sub =
+    let more = cut_left h w s g.slot cs g.left did.0 g.rest did.1 in
     subst (λ (x : Turn). DidTurn u w h cs x (Some text) d v) (sym (more.1 ∙ ap (λ o. told_or g.slot did.0 o (turn_within more.0 h w (passed g.slot did.0) cs)) did.3.1))
     (record { cell = did.2; sub = sub; heard = (ap (λ x. Some x) did.3.2, did.3.3) })
 
@@ -91,7 +90,7 @@ pub record Going (c d : Held) (u v : Subscribed) : Type 0 where
   pub slot : HasSlot d 1
   pub shape : d.item.shape ≡ c.item.shape
   pub same : v ≡ u
-  pub goes : (w : Wanted) (s : Slot) (h : List Entry) (cs : List Came) → StandsCell c (Some s ∷ []) h → StandsSubscribed u w s cs → LawfulSlot h w s cs → GoesOn w h cs (turn h w s cs) d v
+  pub goes : (w : Wanted) (s : Slot) (h : List Entry) (cs : List Came) → StandsCell c (Some s ∷ []) h → StandsSubscribed u w s cs → GoesOn w h cs (turn h w s cs) d v
 
 -- one cut of each slot that they stand for
 abbrev pub Cuts : Cutting → Held → Subscribed → Held → Subscribed → Type 0
@@ -100,21 +99,21 @@ Cuts r c u d v = (w : Wanted) (s : Slot) (h : List Entry) (cs : List Came) → S
 -- a turn of each such slot
 abbrev pub Turns : Option (List ℕ) → Held → Subscribed → Held → Subscribed → Type 0
 Turns text c u d v =
-    (w : Wanted) (s : Slot) (h : List Entry) (cs : List Came) → StandsCell c (Some s ∷ []) h → StandsSubscribed u w s cs → LawfulSlot h w s cs → DidTurn u w h cs (turn h w s cs) text d v
+    (w : Wanted) (s : Slot) (h : List Entry) (cs : List Came) → StandsCell c (Some s ∷ []) h → StandsSubscribed u w s cs → DidTurn u w h cs (turn h w s cs) text d v
 
 pub done : (c d e : Held) (u v x : Subscribed) (r : Cutting) → r ≡ cutting.Nothing → Going c d u v → Cuts r d v e x → Keeps r v x → Turns None c u e x
-done c d e u v x r is going cuts keeps = λ w s h cs st su lawful.
-    let g = going.goes w s h cs st su lawful in
+done c d e u v x r is going cuts keeps = λ w s h cs st su.
+    let g = going.goes w s h cs st su in
     let did = subst (λ (y : Cutting). DidCut y v w g.slot h cs e x) is (cuts w g.slot h cs g.cell g.client) in
     let kept = subst (λ (y : Cutting). Keeps y v x) is keeps in
     subst (λ (y : Subscribed). DidTurn y w h cs (turn h w s cs) None e x) going.same (ends w s h cs d e v x g did (ap (λ y. y.sub) kept))
 
 pub told : (c d e : Held) (u v x : Subscribed) (r : Cutting) (text : List ℕ) → r ≡ cutting.Line text → Going c d u v → Cuts r d v e x → Keeps r v x → Turns (Some text) c u e x
-told c d e u v x r text is going cuts keeps = λ w s h cs st su lawful.
-    let g = going.goes w s h cs st su lawful in
+told c d e u v x r text is going cuts keeps = λ w s h cs st su.
+    let g = going.goes w s h cs st su in
     let did = subst (λ (y : Cutting). DidCut y v w g.slot h cs e x) is (cuts w g.slot h cs g.cell g.client) in
     let kept = subst (λ (y : Cutting). Keeps y v x) is keeps in
-    subst (λ (y : Subscribed). DidTurn y w h cs (turn h w s cs) (Some text) e x) going.same (tells w s h cs d e v x text lawful g did kept)
+    subst (λ (y : Subscribed). DidTurn y w h cs (turn h w s cs) (Some text) e x) going.same (tells w s h cs d e v x text g did kept)
 
 pub more_going : (c d e : Held) (u v x : Subscribed) (r : Cutting) → r ≡ cutting.Silent → Going c d u v → Cuts r d v e x → Keeps r v x → HasSlot e 1 → e.item.shape ≡ d.item.shape → Going c e u x
 more_going c d e u v x r is going cuts keeps slot shape =
@@ -122,7 +121,7 @@ more_going c d e u v x r is going cuts keeps slot shape =
       slot = slot;
       shape = shape ∙ going.shape;
       same = subst (λ (y : Cutting). Keeps y v x) is keeps ∙ going.same;
-      goes = λ w s h cs st su lawful.
-          let g = going.goes w s h cs st su lawful in
-          goes_on w s h cs d e v x lawful g (subst (λ (y : Cutting). DidCut y v w g.slot h cs e x) is (cuts w g.slot h cs g.cell g.client));
+      goes = λ w s h cs st su.
+          let g = going.goes w s h cs st su in
+          goes_on w s h cs d e v x g (subst (λ (y : Cutting). DidCut y v w g.slot h cs e x) is (cuts w g.slot h cs g.cell g.client));
     }

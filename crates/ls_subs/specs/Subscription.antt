@@ -13,11 +13,11 @@ use Rattle.ls_event.specs.Slots.{Slot, passed}
 use Rattle.ls_event.specs.Cuts.{cut}
 use Rattle.ls_mirror.specs.Client.{What, Row, Lost, Cleared, End, row_or}
 use Rattle.ls_mirror.specs.Keys.{KeyTable}
-use Rattle.ls_spec.specs.Came.{Came, came_by, whats}
-use Rattle.ls_spec.specs.Lines.{last_row, tells_text}
-use Rattle.ls_spec.specs.Tables.{InSchema, text_in, kept_of, key_told, table_at, projected_row}
-use Rattle.ls_spec.specs.Cutting.{Wanted, Turn, schema_of, changed, accepted, turn_within}
-use Rattle.ls_spec.specs.World.{keys_in}
+use Rattle.ls_world.specs.Came.{Came, came_by, whats}
+use Rattle.ls_world.specs.Lines.{last_row, tells_text}
+use Rattle.ls_world.specs.Tables.{InSchema, text_in, kept_of, key_told, table_at, projected_row}
+use Rattle.ls_world.specs.Cutting.{Wanted, Turn, schema_of, changed, accepted, turn_within}
+use Rattle.ls_world.specs.World.{keys_in}
 use Rattle.ls_cell.specs.Cell.{Held, StandsCell}
 use Rattle.ls_subs.specs.declared.schema.KeyPlaces.{KeyPlaces}
 use Rattle.ls_subs.specs.declared.subscription.Cutting.{Cutting}

@@ -2,7 +2,7 @@
 ghost use Rattle.std.specs.Prelude.{◌≡◌, ◌≤◌, [], Some, codes, IfOk, if◌then◌else◌};
 ghost use Rattle.ls_line.specs.declared.line.Line.TheVariants as line;
 ghost use Rattle.ls_line.specs.Lines.{text_of};
-ghost use Rattle.ls_spec.specs.Lines.{Begins, Configures, line_text};
+ghost use Rattle.ls_world.specs.Lines.{Begins, Configures, line_text};
 ghost use Rattle.ls_update.specs.Fields.{spelled};
 ghost use Rattle.ls_update.specs.Writing.{row_behind};
 ghost use Rattle.ls_subs.specs.Subscription.{keys_of};
@@ -119,6 +119,3 @@ pub fn plain(alloc: Global, text: &str) -> Result<Text, NoMemory>
     let copied = String::from_str(alloc, text)?;
     Ok(Text::from_string(copied))
 }
-
-#[cfg(test)]
-mod tests;

@@ -2,7 +2,7 @@
 ghost use Rattle.std.specs.Prelude.{◌≡◌, IfOk, set};
 ghost use Rattle.ls_value.specs.Values.{cell_at, nulls, projected, projected_cells, row_eq, value_at, value_eq};
 ghost use Rattle.ls_value.specs.declared.row.Value.TheVariants as field_value;
-ghost use Rattle.ls_spec.specs.Tables.{text_in, kept_of, with_word, delete_row};
+ghost use Rattle.ls_world.specs.Tables.{text_in, kept_of, with_word, delete_row};
 ghost use Rattle.ls_subs.specs.Subscription.{seen_keys};
 
 use ls_value::{Cell, Cells, NoMemory, Places, Row, Text, Value, same_bytes, same_value};

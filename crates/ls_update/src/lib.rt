@@ -8,6 +8,3 @@ pub mod writing;
 pub use law::{a_written_row_is_read, tokens_have_one_answer};
 pub use reading::{ReadRefused, read};
 pub use writing::write;
-
-#[cfg(test)]
-mod tests;

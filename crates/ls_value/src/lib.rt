@@ -8,6 +8,3 @@ pub mod text;
 pub use lists::{Names, Places};
 pub use row::{Cell, Cells, Row, Value, apply, apply_owned, project, same, same_value, weight};
 pub use text::{Bytes, NoMemory, Text, TextRefused, same_bytes};
-
-#[cfg(test)]
-mod tests;

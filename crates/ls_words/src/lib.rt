@@ -8,6 +8,3 @@ pub mod pieces;
 pub use names::{is_name, name_of};
 pub use numbers::number_in;
 pub use pieces::{divided, first_piece, split_once};
-
-#[cfg(test)]
-mod tests;

@@ -6,16 +6,13 @@ use Rattle.ls_script.specs.declared.step.Step.TheVariants as step
 use Rattle.ls_script.specs.declared.step.Repeat.{Repeat}
 use Rattle.ls_script.specs.Grammar.{Known, known_after, is_skipped, line_of}
 use Rattle.ls_script.specs.Ranges.{Fits}
-use Rattle.ls_spec.specs.declared.Refused.{Refused}
-use Rattle.ls_spec.specs.declared.Refused.TheVariants.{BadScript, NotBuilt}
-use Rattle.ls_spec.specs.World.{World}
-use Rattle.ls_spec.specs.Steps.{Stepped, stays, does}
-use Rattle.ls_spec.specs.Built.{is_built}
-use Rattle.ls_spec.specs.Lawful.{LawfulRecords}
-use Rattle.ls_spec.specs.Script.{known_of, counted, step as one_step, text_of_outs, asked_by}
-use Rattle.ls_spec.proofs.Laws.{lawful_does}
-use Rattle.ls_spec.proofs.Knowing.{known_does, does_counts}
-use Rattle.ls_spec.proofs.Scripts.{in_range}
+use Rattle.ls_world.specs.declared.Refused.{Refused}
+use Rattle.ls_world.specs.declared.Refused.TheVariants.{BadScript, NotBuilt}
+use Rattle.ls_world.specs.World.{World}
+use Rattle.ls_world.specs.Steps.{Stepped, stays, does}
+use Rattle.ls_world.specs.Built.{is_built}
+use Rattle.ls_world.specs.Script.{known_of, counted, step as one_step, text_of_outs, asked_by}
+use Rattle.ls_world.proofs.Knowing.{known_does, does_counts}
 use Rattle.ls_hub.specs.Hub.{StandsHub, DidHub, HasAdapter}
 use Rattle.tlcpd.specs.Engine.{StandsEngine, Steps}
 use Rattle.ls_hub.specs.declared.hub.Hub.{Hub}
@@ -36,9 +33,6 @@ has_adapter k (step.Enqueue connection sub place) f = tt
 has_adapter k (step.Take connection) f = tt
 has_adapter k (step.Lose connection) f = tt
 
-counted_lawful : (w : World) → LawfulRecords w → LawfulRecords (counted w)
-counted_lawful w l = record { items = l.items; sessions = l.sessions }
-
 counted_hub : (h : Hub) (w : World) → StandsHub h w → StandsHub h (counted w)
 counted_hub h w st = record { set = st.set; connections = st.connections; parts = record { all = st.parts.all; leads = st.parts.leads } }
 
@@ -50,13 +44,13 @@ read_is k w line r known skips is =
 pub line_skipped : (e : Engine) (w : World) (line : List ℕ) → is_skipped line ≡ true → StandsEngine e w → Steps (one_step w line) [] (record e { line = e.line + 1 })
 line_skipped e w line skips st =
     subst (λ (b : Bool). Steps (cond b (Ok (stays (counted w) [])) (asked_by (counted w) (line_of (known_of w) line))) [] (record e { line = e.line + 1 })) (sym skips)
-    (refl, record { line = ap (λ n. n + 1) st.line; known = st.known; hub = counted_hub e.hub w st.hub; lawful = counted_lawful w st.lawful })
+    (refl, record { line = ap (λ n. n + 1) st.line; known = st.known; hub = counted_hub e.hub w st.hub })
 
-pub line_did : (e e' : Engine) (w : World) (line : List ℕ) (s : Step) (times : ℕ) (text : List ℕ) (outs : List Out) → is_skipped line ≡ false → line_of e.script line ≡ Some (record { step = s; times = times }) → Fits e.script s
+pub line_did : (e e' : Engine) (w : World) (line : List ℕ) (s : Step) (times : ℕ) (text : List ℕ) (outs : List Out) → is_skipped line ≡ false → line_of e.script line ≡ Some (record { step = s; times = times })
     → e'.line ≡ e.line + 1 → e'.script ≡ known_after e.script s → text ≡ text_of_outs outs
-    → ((v : World) → StandsHub e.hub v → LawfulRecords v → e.line + 1 ≡ v.line → (is_built v s ≡ true) × DidHub (does v s times) outs e'.hub) → StandsEngine e w → Steps (one_step w line) text e'
-line_did e e' w line s times text outs skips is fits number known says did st =
-    let d : (is_built (counted w) s ≡ true) × DidHub (does (counted w) s times) outs e'.hub = did (counted w) (counted_hub e.hub w st.hub) (counted_lawful w st.lawful) (ap (λ n. n + 1) st.line) in
+    → ((v : World) → StandsHub e.hub v → e.line + 1 ≡ v.line → (is_built v s ≡ true) × DidHub (does v s times) outs e'.hub) → StandsEngine e w → Steps (one_step w line) text e'
+line_did e e' w line s times text outs skips is number known says did st =
+    let d : (is_built (counted w) s ≡ true) × DidHub (does (counted w) s times) outs e'.hub = did (counted w) (counted_hub e.hub w st.hub) (ap (λ n. n + 1) st.line) in
     let made : one_step w line ≡ Ok (does (counted w) s times) =
     read_is e.script w line (record { step = s; times = times }) st.known skips is ∙ ap (λ b. cond b (Ok (does (counted w) s times)) (Err NotBuilt)) d.0 in
     subst (λ (r : Result Stepped Refused). Steps r text e') (sym made) (
@@ -65,7 +59,6 @@ line_did e e' w line s times text outs skips is fits number known says did st =
         line = number ∙ ap (λ n. n + 1) st.line ∙ sym (does_counts (counted w) s times);
         known = known ∙ ap (λ k. known_after k s) st.known ∙ sym (known_does (counted w) s times);
         hub = d.1.stands;
-        lawful = lawful_does (counted w) s times (in_range e.script s fits) (counted_lawful w st.lawful);
       },
     )
 

@@ -4,10 +4,10 @@ use Rattle.std.proofs.lemmas.List.{take-append-drop}
 use Rattle.std.specs.Prelude.{Result, Ok, Err}
 use Rattle.std.specs.Io.KnownBytes.{Appends}
 use Rattle.ls_outside.proofs.Bytes.{appends_on}
-use Rattle.ls_spec.specs.declared.Refused.{Refused}
-use Rattle.ls_spec.specs.World.{World}
-use Rattle.ls_spec.specs.Steps.{Stepped}
-use Rattle.ls_spec.specs.Script.{step, whole_from, rest_from, text_of, text_of_outs, world_of, done, first_refused, IsPrefix, last_line}
+use Rattle.ls_world.specs.declared.Refused.{Refused}
+use Rattle.ls_world.specs.World.{World}
+use Rattle.ls_world.specs.Steps.{Stepped}
+use Rattle.ls_world.specs.Script.{step, whole_from, rest_from, text_of, text_of_outs, world_of, done, first_refused, IsPrefix, last_line}
 use Rattle.tlcpd.specs.declared.engine.Engine.{Engine}
 use Rattle.tlcpd.specs.Engine.{StandsEngine, Steps}
 use Rattle.tlcpd.specs.Replay.{Midway, midway_after, line_after, kept_after, Met, Feeds, Puts, Holding, StandsFor, EndsNoLine}

@@ -4,7 +4,7 @@ use Rattle.std.specs.Prelude.{Option, None, Some, MatchOption}
 use Rattle.std.proofs.lemmas.List.{take_all, length-drop}
 use Rattle.std.proofs.lemmas.Bool.{eqb-true, eqb-false}
 use Rattle.memchr.specs.Find.{IsFirstByte, is_byte}
-use Rattle.ls_spec.specs.Script.{whole_from, rest_from, last_line}
+use Rattle.ls_world.specs.Script.{whole_from, rest_from, last_line}
 use Rattle.tlcpd.specs.Replay.{Midway, midway_after, line_after, kept_after, EndsNoLine}
 use Rattle.tlcpd.proofs.ScriptLines.{whole_from-append, rest_from-append}
 

@@ -3,10 +3,10 @@ use Rattle.std.proofs.Common.{◌≡◌, ℕ, ◌+◌, List, [], ◌++◌, refl,
 use Rattle.std.specs.Io.KnownBytes.{Consumes, Keeps, IsAtEnd}
 use Rattle.ls_outside.specs.Causes.{Rose, RoseBy}
 use Rattle.ls_outside.proofs.Bytes.{appends_on, consumes_on}
-use Rattle.ls_spec.specs.declared.Refused.TheVariants.{BadScript, NotBuilt}
-use Rattle.ls_spec.specs.World.{empty}
-use Rattle.ls_spec.specs.Script.{whole_from, rest_from, last_line, lines_of, done}
-use Rattle.ls_spec.proofs.Scripts.{lawful_script}
+use Rattle.ls_world.specs.declared.Refused.TheVariants.{BadScript, NotBuilt}
+use Rattle.ls_world.specs.World.{empty}
+use Rattle.ls_world.specs.Script.{whole_from, rest_from, last_line, lines_of, done}
+use Rattle.ls_laws.proofs.Scripts.{lawful_script}
 use Rattle.tlcpd.specs.Replay.{Midway, midway_after, Met, Feeds, before, Holding, StandsFor}
 use Rattle.tlcpd.specs.Ran.{Going, Ran, Outcome, DidAll, status_at}
 use Rattle.tlcpd.specs.declared.running.Status.TheVariants as status

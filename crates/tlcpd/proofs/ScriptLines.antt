@@ -1,10 +1,10 @@
 -- Lines of texts one after another, and runs of lists of lines one after another.
 use Rattle.std.proofs.Common.{◌≡◌, ◌==◌, ℕ, ◌+◌, ◌<◌, List, [], ◌∷◌, ◌++◌, length, refl, sym, ◌∙◌, ap, arith, append_assoc, true, false, cond, suc}
 use Rattle.std.specs.Prelude.{Result, Ok, Err}
-use Rattle.ls_spec.specs.declared.Refused.{Refused}
-use Rattle.ls_spec.specs.World.{World}
-use Rattle.ls_spec.specs.Steps.{Stepped}
-use Rattle.ls_spec.specs.Script.{step, whole_from, rest_from, and_then, text_of, text_of_outs, world_of, done, first_refused, IsPrefix}
+use Rattle.ls_world.specs.declared.Refused.{Refused}
+use Rattle.ls_world.specs.World.{World}
+use Rattle.ls_world.specs.Steps.{Stepped}
+use Rattle.ls_world.specs.Script.{step, whole_from, rest_from, and_then, text_of, text_of_outs, world_of, done, first_refused, IsPrefix}
 
 pub whole_from-append : (carry xs ys : List ℕ) → whole_from carry (xs ++ ys) ≡ whole_from carry xs ++ whole_from (rest_from carry xs) ys
 whole_from-append carry [] ys = refl

@@ -2,12 +2,11 @@
 use Rattle.std.specs.Prelude.{◌≡◌, ℕ, List, Result, Ok, Err}
 use Rattle.ls_script.specs.declared.script.ScriptRefused.{ScriptRefused}
 use Rattle.ls_script.specs.declared.script.ScriptRefused.TheVariants as script
-use Rattle.ls_spec.specs.declared.Refused.{Refused}
-use Rattle.ls_spec.specs.declared.Refused.TheVariants.{BadScript, NotBuilt}
-use Rattle.ls_spec.specs.World.{World}
-use Rattle.ls_spec.specs.Steps.{Stepped}
-use Rattle.ls_spec.specs.Lawful.{LawfulRecords}
-use Rattle.ls_spec.specs.Script.{known_of, text_of_outs}
+use Rattle.ls_world.specs.declared.Refused.{Refused}
+use Rattle.ls_world.specs.declared.Refused.TheVariants.{BadScript, NotBuilt}
+use Rattle.ls_world.specs.World.{World}
+use Rattle.ls_world.specs.Steps.{Stepped}
+use Rattle.ls_world.specs.Script.{known_of, text_of_outs}
 use Rattle.ls_hub.specs.Hub.{StandsHub}
 use Rattle.tlcpd.specs.declared.engine.Engine.{Engine}
 use Rattle.tlcpd.specs.declared.engine.LineRefused.{LineRefused}
@@ -15,12 +14,11 @@ use Rattle.tlcpd.specs.declared.engine.LineRefused.TheVariants as line
 use Rattle.ls_hub.specs.declared.hub.StepRefused.{StepRefused}
 use Rattle.ls_hub.specs.declared.hub.StepRefused.TheVariants as step
 
--- an engine stands for a world, which is lawful
+-- an engine stands for a world
 pub record StandsEngine (e : Engine) (w : World) : Type 0 where
   pub line : e.line ≡ w.line
   pub known : e.script ≡ known_of w
   pub hub : StandsHub e.hub w
-  pub lawful : LawfulRecords w
 
 -- a step is made and prints this text, and the engine stands for the world after it
 abbrev pub Steps : Result Stepped Refused → List ℕ → Engine → Type 0

@@ -2,11 +2,11 @@
 use Rattle.std.specs.Prelude.{◌≡◌, ℕ, ◌+◌, ◌≤◌, List, [], ◌∷◌, ◌++◌, length, Bool, true, false, Option, Some, codes}
 use Rattle.std.specs.Fmt.{decimal}
 use Rattle.std.specs.Io.KnownBytes.{Consumes, Appends, IsAtEnd}
-use Rattle.ls_spec.specs.declared.Refused.{Refused}
-use Rattle.ls_spec.specs.declared.Refused.TheVariants.{BadScript, NotBuilt}
-use Rattle.ls_spec.specs.World.{empty}
-use Rattle.ls_spec.specs.Lawful.{Lawful}
-use Rattle.ls_spec.specs.Script.{lines_of, text_of, world_of, done, first_refused, whole_from, IsPrefix}
+use Rattle.ls_world.specs.declared.Refused.{Refused}
+use Rattle.ls_world.specs.declared.Refused.TheVariants.{BadScript, NotBuilt}
+use Rattle.ls_world.specs.World.{empty}
+use Rattle.ls_world.specs.Lawful.{Lawful}
+use Rattle.ls_world.specs.Script.{lines_of, text_of, world_of, done, first_refused, whole_from, IsPrefix}
 use Rattle.tlcpd.specs.Replay.{midway_after, Feeds, before, Holding, StandsFor}
 use Rattle.tlcpd.specs.declared.running.Status.{Status}
 use Rattle.tlcpd.specs.declared.running.Status.TheVariants as status

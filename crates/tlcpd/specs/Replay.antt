@@ -1,8 +1,8 @@
 -- A replay in the middle of its script.
 use Rattle.std.specs.Prelude.{◌≡◌, ◌==◌, ℕ, ◌+◌, ◌<◌, List, [], ◌∷◌, ◌++◌, length, take, Option, Some, false}
 use Rattle.std.specs.Io.KnownBytes.{Appends}
-use Rattle.ls_spec.specs.World.{World, empty}
-use Rattle.ls_spec.specs.Script.{whole_from, rest_from, text_of, world_of, done, first_refused, IsPrefix}
+use Rattle.ls_world.specs.World.{World, empty}
+use Rattle.ls_world.specs.Script.{whole_from, rest_from, text_of, world_of, done, first_refused, IsPrefix}
 use Rattle.tlcpd.specs.declared.engine.Engine.{Engine}
 use Rattle.tlcpd.specs.Engine.{StandsEngine}
 use Rattle.tlcpd.specs.declared.replay.Fed.{Fed}

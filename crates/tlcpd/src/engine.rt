@@ -1,14 +1,14 @@
 //! The engine: one line of a script at a time.
 ghost use Rattle.std.specs.Prelude.{◌≡◌, Err, IfOk, IsErrOf};
-ghost use Rattle.ls_spec.specs.declared.Refused.{Refused as LineCause};
-ghost use Rattle.ls_spec.specs.World.{World, empty};
-ghost use Rattle.ls_spec.specs.Script.{step, text_of_outs};
+ghost use Rattle.ls_world.specs.declared.Refused.{Refused as LineCause};
+ghost use Rattle.ls_world.specs.World.{World, empty};
+ghost use Rattle.ls_world.specs.Script.{step, text_of_outs};
 ghost use Rattle.tlcpd.specs.Engine.{StandsEngine, Steps};
 
 use ls_hub::{Hub, StepRefused};
 use ls_script::{Out, Repeat, Script, ScriptRefused, print};
-use ls_spec::Refused;
 use ls_value::NoMemory;
+use ls_world::Refused;
 use std::alloc::Global;
 
 /// Why a line isn't done.
@@ -59,9 +59,11 @@ impl From<NoMemory> for LineRefused {
     }
 }
 
-/// What the lines so far made: their number, what they declared, and the hub.
+/// What the lines so far made: their number, what they declared, and the hub. It keeps the allocator that it was made
+/// with.
 #[derive(Drop)]
 pub struct Engine {
+    alloc: Global,
     line: u64,
     script: Script,
     hub: Hub,
@@ -73,6 +75,7 @@ impl Engine {
         ensures { IfOk result (λ e. StandsEngine e empty) }
     {
         Ok(Engine {
+            alloc,
             line: 0,
             script: Script::new(alloc)?,
             hub: Hub::new(alloc)?,
@@ -81,7 +84,7 @@ impl Engine {
 
     /// Does a line of the script, and gives what it prints. After an error nothing is known of the engine.
     /// A script of 2^64 - 1 lines ends as want of memory.
-    pub fn line(&mut self, alloc: Global, line: &[u8]) -> Result<Vec<u8>, LineRefused>
+    pub fn line(&mut self, line: &[u8]) -> Result<Vec<u8>, LineRefused>
         ensures ok { IfOk result (λ text. (w : World) → StandsEngine self.old w → Steps (step w line.now) text.items self.new) }
         ensures refused { (r : LineCause) → IsErrOf result (LineRefused.Line r) → (w : World) → StandsEngine self.old w → step w line.now ≡ Err r }
     {
@@ -91,10 +94,10 @@ impl Engine {
         let asked = self.script.read(line)?;
         self.line += 1;
         match asked {
-            None => Ok(Vec::new(alloc)),
+            None => Ok(Vec::new(self.alloc)),
             Some(Repeat { step, times }) => {
-                let outs = self.hub.step(alloc, self.line, step, times)?;
-                let text = printed(alloc, &outs)?;
+                let outs = self.hub.step(self.line, step, times)?;
+                let text = printed(self.alloc, &outs)?;
                 Ok(text)
             }
         }

@@ -26,6 +26,18 @@ replay   reads a script from standard input, does its lines one by one,
          and writes what they print to standard output
 
 Example: tlcpd replay <script
+
+A script is text in UTF-8 whose lines end with LF alone (no CR, no byte-order
+mark). docs/SCRIPT.md has each line, note, request and limit.
+
+Status   0  the script was read to its end, and each line was done
+         2  the words are no command
+         3  a line is outside the grammar, or names what isn't declared
+         4  a read failed
+         5  a write failed
+         6  memory was refused
+         9  a line asks for what isn't built yet
+Standard error has the cause, with the line's number at 3 and 9.
 ";
 
 /// What `--version` shows.

@@ -1,15 +1,15 @@
 //! A script in the middle of its run: pieces of its bytes come, and its lines are done as they end.
 ghost use Rattle.std.specs.Prelude.{◌≡◌, ◌+◌, ◌<◌, ◌≤◌, [], ◌∷◌, ◌++◌, ◌⊎◌, ⊤, length, slice_index, take, MatchOption, IfOk};
-ghost use Rattle.ls_spec.specs.World.{World};
-ghost use Rattle.ls_spec.specs.Script.{whole_from, last_line, world_of};
+ghost use Rattle.ls_world.specs.World.{World};
+ghost use Rattle.ls_world.specs.Script.{whole_from, last_line, world_of};
 ghost use Rattle.ls_outside.specs.Causes.{Rose};
 ghost use Rattle.tlcpd.specs.Engine.{StandsEngine};
 ghost use Rattle.tlcpd.specs.Replay.{Midway, before, midway_after, line_after, kept_after, StandsFor, Feeds, Puts, EndsNoLine};
 
 use crate::engine::{Engine, LineRefused};
 use ls_outside::{Put, Sink, write_all};
-use ls_spec::Refused;
 use ls_value::NoMemory;
+use ls_world::Refused;
 use memchr::memchr;
 use std::alloc::Global;
 use std::marker::Model;
@@ -72,7 +72,7 @@ impl Replay {
     }
 
     /// Takes the rest of a line, which has ended, and does the line.
-    fn line<K: Sink>(&mut self, alloc: Global, sink: &mut K, rest: &[u8]) -> Fed
+    fn line<K: Sink>(&mut self, sink: &mut K, rest: &[u8]) -> Fed
         ensures feeds { (m : Midway) → StandsFor self.old m → Feeds result m ((m.carry ++ rest.now) ∷ []) (K.held sink.old) (K.held sink.new) }
         ensures all { result ≡ Fed.All → (m : Midway) → StandsFor self.old m → StandsFor self.new (line_after m rest.now) }
         ensures cause { result ≡ Fed.WriteFault → Rose (K.faults sink.old) (K.faults sink.new) }
@@ -83,12 +83,12 @@ impl Replay {
         }
         self.count += 1;
         if self.carry.is_empty() {
-            return done(&mut self.engine, alloc, sink, rest, self.count);
+            return done(&mut self.engine, sink, rest, self.count);
         }
         if self.carry.extend_from_slice(rest).is_err() {
             return Fed::NoMemory;
         }
-        let fed = done(&mut self.engine, alloc, sink, &self.carry, self.count);
+        let fed = done(&mut self.engine, sink, &self.carry, self.count);
         self.carry.clear();
         fed
     }
@@ -108,7 +108,7 @@ impl Replay {
 impl Replay {
     /// Takes a piece of the script. Each line that ends in it is done, and what it prints is written before the next
     /// one is done.
-    pub fn feed<K: Sink>(&mut self, alloc: Global, sink: &mut K, piece: &[u8]) -> Fed
+    pub fn feed<K: Sink>(&mut self, sink: &mut K, piece: &[u8]) -> Fed
         ensures feeds { (m : Midway) → StandsFor self.old m → Feeds result m (whole_from m.carry piece.now) (K.held sink.old) (K.held sink.new) }
         ensures all { result ≡ Fed.All → (m : Midway) → StandsFor self.old m → StandsFor self.new (midway_after m piece.now) }
         ensures cause { result ≡ Fed.WriteFault → Rose (K.faults sink.old) (K.faults sink.new) }
@@ -116,7 +116,7 @@ impl Replay {
     {
         let mut rest = piece;
         while let Some(len) = line_len(rest) {
-            match self.line(alloc, sink, &rest[..len]) {
+            match self.line(sink, &rest[..len]) {
                 Fed::All => rest = &rest[len + 1..],
                 stopped => return stopped,
             }
@@ -125,7 +125,7 @@ impl Replay {
     }
 
     /// Takes the end of the script: a rest that isn't empty is its last line.
-    pub fn finish<K: Sink>(mut self, alloc: Global, sink: &mut K) -> Fed
+    pub fn finish<K: Sink>(mut self, sink: &mut K) -> Fed
         ensures feeds { (m : Midway) → StandsFor self m → Feeds result m (last_line m.carry) (K.held sink.old) (K.held sink.new) }
         ensures cause { result ≡ Fed.WriteFault → Rose (K.faults sink.old) (K.faults sink.new) }
         ensures later { K.faults sink.old ≤ K.faults sink.new }
@@ -133,7 +133,7 @@ impl Replay {
         if self.carry.is_empty() {
             return Fed::All;
         }
-        self.line(alloc, sink, b"")
+        self.line(sink, b"")
     }
 }
 
@@ -146,13 +146,13 @@ fn line_len(bytes: &[u8]) -> Option<usize>
 }
 
 /// Does a line of this number, and writes what it prints.
-fn done<K: Sink>(engine: &mut Engine, alloc: Global, sink: &mut K, line: &[u8], number: u64) -> Fed
+fn done<K: Sink>(engine: &mut Engine, sink: &mut K, line: &[u8], number: u64) -> Fed
     ensures feeds { (m : Midway) → StandsEngine engine.old m.world → number ≡ m.count + 1 → Feeds result m (line.now ∷ []) (K.held sink.old) (K.held sink.new) }
     ensures all { result ≡ Fed.All → (w : World) → StandsEngine engine.old w → StandsEngine engine.new (world_of w (line.now ∷ [])) }
     ensures cause { result ≡ Fed.WriteFault → Rose (K.faults sink.old) (K.faults sink.new) }
     ensures later { K.faults sink.old ≤ K.faults sink.new }
 {
-    match engine.line(alloc, line) {
+    match engine.line(line) {
         Ok(text) => put(sink, &text),
         Err(LineRefused::Line(refused)) => Fed::Stopped {
             refused,

@@ -7,8 +7,8 @@ ghost use Rattle.tlcpd.specs.Replay.{StandsFor, before};
 
 use crate::replay::{Fed, Replay};
 use ls_outside::{Got, Sink, Source};
-use ls_spec::Refused;
 use ls_value::NoMemory;
+use ls_world::Refused;
 use std::alloc::Global;
 use std::fmt;
 use std::sync::Wait;
@@ -129,7 +129,7 @@ fn run_script<R: Wait, S: Source, K: Sink>(
     ensures write_fault { result ≡ Status.WriteFault → Rose (K.faults sink.old) (K.faults sink.new) }
 {
     match Replay::new(alloc) {
-        Ok(replay) => play(rt, alloc, source, sink, replay),
+        Ok(replay) => play(rt, source, sink, replay),
         Err(NoMemory) => Status::NoMemory,
     }
 }
@@ -137,7 +137,6 @@ fn run_script<R: Wait, S: Source, K: Sink>(
 /// Reads a script to its end, from before its first byte.
 fn play<R: Wait, S: Source, K: Sink>(
     rt: &R,
-    alloc: Global,
     source: &mut S,
     sink: &mut K,
     mut replay: Replay,
@@ -154,12 +153,12 @@ fn play<R: Wait, S: Source, K: Sink>(
         match source.read(&mut piece) {
             Got::Bytes(count) => {
                 idles = 0;
-                match replay.feed(alloc, sink, &piece[..count]) {
+                match replay.feed(sink, &piece[..count]) {
                     Fed::All => {}
                     stopped => return status_of(stopped),
                 }
             }
-            Got::End => return status_of(replay.finish(alloc, sink)),
+            Got::End => return status_of(replay.finish(sink)),
             Got::NotYet => {
                 idles += 1;
                 if idles >= MAX_IDLES {
@@ -194,6 +193,8 @@ pub fn run<R: Wait, S: Source, K: Sink>(
     run_script(rt, alloc, source, sink)
 }
 
+#[cfg(test)]
+mod longest;
 #[cfg(test)]
 mod tests;
 #[cfg(test)]

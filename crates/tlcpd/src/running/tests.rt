@@ -1,44 +1,27 @@
-//! Runs over memory: that they succeed with ample memory, worked rows, and reads and writes that fail at each call.
+//! Runs over memory: worked scripts, the greatest sizes, and reads and writes that fail, at each place in turn.
 use super::*;
-use crate::running::worked::{REFUSED, Row, WORKED};
+use crate::running::longest::{BACKLOG, BYTES, KEYS, Long, RAW_256, RAW_300, SILENT, text_of};
+use crate::running::worked::{QUOTE, QUOTE_PRINTED, REFUSED, Row, WORKED};
 use crate::tests::words_of;
 use ls_outside::{Call, MemSink, MemSource};
 use std::alloc::AllocError;
 use std::test::Fail;
 
-/// A script whose lines are done, and what it prints.
-const SCRIPT: &[u8] = b"item quote MERGE last,time
-open c
-add c 1 quote last,time MERGE
-pub 1 1 quote last=3.04&time=20:00:33
-enq c 1 1
-take c 9
-";
-
-const PRINTED: &[u8] = b"c:REQOK,3
--no 1
--moved 1
-c:CONOK,S1,50000,5000,*
-c:SERVNAME,tlcpd
-c:CONS,unlimited
-c:SUBOK,1,1,2
-c:CONF,1,unlimited,filtered
-c:U,1,1,3.04|20:00:33
--idle
-";
+/// How so many calls of a source or a sink go.
+type Calls = (Call, usize);
 
 /// A script in memory: what it is, where it is cut, how its reads and writes go, and what is to come of it.
 struct Case {
     script: &'static [u8],
     cuts: &'static [usize],
-    reads: &'static [(Call, usize)],
-    writes: &'static [(Call, usize)],
+    reads: &'static [Calls],
+    writes: &'static [Calls],
     status: Status,
     written: &'static [u8],
 }
 
-/// Calls that go so, each this often.
-fn calls_of(alloc: Global, runs: &[(Call, usize)]) -> Result<Vec<Call>, AllocError> {
+/// Calls that go so.
+fn calls_of(alloc: Global, runs: &[Calls]) -> Result<Vec<Call>, AllocError> {
     let mut calls = Vec::new(alloc);
     for (call, times) in runs {
         for _ in 0..*times {
@@ -48,102 +31,78 @@ fn calls_of(alloc: Global, runs: &[(Call, usize)]) -> Result<Vec<Call>, AllocErr
     Ok(calls)
 }
 
+/// A source of a script in memory.
+fn source_of(
+    alloc: Global,
+    script: &[u8],
+    cuts: &[usize],
+    reads: &[Calls],
+) -> Result<MemSource, AllocError> {
+    let script = Vec::from_slice(alloc, script)?;
+    let cuts = Vec::from_slice(alloc, cuts)?;
+    Ok(MemSource::new(script, cuts, calls_of(alloc, reads)?))
+}
+
 /// Runs a script over memory. Answers the status and the sink.
 fn played<R: Wait>(
     rt: &R,
     alloc: Global,
-    script: &[u8],
-    cuts: &[usize],
-    reads: &[(Call, usize)],
-    writes: &[(Call, usize)],
+    mut source: MemSource,
+    writes: &[Calls],
 ) -> Result<(Status, MemSink), AllocError> {
     let words = words_of(alloc, &["replay"])?;
-    let script = Vec::from_slice(alloc, script)?;
-    let cuts = Vec::from_slice(alloc, cuts)?;
-    let mut source = MemSource::new(script, cuts, calls_of(alloc, reads)?);
     let mut sink = MemSink::new(alloc, calls_of(alloc, writes)?);
     let status = run(rt, alloc, &words, &mut source, &mut sink);
     Ok((status, sink))
 }
 
-/// Scripts without a fault of the outside.
-const SCRIPTS: [Case; 9] = [
+/// Whether a case ends as it says.
+fn holds<R: Wait>(rt: &R, alloc: Global, case: &Case) -> Result<bool, AllocError> {
+    let source = source_of(alloc, case.script, case.cuts, case.reads)?;
+    let (status, sink) = played(rt, alloc, source, case.writes)?;
+    Ok(status == case.status && sink.bytes() == case.written)
+}
+
+/// Whether a script that is read and written without a fault ends so, and prints this.
+fn prints<R: Wait>(
+    rt: &R,
+    alloc: Global,
+    script: &[u8],
+    status: Status,
+    printed: &[u8],
+) -> Result<bool, AllocError> {
+    let source = source_of(alloc, script, &[], &[])?;
+    let (ended, sink) = played(rt, alloc, source, &[])?;
+    Ok(ended == status && sink.bytes() == printed)
+}
+
+/// The first row that is answered otherwise, by its place from 0.
+fn first_unlike<R: Wait>(rt: &R, alloc: Global, rows: &[Row]) -> Result<Option<usize>, AllocError> {
+    for (place, (script, status, printed)) in rows.iter().enumerate() {
+        if !prints(rt, alloc, script, *status, printed)? {
+            return Ok(Some(place));
+        }
+    }
+    Ok(None)
+}
+
+#[test]
+fn worked_scripts(rt: HostRuntime) -> Result<(), Fail> {
+    assert!(rt; first_unlike(&rt, rt.alloc(), &WORKED)?.is_none());
+    assert!(rt; first_unlike(&rt, rt.alloc(), &REFUSED)?.is_none());
+    Ok(())
+}
+
+/// Scripts that come in parts, whose reads find no byte for long, or whose reads or writes fail.
+const CASES: [Case; 6] = [
     Case {
-        script: SCRIPT,
-        cuts: &[],
-        reads: &[],
-        writes: &[],
-        status: Status::Ok,
-        written: PRINTED,
-    },
-    Case {
-        script: SCRIPT,
+        script: QUOTE,
         cuts: &[1, 26, 27, 28, 33, 34],
         reads: &[(Call::Part(7), 9)],
         writes: &[(Call::Part(1), 1), (Call::Part(3), 1), (Call::Part(0), 1)],
         status: Status::Ok,
-        written: PRINTED,
+        written: QUOTE_PRINTED,
     },
-    Case {
-        script: b"",
-        cuts: &[],
-        reads: &[],
-        writes: &[],
-        status: Status::Ok,
-        written: b"",
-    },
-    Case {
-        script: b"# a\n\n#",
-        cuts: &[],
-        reads: &[],
-        writes: &[],
-        status: Status::Ok,
-        written: b"",
-    },
-    Case {
-        script: b"item q MERGE x\npub 1 1 q x=A",
-        cuts: &[20],
-        reads: &[],
-        writes: &[],
-        status: Status::Ok,
-        written: b"-no 1\n",
-    },
-    Case {
-        script: b"# a\nitem q MERGE x\npub 1 1 q x=A\nstop\npub 1 2 q x=B\n",
-        cuts: &[20],
-        reads: &[],
-        writes: &[],
-        status: Status::BadScript { line: 4 },
-        written: b"-no 1\n",
-    },
-    Case {
-        script: b"item q MERGE x\nopen c\nadd c 1 q x MERGE\npub 1 1 q x=A\nenq c 1 1\ntake c 9\npub 1 2 q x=B\npub 1 3 q x=A\nenq c 1 1 2\ntake c",
-        cuts: &[],
-        reads: &[],
-        writes: &[],
-        status: Status::Ok,
-        written: b"c:REQOK,3\n-no 1\n-moved 1\nc:CONOK,S1,50000,5000,*\nc:SERVNAME,tlcpd\nc:CONS,unlimited\nc:SUBOK,1,1,1\nc:CONF,1,unlimited,filtered\nc:U,1,1,A\n-idle\n-no 2\n-no 3\n-moved 2\n-moved 3\n-idle\n",
-    },
-    Case {
-        script: b"item q MERGE x\npub 1 5 q x=1\npub 1 5 q x=1\n",
-        cuts: &[],
-        reads: &[],
-        writes: &[],
-        status: Status::Ok,
-        written: b"-no 1\n-repeated 5\n",
-    },
-    Case {
-        script: b"item q MERGE x\nopen c\nenq c 1 1\nadd c 1 q x MERGE\nenq c 1 1\npub 1 1 q x=A\nenq c 1 1 3\nenq c 1 1\n",
-        cuts: &[],
-        reads: &[],
-        writes: &[],
-        status: Status::Ok,
-        written: b"-noslot\nc:REQOK,4\n-uptodate\n-no 1\n-moved 1\n-uptodate\n-uptodate\n",
-    },
-];
-
-/// Scripts whose reads or writes fail, or find no byte for long.
-const FAULTS: [Case; 5] = [
     Case {
         script: b"item q MERGE x\npub 1 1 q x=A\npub 1 2 q x=B",
         cuts: &[],
@@ -186,11 +145,10 @@ const FAULTS: [Case; 5] = [
     },
 ];
 
-/// The first case that is answered otherwise, by its place from 0.
-fn first_wrong<R: Wait>(rt: &R, alloc: Global, cases: &[Case]) -> Result<Option<usize>, Fail> {
-    for (place, case) in cases.iter().enumerate() {
-        let (status, sink) = played(rt, alloc, case.script, case.cuts, case.reads, case.writes)?;
-        if status != case.status || sink.bytes() != case.written {
+/// The first case that ends otherwise, by its place from 0.
+fn first_wrong<R: Wait>(rt: &R, alloc: Global) -> Result<Option<usize>, AllocError> {
+    for (place, case) in CASES.iter().enumerate() {
+        if !holds(rt, alloc, case)? {
             return Ok(Some(place));
         }
     }
@@ -198,16 +156,23 @@ fn first_wrong<R: Wait>(rt: &R, alloc: Global, cases: &[Case]) -> Result<Option<
 }
 
 #[test]
-fn scripts_in_memory(rt: HostRuntime) -> Result<(), Fail> {
-    assert_eq!(rt; first_wrong(&rt, rt.alloc(), &SCRIPTS)?, None);
+fn parts_and_faults(rt: HostRuntime) -> Result<(), Fail> {
+    assert!(rt; first_wrong(&rt, rt.alloc())?.is_none());
     Ok(())
 }
 
-/// The first row that is answered otherwise, by its place from 0.
-fn first_unlike<R: Wait>(rt: &R, alloc: Global, rows: &[Row]) -> Result<Option<usize>, Fail> {
-    for (place, (script, status, printed)) in rows.iter().enumerate() {
-        let (answer, sink) = played(rt, alloc, script, &[], &[], &[])?;
-        if answer != *status || sink.bytes() != *printed {
+/// Whether a script of the greatest sizes prints what it says.
+fn is_printed<R: Wait>(rt: &R, alloc: Global, long: Long) -> Result<bool, Fail> {
+    let script = text_of(alloc, long.0)?;
+    let printed = text_of(alloc, long.1)?;
+    Ok(prints(rt, alloc, &script, Status::Ok, &printed)?)
+}
+
+/// The first script of the greatest sizes that prints something else, by its place from 0.
+fn first_long_unlike<R: Wait>(rt: &R, alloc: Global) -> Result<Option<usize>, Fail> {
+    let long = [RAW_300, RAW_256, KEYS, SILENT, BACKLOG, BYTES];
+    for (place, long) in long.into_iter().enumerate() {
+        if !is_printed(rt, alloc, long)? {
             return Ok(Some(place));
         }
     }
@@ -215,174 +180,144 @@ fn first_unlike<R: Wait>(rt: &R, alloc: Global, rows: &[Row]) -> Result<Option<u
 }
 
 #[test]
-fn worked_scripts(rt: HostRuntime) -> Result<(), Fail> {
-    assert_eq!(rt; first_unlike(&rt, rt.alloc(), &WORKED)?, None);
-    assert_eq!(rt; first_unlike(&rt, rt.alloc(), &REFUSED)?, None);
+fn the_greatest_sizes(rt: HostRuntime) -> Result<(), Fail> {
+    assert!(rt; first_long_unlike(&rt, rt.alloc())?.is_none());
     Ok(())
 }
 
-#[test]
-fn faults_in_memory(rt: HostRuntime) -> Result<(), Fail> {
-    assert_eq!(rt; first_wrong(&rt, rt.alloc(), &FAULTS)?, None);
-    Ok(())
-}
+/// How many bytes are read at once where reads fail.
+const PART: usize = 64;
 
-#[test]
-fn a_script_cut_at_each_byte(rt: HostRuntime) -> Result<(), Fail> {
-    for cut in 0..SCRIPT.len() {
-        let (status, sink) = played(&rt, rt.alloc(), SCRIPT, &[cut], &[], &[])?;
-        assert_eq!(rt; status, Status::Ok, "{cut}");
-        assert_eq!(rt; sink.bytes(), PRINTED, "{cut}");
-    }
-    Ok(())
-}
-
-/// The lines of a text that have their end.
-fn ended(text: &[u8]) -> &[u8] {
-    match memchr::memrchr(b'\n', text) {
-        Some(last) => &text[..last],
+/// The lines of the bytes that so many reads give.
+fn ended(script: &[u8], reads: usize) -> &[u8] {
+    let read = &script[..script.len().min(reads.saturating_mul(PART))];
+    match memchr::memrchr(b'\n', read) {
+        Some(last) => &read[..last],
         None => &[],
     }
 }
 
-#[test]
-fn a_source_that_fails_at_each_call(rt: HostRuntime) -> Result<(), Fail> {
-    for count in 0..SCRIPT.len() / 7 {
-        let lines = ended(&SCRIPT[..count * 7]);
-        let (_, whole) = played(&rt, rt.alloc(), lines, &[], &[], &[])?;
-        let reads = [(Call::Part(7), count), (Call::Fail, 1)];
-        let (status, sink) = played(&rt, rt.alloc(), SCRIPT, &[], &reads, &[])?;
-        assert_eq!(rt; status, Status::ReadFault, "{count}");
-        assert_eq!(rt; sink.bytes(), whole.bytes(), "{count}");
+/// Runs a script whose read behind so many fails. Answers the status, and whether what is printed is as the status
+/// says.
+fn read_fails<R: Wait>(
+    rt: &R,
+    alloc: Global,
+    script: &[u8],
+    reads: usize,
+) -> Result<(Status, bool), AllocError> {
+    let calls = [(Call::Part(PART), reads), (Call::Fail, 1)];
+    let (status, sink) = played(rt, alloc, source_of(alloc, script, &[], &calls)?, &[])?;
+    let lines = if status == Status::Ok {
+        script
+    } else {
+        ended(script, reads)
+    };
+    Ok((status, prints(rt, alloc, lines, Status::Ok, sink.bytes())?))
+}
+
+/// How many reads the longest script takes, where each of them that fails is told as it must be.
+fn reads_until_ok<R: Wait>(rt: &R, alloc: Global) -> Result<Option<usize>, Fail> {
+    let script = text_of(alloc, RAW_300.0)?;
+    for reads in 0..1000 {
+        match read_fails(rt, alloc, &script, reads)? {
+            (Status::Ok, true) => return Ok(Some(reads)),
+            (Status::ReadFault, true) => {}
+            _ => return Ok(None),
+        }
     }
-    Ok(())
+    Ok(None)
 }
 
 #[test]
-fn a_source_that_idles_at_each_call(rt: HostRuntime) -> Result<(), Fail> {
-    for count in 0..SCRIPT.len() / 7 {
-        let reads = [(Call::Part(7), count), (Call::Idle, 9)];
-        let (status, sink) = played(&rt, rt.alloc(), SCRIPT, &[], &reads, &[])?;
-        assert_eq!(rt; status, Status::Ok, "{count}");
-        assert_eq!(rt; sink.bytes(), PRINTED, "{count}");
-    }
+fn each_read_fails_in_turn(rt: HostRuntime) -> Result<(), Fail> {
+    assert_eq!(rt; reads_until_ok(&rt, rt.alloc())?, Some(130));
     Ok(())
 }
 
-#[test]
-fn a_sink_that_fails_at_each_call(rt: HostRuntime) -> Result<(), Fail> {
-    for count in 0..PRINTED.len() / 7 {
-        let writes = [(Call::Part(7), count), (Call::Fail, 1)];
-        let (status, sink) = played(&rt, rt.alloc(), SCRIPT, &[], &[], &writes)?;
-        assert_eq!(rt; status == Status::Ok, sink.bytes() == PRINTED, "{count}");
-        assert_eq!(rt;
-            status == Status::WriteFault,
-            sink.bytes() != PRINTED,
-            "{count}"
-        );
-        assert!(rt; PRINTED.starts_with(sink.bytes()), "{count}");
-    }
-    Ok(())
-}
-
-/// A script of 65 publishes that a slot is behind, and what it prints.
-fn backlog(alloc: Global) -> Result<(String, String), Fail> {
-    let mut script = String::from_str(alloc, "item q MERGE x\nopen c\nadd c 1 q x MERGE\n")?;
-    let mut printed = String::from_str(alloc, "c:REQOK,3\n")?;
-    for seq in 1..66 {
-        let line = format!(in alloc; "pub 1 {seq} q x={seq}\n")?;
-        script.push_str(line.as_str())?;
-        let answer = format!(in alloc; "-no {seq}\n")?;
-        printed.push_str(if seq < 65 {
-            answer.as_str()
+/// Runs a script whose write behind so many fails. Answers the status, and how many bytes of what it prints were
+/// written, if those from the front.
+fn write_fails<R: Wait>(
+    rt: &R,
+    alloc: Global,
+    script: &[u8],
+    printed: &[u8],
+    writes: usize,
+) -> Result<(Status, Option<usize>), AllocError> {
+    let source = source_of(alloc, script, &[], &[])?;
+    let (status, sink) = played(rt, alloc, source, &[(Call::Go, writes), (Call::Fail, 1)])?;
+    let written = sink.bytes();
+    Ok((
+        status,
+        if printed.starts_with(written) {
+            Some(written.len())
         } else {
-            "-backlog 1\n"
-        })?;
-    }
-    script.push_str("enq c 1 1\npub 1 65 q x=65\n")?;
-    printed.push_str("-moved 1\n-no 65\n")?;
-    Ok((script, printed))
+            None
+        },
+    ))
 }
 
-/// 300 events in mode RAW, of which the buffer keeps the last 256, and the first lines of what is printed for them.
-fn lost(alloc: Global) -> Result<(String, String), Fail> {
-    let mut script = String::from_str(alloc, "item q MERGE x\nopen c\nadd c 1 q x RAW\n")?;
-    for seq in 1..301 {
-        let line = format!(in alloc; "pub 1 {seq} q x={seq}\nenq c 1 1\n")?;
-        script.push_str(line.as_str())?;
+/// How many writes a script takes, where each of them that fails is told as it must be.
+fn writes_of<R: Wait>(
+    rt: &R,
+    alloc: Global,
+    script: &[u8],
+    printed: &[u8],
+) -> Result<Option<usize>, AllocError> {
+    let mut next = 0;
+    for writes in 0..1000 {
+        match write_fails(rt, alloc, script, printed, writes)? {
+            (Status::Ok, Some(len)) if len == printed.len() => return Ok(Some(writes)),
+            (Status::WriteFault, Some(len)) if len >= next && len < printed.len() => next = len + 1,
+            _ => return Ok(None),
+        }
     }
-    script.push_str("take c 7\n")?;
-    let told = "c:OV,1,1,44\nc:U,1,1,45\n";
-    Ok((script, String::from_str(alloc, told)?))
+    Ok(None)
 }
 
-/// A key more than a table of mode COMMAND has.
-fn keys(alloc: Global) -> Result<String, Fail> {
-    let mut script = String::from_str(alloc, "item t COMMAND key,command\n")?;
-    for seq in 1..1026 {
-        let line = format!(in alloc; "pub 1 {seq} t key={seq}&command=ADD\n")?;
-        script.push_str(line.as_str())?;
-    }
-    Ok(script)
-}
-
-#[test]
-fn the_most_lost_and_the_most_keys(rt: HostRuntime) -> Result<(), Fail> {
-    let alloc = rt.alloc();
-    let (script, told) = lost(alloc)?;
-    let keys = keys(alloc)?;
-    let cases = [
-        (&script, told.as_str()),
-        (&keys, "-no 1023\n-no 1024\n-toomanykeys\n"),
-    ];
-    for (script, end) in cases {
-        let (status, sink) = played(&rt, alloc, script.as_bytes(), &[], &[], &[])?;
-        assert_eq!(rt; status, Status::Ok);
-        assert!(rt; sink.bytes().ends_with(end.as_bytes()));
-    }
-    Ok(())
-}
-
-/// A publish of a text of this many bytes.
-fn publish(alloc: Global, bytes: usize) -> Result<String, Fail> {
-    let mut script = String::from_str(alloc, "item q MERGE x\npub 1 1 q x=")?;
-    for _ in 0..bytes {
-        script.push('a')?;
-    }
-    Ok(script)
+/// How many writes the longest script takes, where each of them that fails is told as it must be.
+fn writes_until_ok<R: Wait>(rt: &R, alloc: Global) -> Result<Option<usize>, Fail> {
+    let script = text_of(alloc, RAW_300.0)?;
+    let printed = text_of(alloc, RAW_300.1)?;
+    Ok(writes_of(rt, alloc, &script, &printed)?)
 }
 
 #[test]
-fn the_most_events_ahead_and_the_most_bytes(rt: HostRuntime) -> Result<(), Fail> {
-    let alloc = rt.alloc();
-    let (ahead, answers) = backlog(alloc)?;
-    let most = publish(alloc, 4096)?;
-    let more = publish(alloc, 4097)?;
-    let cases = [
-        (&ahead, answers.as_str()),
-        (&most, "-no 1\n"),
-        (&more, "-toolong 4097\n"),
-    ];
-    for (script, printed) in cases {
-        let (status, sink) = played(&rt, alloc, script.as_bytes(), &[], &[], &[])?;
-        assert_eq!(rt; status, Status::Ok);
-        assert_eq!(rt; sink.bytes(), printed.as_bytes());
-    }
+fn each_write_fails_in_turn(rt: HostRuntime) -> Result<(), Fail> {
+    assert_eq!(rt; writes_until_ok(&rt, rt.alloc())?, Some(602));
     Ok(())
+}
+
+/// Whether each cut of a script in two leaves what it prints.
+fn cuts_change_nothing<R: Wait>(rt: &R, alloc: Global) -> Result<bool, AllocError> {
+    for cut in 0..QUOTE.len() {
+        let (status, sink) = played(rt, alloc, source_of(alloc, QUOTE, &[cut], &[])?, &[])?;
+        if status != Status::Ok || sink.bytes() != QUOTE_PRINTED {
+            return Ok(false);
+        }
+    }
+    Ok(true)
+}
+
+#[test]
+fn a_script_cut_at_each_byte(rt: HostRuntime) -> Result<(), Fail> {
+    assert!(rt; cuts_change_nothing(&rt, rt.alloc())?);
+    Ok(())
+}
+
+/// Whether these words are answered as none of a command, and nothing is read or written.
+fn is_usage<R: Wait>(rt: &R, alloc: Global, words: &[&str]) -> Result<bool, AllocError> {
+    let words = words_of(alloc, words)?;
+    let mut source = source_of(alloc, b"stop\n", &[], &[])?;
+    let mut sink = MemSink::new(alloc, Vec::new(alloc));
+    let status = run(rt, alloc, &words, &mut source, &mut sink);
+    Ok(status == Status::Usage && sink.bytes().is_empty())
 }
 
 #[test]
 fn words_of_no_command(rt: HostRuntime) -> Result<(), Fail> {
-    let alloc = rt.alloc();
     let cases: [&[&str]; 5] = [&[], &["-x"], &["serve"], &["replay", "replay"], &["--help"]];
     for words in cases {
-        let words = words_of(alloc, words)?;
-        let script = Vec::from_slice(alloc, SCRIPT)?;
-        let mut source = MemSource::new(script, Vec::new(alloc), Vec::new(alloc));
-        let mut sink = MemSink::new(alloc, Vec::new(alloc));
-        let status = run(&rt, alloc, &words, &mut source, &mut sink);
-        assert_eq!(rt; status, Status::Usage);
-        assert_eq!(rt; sink.bytes(), b"".as_slice());
+        assert!(rt; is_usage(&rt, rt.alloc(), words)?);
     }
     Ok(())
 }

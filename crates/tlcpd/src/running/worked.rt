@@ -4,14 +4,31 @@ use crate::running::Status;
 /// A script, how its run ends, and what it prints.
 pub(crate) type Row = (&'static [u8], Status, &'static [u8]);
 
+/// A quote of two fields, published after the subscription, and told.
+pub(crate) const QUOTE: &[u8] = b"item quote MERGE last,time
+open c
+add c 1 quote last,time MERGE
+pub 1 1 quote last=3.04&time=20:00:33
+enq c 1 1
+take c 9
+";
+
+/// What it prints.
+pub(crate) const QUOTE_PRINTED: &[u8] = b"c:REQOK,3
+-no 1
+-moved 1
+c:CONOK,S1,50000,5000,*
+c:SERVNAME,tlcpd
+c:CONS,unlimited
+c:SUBOK,1,1,2
+c:CONF,1,unlimited,filtered
+c:U,1,1,3.04|20:00:33
+-idle
+";
+
 /// Scripts whose lines are all done.
 pub(crate) const WORKED: [Row; 17] = [
-    // A quote of two fields, published after the subscription, and told.
-    (
-        b"item quote MERGE last,time\nopen c\nadd c 1 quote last,time MERGE\npub 1 1 quote last=3.04&time=20:00:33\nenq c 1 1\ntake c 9\n",
-        Status::Ok,
-        b"c:REQOK,3\n-no 1\n-moved 1\nc:CONOK,S1,50000,5000,*\nc:SERVNAME,tlcpd\nc:CONS,unlimited\nc:SUBOK,1,1,2\nc:CONF,1,unlimited,filtered\nc:U,1,1,3.04|20:00:33\n-idle\n",
-    ),
+    (QUOTE, Status::Ok, QUOTE_PRINTED),
     // A value that goes and comes back within one cut makes no line.
     (
         b"item q MERGE x\nopen c\nadd c 1 q x MERGE\npub 1 1 q x=A\nenq c 1 1\ntake c 9\npub 1 2 q x=B\npub 1 3 q x=A\nenq c 1 1 2\ntake c",

@@ -1,5 +1,5 @@
 use Rattle.std.proofs.Common.{◌≡◌, drop, length, option_map, ◌++◌}
-use Rattle.ls_spec.specs.Acting.{places_among}
+use Rattle.ls_world.specs.Acting.{places_among}
 use Rattle.ls_hub.proofs.adding.places_among.Given as goal
 
 -- the places so far and those that the names left give are those of all

@@ -1,5 +1,5 @@
 use Rattle.std.proofs.Common.{arith}
-use Rattle.ls_spec.specs.Steps.{enqueue_once}
+use Rattle.ls_world.specs.Steps.{enqueue_once}
 use Rattle.ls_hub.proofs.Repeats.{going_start, going_on, going_all, going_ended}
 use Rattle.ls_hub.proofs.hub.enqueues.Goals as goal
 

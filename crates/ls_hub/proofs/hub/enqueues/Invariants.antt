@@ -1,6 +1,6 @@
 use Rattle.std.proofs.Common.{ℕ, List}
-use Rattle.ls_spec.specs.World.{World}
-use Rattle.ls_spec.specs.Steps.{enqueue_once}
+use Rattle.ls_world.specs.World.{World}
+use Rattle.ls_world.specs.Steps.{enqueue_once}
 use Rattle.ls_hub.specs.Hub.{StandsParts, IsOf}
 use Rattle.ls_hub.specs.Repeats.{Going}
 use Rattle.ls_hub.proofs.hub.enqueues.Given as goal

@@ -1,5 +1,5 @@
 use Rattle.std.proofs.Common.{Option, sym, ◌∙◌, ap, subst}
-use Rattle.ls_spec.specs.Steps.{is_whole}
+use Rattle.ls_world.specs.Steps.{is_whole}
 use Rattle.ls_hub.specs.Hub.{StandsParts}
 use Rattle.ls_session.specs.declared.session.Item.{Item as Kept}
 use Rattle.ls_session.proofs.Sessions.{definition_same}

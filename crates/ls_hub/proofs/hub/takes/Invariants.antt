@@ -1,11 +1,10 @@
 use Rattle.std.proofs.Common.{ℕ}
-use Rattle.ls_spec.specs.World.{World}
-use Rattle.ls_spec.specs.Steps.{take_once}
-use Rattle.ls_spec.specs.Lawful.{LawfulRecords}
+use Rattle.ls_world.specs.World.{World}
+use Rattle.ls_world.specs.Steps.{take_once}
 use Rattle.ls_hub.specs.Hub.{StandsParts, IsOf}
 use Rattle.ls_hub.specs.Repeats.{Going}
 use Rattle.ls_hub.proofs.hub.takes.Given as goal
 
 abbrev pub invariant-loop : goal.invariant-loop
-invariant-loop l = (w : World) (connection : ℕ) → StandsParts l.initial.item l.initial.session w → LawfulRecords w → IsOf w connection l.name
+invariant-loop l = (w : World) (connection : ℕ) → StandsParts l.initial.item l.initial.session w → IsOf w connection l.name
     → Going (take_once connection) w connection l.name l.counter l.outs.items l.item l.session

@@ -1,5 +1,5 @@
 use Rattle.std.proofs.Common.{◌≡◌, ◌+◌, drop}
-use Rattle.ls_spec.specs.Tables.{place_in}
+use Rattle.ls_world.specs.Tables.{place_in}
 use Rattle.ls_hub.proofs.requests.place_in.Given as goal
 
 -- none of the places so far is the field's

@@ -5,7 +5,7 @@ use Rattle.ls_session.proofs.session.turn.Goals as goal
 
 pub returns-in-Some-pop_front : goal.returns-in-Some-pop_front
 returns-in-Some-pop_front c = record {
-  did = λ items s st lawful.
+  did = λ items s st.
       let p = c.pop_front.ensures in
       let q = c.pop_front-2.ensures in
       let none = popped_none c.pop_front.result _ _ c.in_default.is p.items p.rest in
@@ -14,12 +14,12 @@ returns-in-Some-pop_front c = record {
 
 pub returns : goal.returns
 returns c = record {
-  did = λ items s st lawful.
+  did = λ items s st.
       let p = c.pop_front.ensures in
       let q = c.pop_front-2.ensures in
       let owed = popped_none c.pop_front.result _ _ c.in_default.is p.items p.rest in
       let unsent = popped_none c.pop_front-2.result _ _ c.in_default-pop_front.is q.items q.rest in
       let st' = same_queues c.args.item.now c.args.session.now (record { owed = c.pop_front.new.self; unsent = c.pop_front-2.new.self; last = c.args.session.now.last; subscription = c.args.session.now.subscription }) items s st
       (owed.1 ∙ sym owed.0) (unsent.1 ∙ sym unsent.0) refl refl in
-      round_next c.args.item.now c.round.new.item _ c.round.new.session items s c.in_ok-given.given st' owed.1 unsent.1 (c.in_ok-given.ensures.did items s st' lawful owed.1 unsent.1);
+      round_next c.args.item.now c.round.new.item _ c.round.new.session items s c.in_ok-given.given st' owed.1 unsent.1 (c.in_ok-given.ensures.did items s st' owed.1 unsent.1);
 }

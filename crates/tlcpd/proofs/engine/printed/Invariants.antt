@@ -1,5 +1,5 @@
 use Rattle.std.proofs.Common.{◌≡◌, drop, ◌++◌}
-use Rattle.ls_spec.specs.Script.{text_of_outs}
+use Rattle.ls_world.specs.Script.{text_of_outs}
 use Rattle.tlcpd.proofs.engine.printed.Given as goal
 
 -- the text so far and that of what is left are that of all

@@ -1,8 +1,8 @@
 use Rattle.std.proofs.Common.{◌≡◌, refl, sym, ap, ◌∙◌, ◌∷◌, [], subst, true, false}
 use Rattle.ls_request.specs.declared.request.Op.{Op}
 use Rattle.ls_script.specs.declared.out.Out.TheVariants as out
-use Rattle.ls_spec.specs.Built.{is_built_control}
-use Rattle.ls_spec.specs.Steps.{controls}
+use Rattle.ls_world.specs.Built.{is_built_control}
+use Rattle.ls_world.specs.Steps.{controls}
 use Rattle.ls_hub.specs.Hub.{DidHub}
 use Rattle.ls_hub.specs.Requests.{name_at}
 use Rattle.ls_hub.proofs.Requesting.{unbuilt_frequency, unbuilt_session, unbuilt_add, built_add, add_did}

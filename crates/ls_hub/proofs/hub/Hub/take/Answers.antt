@@ -7,11 +7,11 @@ use Rattle.ls_hub.proofs.hub.Hub.take.Goals as goal
 pub returns-then-is_none : goal.returns-then-is_none
 returns-then-is_none c =
     on_ok _ _ c.only.result
-    (λ outs is w st lawful. take_nowhere c.args.self.now w c.args.connection c.args.times outs.items
+    (λ outs is w st. take_nowhere c.args.self.now w c.args.connection c.args.times outs.items
     (ap is_none (sym c.session_of.ensures) ∙ sym (is_nothing c.session_of.result c.is_none.result c.is_none.ensures) ∙ c.if-is_none.true) c.requires is st) c.only.ensures
 
 pub returns : goal.returns
 returns c =
     on_ok _ _ c.takes.result
-    (λ outs did w st lawful. takes_did c.args.self.now _ w c.args.connection c.args.times c.in_ok-name.name outs.items
-    (ap is_none (sym c.session_of.ensures) ∙ sym (is_nothing c.session_of.result c.is_none.result c.is_none.ensures) ∙ c.if-is_none.false) c.in_ok-name.ensures refl refl did st lawful) c.takes.ensures.did
+    (λ outs did w st. takes_did c.args.self.now _ w c.args.connection c.args.times c.in_ok-name.name outs.items
+    (ap is_none (sym c.session_of.ensures) ∙ sym (is_nothing c.session_of.result c.is_none.result c.is_none.ensures) ∙ c.if-is_none.false) c.in_ok-name.ensures refl refl did st) c.takes.ensures.did

@@ -1,6 +1,6 @@
 use Rattle.std.proofs.Common.{refl, ap, ◌∙◌}
-use Rattle.ls_spec.proofs.Scripts.{in_range}
-use Rattle.ls_spec.specs.Script.{text_of_outs}
+use Rattle.ls_world.proofs.ScriptRanges.{in_range}
+use Rattle.ls_world.specs.Script.{text_of_outs}
 use Rattle.tlcpd.proofs.EngineLines.{line_did}
 use Rattle.tlcpd.proofs.engine.Engine.line.Goals as goal
 
@@ -12,6 +12,5 @@ step-requires-clause-range c =
 pub returns-in_ok-text-in-Some-clause-ok : goal.returns-in_ok-text-in-Some-clause-ok
 returns-in_ok-text-in-Some-clause-ok c = λ w st.
     let r = rw c.in-Some.is at c.in_ok-asked.ensures.read in
-    let f = rw c.in-Some.is at c.in_ok-asked.ensures.fits in
     let k = rw c.in-Some.is at c.in_ok-asked.ensures.after in
-    line_did c.args.self.now _ w c.args.line.now c.in-Some.field-0.step c.in-Some.field-0.times c.in_ok-text-in-Some.text.items c.in_ok-outs-in-Some.outs.items r.0 r.1 f.fits refl k (c.in_ok-text-in-Some.ensures ∙ ap text_of_outs c.deref.ensures.value) c.in_ok-outs-in-Some.ensures.ok st
+    line_did c.args.self.now _ w c.args.line.now c.in-Some.field-0.step c.in-Some.field-0.times c.in_ok-text-in-Some.text.items c.in_ok-outs-in-Some.outs.items r.0 r.1 refl k (c.in_ok-text-in-Some.ensures ∙ ap text_of_outs c.deref.ensures.value) c.in_ok-outs-in-Some.ensures.ok st

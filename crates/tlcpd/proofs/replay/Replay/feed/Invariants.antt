@@ -1,5 +1,5 @@
 use Rattle.std.proofs.Common.{◌≡◌, ◌≤◌, ◌++◌, List, ℕ, length}
-use Rattle.ls_spec.specs.Script.{whole_from}
+use Rattle.ls_world.specs.Script.{whole_from}
 use Rattle.tlcpd.specs.Replay.{Midway, midway_after, Feeds, StandsFor}
 use Rattle.tlcpd.specs.declared.replay.Fed.TheVariants as fed
 use Rattle.tlcpd.proofs.replay.Replay.feed.Given as goal

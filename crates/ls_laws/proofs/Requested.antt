@@ -1,0 +1,144 @@
+-- The numbers of an add that was read are in their ranges: proved on the definitions of requests alone.
+use Rattle.std.proofs.Common.{◌≡◌, ◌^◌, ℕ, ◌≤◌, List, arith, subst, cond, Bool, true, false, ◌&&◌, Option, Some, None, IfSome, option_map, nat_le, codes, refl}
+use Rattle.std.specs.Prelude.{option_and_then}
+use Rattle.std.proofs.lemmas.Bool.Decides.{nat_tests}
+use Rattle.ls_value.proofs.Rows.{and_left, and_right}
+use Rattle.ls_words.specs.Numbers.{number_in, number_of, within}
+use Rattle.ls_form.specs.declared.form.Pair.{Pair}
+use Rattle.ls_form.specs.Forms.{text_under}
+use Rattle.ls_event.specs.declared.event.Snap.TheVariants as snap
+use Rattle.ls_request.specs.declared.request.LinkKind.{LinkKind}
+use Rattle.ls_request.specs.declared.request.LinkKind.TheVariants as link
+use Rattle.ls_request.specs.declared.request.Add.{Add}
+use Rattle.ls_request.specs.declared.request.Op.{Op}
+use Rattle.ls_request.specs.declared.request.Op.TheVariants as op
+use Rattle.ls_request.specs.declared.request.Request.{Request}
+use Rattle.ls_request.specs.declared.request.Request.TheVariants as request
+use Rattle.ls_request.specs.Values.{is_word, sub_of, size_of, mode_of, names_of, snap_of, frequency_of, capped}
+use Rattle.ls_world.specs.World.{World}
+use Rattle.ls_world.specs.Steps.{link_of, request_on}
+use Rattle.ls_request.specs.Requests.{or_absent, needed, unless, says_more, add_of, plain_op_of, delete_of, reconf_of, constrain_of, op_of, control_req, control_session, control_of, wsok_of, create_of, bind_of, request_of}
+
+-- a subscription's number, and a buffer's size where one is asked for
+pub record IsAdd (a : Add) : Type 0 where
+  pub some : 1 ≤ a.sub
+  pub most : a.sub ≤ 999999999
+  pub size : IfSome a.size (λ n. 1 ≤ n)
+
+abbrev pub IsOp : Op → Type 0
+IsOp (op.Add a) = IsAdd a
+IsOp (op.Delete sub) = Unit {0}
+IsOp (op.Reconf sub frequency) = Unit {0}
+IsOp (op.Constrain bandwidth) = Unit {0}
+IsOp op.ForceRebind = Unit {0}
+IsOp op.Destroy = Unit {0}
+
+abbrev pub IsRequest : Request → Type 0
+IsRequest (request.Create c) = Unit {0}
+IsRequest (request.Bind b) = Unit {0}
+IsRequest (request.Control c) = IsOp c.op
+IsRequest request.Wsok = Unit {0}
+
+-- chains
+anything : {A : Type 0} (o : Option A) → IfSome o (λ a. Unit {0})
+anything None = tt
+anything (Some a) = tt
+
+chained : {A B : Type 0} (Q : A → Type 0) (P : B → Type 0) (o : Option A) (f : A → Option B) → IfSome o Q → ((a : A) → Q a → IfSome (f a) P) → IfSome (option_and_then f o) P
+chained Q P None f h more = tt
+chained Q P (Some a) f h more = more a h
+
+-- where the first value doesn't matter
+free : {A B : Type 0} (P : B → Type 0) (o : Option A) (f : A → Option B) → ((a : A) → IfSome (f a) P) → IfSome (option_and_then f o) P
+free P o f more = chained (λ a. Unit {0}) P o f (anything o) (λ a u. more a)
+
+made : {A B : Type 0} (Q : A → Type 0) (P : B → Type 0) (f : A → B) (o : Option A) → IfSome o Q → ((a : A) → Q a → P (f a)) → IfSome (option_map f o) P
+made Q P f None h more = tt
+made Q P f (Some a) h more = more a h
+
+kept : {A : Type 0} (P : A → Type 0) (b : Bool) (a : A) → (b ≡ true → P a) → IfSome (cond b (Some a) None) P
+kept P true a h = h refl
+kept P false a h = tt
+
+one_of : {A : Type 0} (P : A → Type 0) (b : Bool) (x y : Option A) → IfSome x P → IfSome y P → IfSome (cond b x y) P
+one_of P true x y h k = h
+one_of P false x y h k = k
+
+unless_is : {A : Type 0} (P : A → Type 0) (b : Bool) (o : Option A) → IfSome o P → IfSome (unless b o) P
+unless_is P true o h = tt
+unless_is P false o h = h
+
+-- numbers
+abbrev Within : ℕ → ℕ → ℕ → Type 0
+Within low high n = (low ≤ n) × (n ≤ high)
+
+number_within : (low high : ℕ) (text : List ℕ) → IfSome (number_in low high text) (Within low high)
+number_within low high text =
+    free (Within low high) (number_of text) (within low high) (λ n. kept (Within low high) (nat_le low n && nat_le n high) n (λ h. bounds n (and_left (nat_le low n) (nat_le n high) h) (and_right (nat_le low n) (nat_le n high) h)))
+  where
+    bounds : (n : ℕ) → nat_le low n ≡ true → nat_le n high ≡ true → (low ≤ n) × (n ≤ high)
+    bounds n h k = (grind (arith, nat_tests), grind (arith, nat_tests))
+
+abbrev SizeIs : Option ℕ → Type 0
+SizeIs size = IfSome size (λ n. 1 ≤ n)
+
+size_is : (text : List ℕ) → IfSome (size_of text) SizeIs
+size_is text =
+    one_of SizeIs (is_word (codes "unlimited") text) (Some (Some 999999999)) (option_map (λ n. Some (capped n)) (number_in 1 (2 ^ 60) text)) (omega arith)
+    (made (Within 1 (2 ^ 60)) SizeIs (λ n. Some (capped n)) (number_in 1 (2 ^ 60) text) (number_within 1 (2 ^ 60) text) (λ n h. omega (arith, h.0)))
+
+size_absent_or : (o : Option (List ℕ)) → IfSome (or_absent None size_of o) SizeIs
+size_absent_or None = tt
+size_absent_or (Some text) = size_is text
+
+-- an add
+add_is : (ps : List Pair) → IfSome (add_of ps) IsAdd
+add_is ps =
+    chained (Within 1 999999999) IsAdd (needed sub_of (text_under ps (codes "LS_subId"))) _
+    (free (Within 1 999999999) (text_under ps (codes "LS_subId")) sub_of (λ text. number_within 1 999999999 text))
+    (λ sub h. free IsAdd (needed mode_of (text_under ps (codes "LS_mode"))) _
+    (λ mode. free IsAdd (needed names_of (text_under ps (codes "LS_group"))) _
+    (λ group. free IsAdd (needed names_of (text_under ps (codes "LS_schema"))) _
+    (λ schema. unless_is IsAdd (says_more (text_under ps (codes "LS_selector"))) _
+    (free IsAdd (or_absent snap.No (snap_of mode) (text_under ps (codes "LS_snapshot"))) _
+    (λ snapshot. chained SizeIs IsAdd (or_absent None size_of (text_under ps (codes "LS_requested_buffer_size"))) _ (size_absent_or (text_under ps (codes "LS_requested_buffer_size")))
+    (λ size k. free IsAdd (or_absent None frequency_of (text_under ps (codes "LS_requested_max_frequency"))) _ (λ frequency. record { some = h.0; most = h.1; size = k }))))))))
+
+op_is : (word : List ℕ) (ps : List Pair) → IfSome (op_of word ps) IsOp
+op_is word ps =
+    one_of IsOp (is_word (codes "add") word) (option_map (λ a. op.Add a) (add_of ps)) (plain_op_of word ps) (made IsAdd IsOp (λ a. op.Add a) (add_of ps) (add_is ps) (λ a h. h))
+    (one_of IsOp (is_word (codes "delete") word) (delete_of ps) _ (free IsOp (needed sub_of (text_under ps (codes "LS_subId"))) _ (λ sub. tt))
+    (one_of IsOp (is_word (codes "reconf") word) (reconf_of ps) _
+    (free IsOp (needed sub_of (text_under ps (codes "LS_subId"))) _ (λ sub. free IsOp (needed frequency_of (text_under ps (codes "LS_requested_max_frequency"))) _ (λ frequency. tt)))
+    (one_of IsOp (is_word (codes "constrain") word) (constrain_of ps) _ (free IsOp (option_and_then _ (text_under ps (codes "LS_requested_max_bandwidth"))) _ (λ bandwidth. tt))
+    (one_of IsOp (is_word (codes "force_rebind") word) (Some op.ForceRebind) _ tt
+    (one_of IsOp (is_word (codes "destroy") word) (Some op.Destroy) None tt tt)))))
+
+control_is : (l : LinkKind) (ps : List Pair) → IfSome (control_of l ps) (λ c. IsOp c.op)
+control_is l ps =
+    free (λ c. IsOp c.op) (control_req ps) _
+    (λ req. free (λ c. IsOp c.op) (control_session l (text_under ps (codes "LS_session"))) _
+    (λ session. free (λ c. IsOp c.op) (text_under ps (codes "LS_op")) _
+    (λ word. chained IsOp (λ c. IsOp c.op) (op_of word ps) _ (op_is word ps) (λ o h. h))))
+
+request_is : (l : LinkKind) (name : List ℕ) (ps : List Pair) → IfSome (request_of l name ps) IsRequest
+request_is l name ps =
+    one_of IsRequest (is_word (codes "create_session") name) (option_map (λ r. request.Create r) (create_of l ps)) _
+    (made (λ r. Unit {0}) IsRequest (λ r. request.Create r) (create_of l ps) (anything (create_of l ps)) (λ r u. tt))
+    (one_of IsRequest (is_word (codes "bind_session") name) (option_map (λ r. request.Bind r) (bind_of l ps)) _
+    (made (λ r. Unit {0}) IsRequest (λ r. request.Bind r) (bind_of l ps) (anything (bind_of l ps)) (λ r u. tt))
+    (one_of IsRequest (is_word (codes "control") name) (option_map (λ r. request.Control r) (control_of l ps)) _
+    (made (λ c. IsOp c.op) IsRequest (λ r. request.Control r) (control_of l ps) (control_is l ps) (λ c h. h))
+    (one_of IsRequest (is_word (codes "wsok") name) (wsok_of l) None (of_link l) tt)))
+  where
+    of_link : (k : LinkKind) → IfSome (wsok_of k) IsRequest
+    of_link link.Http = tt
+    of_link link.Ws = tt
+
+-- a request that was read
+pub request_read : (l : LinkKind) (name : List ℕ) (ps : List Pair) (r : Request) → request_of l name ps ≡ Some r → IsRequest r
+request_read l name ps r is = subst (λ (o : Option Request). IfSome o IsRequest) is (request_is l name ps)
+
+-- and one on a connection, by pairs that may be malformed
+pub request_on_is : (w : World) (connection : ℕ) (name : List ℕ) (ps : Option (List Pair)) → IfSome (request_on w connection name ps) IsRequest
+request_on_is w connection name ps = free IsRequest ps (request_of (link_of w connection) name) (λ p. request_is (link_of w connection) name p)

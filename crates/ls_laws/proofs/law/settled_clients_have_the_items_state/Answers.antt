@@ -1,0 +1,8 @@
+use Rattle.ls_laws.proofs.Told.{settled, settled_row}
+use Rattle.ls_laws.proofs.law.settled_clients_have_the_items_state.Goals as goal
+
+pub returns-clause-came : goal.returns-clause-came
+returns-clause-came c = settled_row
+
+pub returns-clause-has : goal.returns-clause-has
+returns-clause-has c = settled

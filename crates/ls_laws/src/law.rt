@@ -1,0 +1,174 @@
+//! The laws about the definitions. Each function's contract is a law; its body is empty. That the items have shapes,
+//! and so 1 to 64 distinct fields, is among the premises: a lawful world says it, and a step that declares an item
+//! keeps to it.
+ghost use Rattle.std.specs.Prelude.{◌≡◌, ◌+◌, ◌<◌, ◌≤◌, ◌++◌, ◌∷◌, ℕ, List, [], length, None, Some, false, true};
+ghost use Rattle.std.specs.List.{Contains};
+ghost use Rattle.ls_value.specs.Values.{projected};
+ghost use Rattle.ls_value.specs.declared.row.Value.{Value};
+ghost use Rattle.ls_event.specs.declared.event.Entry.{Entry};
+ghost use Rattle.ls_event.specs.declared.event.Mode.TheVariants as mode;
+ghost use Rattle.ls_event.specs.History.{merged};
+ghost use Rattle.ls_event.specs.Updates.{updates_between};
+ghost use Rattle.ls_event.specs.Keyed.{keyed, row_at};
+ghost use Rattle.ls_event.specs.Slots.{Slot};
+ghost use Rattle.ls_world.specs.Came.{Came, whats};
+ghost use Rattle.ls_event.specs.Cuts.{cut, pending};
+ghost use Rattle.ls_world.specs.Lines.{came, last_row, texts};
+ghost use Rattle.ls_world.specs.Cutting.{Wanted, client_row, schema_of, turn};
+ghost use Rattle.ls_world.specs.World.{World, Session, Live, empty, history_of, shape_at};
+ghost use Rattle.ls_script.specs.declared.step.Repeat.{Repeat};
+ghost use Rattle.ls_world.specs.Steps.{does_all};
+ghost use Rattle.ls_world.specs.Script.{world_of};
+ghost use Rattle.ls_world.specs.Lawful.{Each, IsMergeLine, LawfulSlot, Lawful};
+ghost use Rattle.std.specs.FinMap as finite;
+ghost use Rattle.ls_mirror.specs.declared.table.Table.{Table};
+ghost use Rattle.ls_mirror.specs.Client.{Row, Lost};
+ghost use Rattle.ls_world.specs.ClientKeys.{KeysAgree};
+ghost use Rattle.ls_laws.specs.ClientTables.{HasTable};
+ghost use Rattle.ls_world.specs.RawMode.{Accounts};
+ghost use Rattle.ls_world.specs.DistinctMode.{LeavesOut};
+ghost use Rattle.ls_world.specs.CommandMode.{noted_at, AgreesAt, NoTurn, IsToKnow};
+ghost use Rattle.ls_world.specs.Tables.{projected_row, table_at};
+ghost use Rattle.ls_world.specs.Ranges.{InRange};
+ghost use Rattle.ls_laws.specs.Told.{TellsOf, IsTrueOf};
+
+/// Each world that steps make of the empty one is lawful, where the parts of each step are in their ranges (a new item
+/// has 1 to 64 distinct fields, and in kind COMMAND a key and a command among them; the texts of an update are UTF-8):
+/// what every client decodes from the bytes of its lines are states that its item had, and they never go back.
+pub fn each_world_is_lawful()
+    ensures { (steps : List Repeat) → Each InRange steps → Lawful (does_all empty steps) }
+{}
+
+/// Each world that the lines of a script make of the empty one is lawful: they ask for no step outside the ranges, as
+/// the grammar keeps items and texts in them.
+pub fn each_script_is_lawful()
+    ensures { (lines : List (List ℕ)) → Lawful (world_of empty lines) }
+{}
+
+/// In mode MERGE, once nothing waits behind a slot's first line, a row came, and the last one is the item's state after
+/// the last event that was enqueued, at the places of the schema: that is what the client has.
+pub fn settled_clients_have_the_items_state()
+    ensures came { (h : List Entry) (w : Wanted) (s : Slot) (cs : List Came) → LawfulSlot h w s cs
+        → s.plan.mode ≡ mode.Merge → pending h s ≡ false → s.given ≡ true
+        → last_row cs ≡ Some (projected (merged s.plan.shape.fields h s.last) w.places) }
+    ensures has { (h : List Entry) (w : Wanted) (s : Slot) (cs : List Came) → LawfulSlot h w s cs
+        → s.plan.mode ≡ mode.Merge → pending h s ≡ false → s.given ≡ true
+        → client_row (length w.places) cs ≡ projected (merged s.plan.shape.fields h s.last) w.places }
+{}
+
+/// In a lawful world each row that came to a client is a state that the item had, at a number that its history reached,
+/// and no line goes back behind an earlier one: in mode MERGE it is the merged state, in mode RAW the own row of the
+/// update of that number, in mode DISTINCT such a row or one of the snapshot, and in mode COMMAND a key's row or its
+/// absence, told by the word that the client's own table asks for.
+pub fn no_state_is_invented()
+    ensures { (w : World) (s : Session) (v : Live) → Lawful w → Contains w.sessions s → Contains s.board.round v
+        → IsTrueOf v.slot.plan.mode (shape_at w.items v.item) (history_of w.items v.item) v.wanted.places
+        (came v.sub v.place s.board.lines) }
+{}
+
+/// In mode RAW what came to a client accounts for each update behind its first place up to the slot's: it is told by
+/// its own row or counted among the lost, once and in order.
+pub fn each_update_is_told_or_counted()
+    ensures { (h : List Entry) (w : Wanted) (s : Slot) (cs : List Came) → LawfulSlot h w s cs → s.plan.mode ≡ mode.Raw
+        → Accounts w.places (updates_between h s.plan.base s.place) (whats cs) }
+{}
+
+/// And once a slot of mode RAW has no cut, each update up to the last event that was enqueued.
+pub fn settled_clients_know_of_each_update()
+    ensures { (h : List Entry) (w : Wanted) (s : Slot) (cs : List Came) → LawfulSlot h w s cs → s.plan.mode ≡ mode.Raw
+        → cut h s ≡ None
+        → Accounts w.places (updates_between h s.plan.base s.last) (whats cs) }
+{}
+
+/// In mode RAW updates are lost only where more than 256 waited, and then all but the last 256: a line that counts lost
+/// updates counts at least one, and a row comes where no more than 256 waited. Those waited that are numbered behind
+/// the line's first place, up to the last that was enqueued then.
+pub fn a_loss_is_told_only_past_256()
+    ensures lost { (h : List Entry) (w : Wanted) (s : Slot) (cs : List Came) → LawfulSlot h w s cs
+        → s.plan.mode ≡ mode.Raw
+        → (c : Came) (n : ℕ) → Contains cs c → c.what ≡ Lost n
+        → (1 ≤ n) × (length (updates_between h c.before c.at) ≡ 256 + n) }
+    ensures rows { (h : List Entry) (w : Wanted) (s : Slot) (cs : List Came) → LawfulSlot h w s cs
+        → s.plan.mode ≡ mode.Raw
+        → (c : Came) (r : List Value) → Contains cs c → c.what ≡ Row r
+        → length (updates_between h c.before c.at) ≤ 256 }
+{}
+
+/// In mode DISTINCT a row that passes over updates leaves out only such as weren't among the last n that had come then,
+/// where n is the size of the buffer.
+pub fn only_old_rows_are_left_out()
+    ensures { (h : List Entry) (w : Wanted) (s : Slot) (cs : List Came) → LawfulSlot h w s cs
+        → s.plan.mode ≡ mode.Distinct
+        → (c : Came) (r : List Value) → Contains cs c → c.what ≡ Row r → c.before < c.upto → LeavesOut s.plan.size h c }
+{}
+
+/// In mode MERGE each row is the item's merged state at a number among the last n that had been enqueued then, where n
+/// is the size of the buffer.
+pub fn each_row_is_among_the_last_states()
+    ensures { (h : List Entry) (w : Wanted) (s : Slot) (cs : List Came) → LawfulSlot h w s cs → s.plan.mode ≡ mode.Merge
+        → (c : Came) → Contains cs c → IsMergeLine s.plan w h c }
+{}
+
+/// In mode COMMAND each key that had its turn is in the client's table as the item had it at the place of that key,
+/// which is no further than the last event that was enqueued. Another key is absent from the table: its turn is owed,
+/// or there is nothing to tell of it.
+pub fn each_key_is_told_as_it_was()
+    ensures { (h : List Entry) (w : Wanted) (s : Slot) (cs : List Came) → LawfulSlot h w s cs
+        → s.plan.mode ≡ mode.Command
+        → (k : List ℕ)
+        → AgreesAt h w s.plan s.place s.last cs k (noted_at k s.noted)
+        × (noted_at k s.noted ≡ None → NoTurn h w s.plan s.place s.last s.owed k) }
+{}
+
+/// In mode COMMAND no key goes back: of two lines that told a client of the same key, by its row or by a Clear, which
+/// tells of each key, the later one told of it after no fewer events than the earlier one.
+pub fn no_key_goes_back()
+    ensures { (w : World) (s : Session) (v : Live) → Lawful w → Contains w.sessions s → Contains s.board.round v
+        → v.slot.plan.mode ≡ mode.Command
+        → (k : List ℕ) (newer between older : List Came) (late early : Came)
+        → came v.sub v.place s.board.lines ≡ newer ++ late ∷ between ++ early ∷ older
+        → TellsOf (schema_of v.wanted v.slot.plan) k late.what → TellsOf (schema_of v.wanted v.slot.plan) k early.what
+        → early.upto ≤ late.upto }
+{}
+
+/// Once such a slot has no cut, the client's table is the item's after the last event that was enqueued: at each key
+/// with a snapshot, and else at each that an update since named.
+pub fn settled_tables_are_the_items()
+    ensures { (h : List Entry) (w : Wanted) (s : Slot) (cs : List Came) → LawfulSlot h w s cs
+        → s.plan.mode ≡ mode.Command → cut h s ≡ None
+        → (k : List ℕ) → IsToKnow h w s k
+        → table_at (schema_of w s.plan) k (whats cs) ≡ projected_row w.places (row_at k (keyed s.plan.shape h s.last)) }
+{}
+
+/// In a lawful world the table that a client of mode COMMAND makes of the bytes of its lines, by the places of key and
+/// command that its SUBCMD told, has for each key that had its turn the row that the item had at the place of that key,
+/// and no row for another key.
+pub fn each_client_has_the_rows_of_its_keys()
+    ensures { (w : World) (s : Session) (v : Live) (t : Table) → Lawful w → Contains w.sessions s
+        → Contains s.board.round v → v.slot.plan.mode ≡ mode.Command → HasTable (texts s.board.lines) v.sub v.place t
+        → KeysAgree (history_of w.items v.item) v.wanted v.slot t.keys }
+{}
+
+/// Once such a slot has no cut, that table has the item's rows after the last event that was enqueued: at each key with
+/// a snapshot, and else at each that an update since named.
+pub fn settled_clients_have_the_items_rows()
+    ensures { (w : World) (s : Session) (v : Live) (t : Table) → Lawful w → Contains w.sessions s
+        → Contains s.board.round v → v.slot.plan.mode ≡ mode.Command → HasTable (texts s.board.lines) v.sub v.place t
+        → cut (history_of w.items v.item) v.slot ≡ None
+        → (k : List ℕ) → IsToKnow (history_of w.items v.item) v.wanted v.slot k
+        → finite.get t.keys k ≡ projected_row v.wanted.places
+        (row_at k (keyed (shape_at w.items v.item) (history_of w.items v.item) v.slot.last)) }
+{}
+
+/// Once a slot isn't pending, its place is the number of the last event that was enqueued. In mode COMMAND each key has
+/// a place of its own.
+pub fn settled_slots_are_at_the_last_event()
+    ensures { (h : List Entry) (w : Wanted) (s : Slot) (cs : List Came) → LawfulSlot h w s cs
+        → (s.plan.mode ≡ mode.Command → ⊥) → pending h s ≡ false → s.place ≡ s.last }
+{}
+
+/// A slot's turn that tells nothing leaves no cut.
+pub fn the_turn_ends_its_cuts()
+    ensures { (h : List Entry) (w : Wanted) (s : Slot) (cs : List Came) → (turn h w s cs).told ≡ None
+        → cut h (turn h w s cs).slot ≡ None }
+{}

@@ -1,0 +1,14 @@
+//! What follows: the laws about the worlds that `ls_world` defines, each the contract of a function without a body.
+//! Only the program stands on this crate, so a change of a proof here proves nothing else again.
+#![tactic(auto)]
+
+pub mod law;
+
+pub use law::{
+    a_loss_is_told_only_past_256, each_client_has_the_rows_of_its_keys, each_key_is_told_as_it_was,
+    each_row_is_among_the_last_states, each_script_is_lawful, each_update_is_told_or_counted,
+    each_world_is_lawful, no_key_goes_back, no_state_is_invented, only_old_rows_are_left_out,
+    settled_clients_have_the_items_rows, settled_clients_have_the_items_state,
+    settled_clients_know_of_each_update, settled_slots_are_at_the_last_event,
+    settled_tables_are_the_items, the_turn_ends_its_cuts,
+};

@@ -1,5 +1,0 @@
-use Rattle.ls_spec.proofs.Told.{merge_row}
-use Rattle.ls_spec.proofs.law.each_row_is_among_the_last_states.Goals as goal
-
-pub returns : goal.returns
-returns c = merge_row

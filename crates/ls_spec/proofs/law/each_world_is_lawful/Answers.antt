@@ -1,5 +1,0 @@
-use Rattle.ls_spec.proofs.Legible.{lawful_steps}
-use Rattle.ls_spec.proofs.law.each_world_is_lawful.Goals as goal
-
-pub returns : goal.returns
-returns c = lawful_steps

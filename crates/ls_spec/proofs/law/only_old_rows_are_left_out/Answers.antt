@@ -1,5 +1,0 @@
-use Rattle.ls_spec.proofs.DistinctTold.{slot_leaves_out}
-use Rattle.ls_spec.proofs.law.only_old_rows_are_left_out.Goals as goal
-
-pub returns : goal.returns
-returns c = λ h w s cs l distinct c r in_cs is low. slot_leaves_out h w s cs l distinct c r in_cs is low

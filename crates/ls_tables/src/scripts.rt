@@ -1,0 +1,281 @@
+//! Lines of scripts, and notes.
+ghost use Rattle.std.specs.Prelude.{◌<◌};
+
+use crate::failed::Failed;
+use crate::forms::pairs_text;
+use crate::words::{cells_text, mode_word, names_text, number, two, word};
+use ls_event::Kind;
+use ls_request::LinkKind;
+use ls_script::{AddWords, Out, Repeat, Script, ScriptRefused, Step, add_params, print};
+use ls_value::{Bytes, Cells, Names, Text};
+use ls_words::split_once;
+use std::alloc::Global;
+
+/// What is known of a line that was read.
+#[derive(Drop)]
+enum Said {
+    /// It asks for a step.
+    Step(Repeat),
+    /// It is empty or a comment.
+    Skipped,
+    /// It is outside the grammar.
+    Bad,
+}
+
+/// The lines that stand before each script.
+#[derive(Drop)]
+pub struct Given {
+    /// The lines, each with its end.
+    lines: Vec<u8>,
+}
+
+impl Given {
+    /// No lines.
+    pub fn new(alloc: Global) -> Given {
+        Given {
+            lines: Vec::new(alloc),
+        }
+    }
+
+    /// Forgets the lines.
+    pub fn forget(&mut self, alloc: Global) -> Result<Vec<u8>, Failed> {
+        self.lines = Vec::new(alloc);
+        Ok(Vec::new(alloc))
+    }
+
+    /// What the last line of a script says, which begins with these lines.
+    fn said(&self, alloc: Global, lines: &[u8]) -> Result<Said, Failed> {
+        let mut script = Script::new(alloc)?;
+        let mut last = Said::Skipped;
+        for text in [self.lines.as_slice(), lines] {
+            for line in text.split(|b| *b == b'\n') {
+                last = read_line(&mut script, line)?;
+            }
+        }
+        Ok(last)
+    }
+
+    /// The step of the last line of a script, which begins with these lines.
+    pub fn script(&self, alloc: Global, lines: &[u8]) -> Result<Vec<u8>, Failed> {
+        let text = said_text(alloc, &self.said(alloc, lines)?)?;
+        Ok(text.into_bytes())
+    }
+
+    /// The step of a line, which is kept behind these.
+    pub fn given(&mut self, alloc: Global, line: &[u8]) -> Result<Vec<u8>, Failed> {
+        let text = self.script(alloc, line)?;
+        self.lines.extend_from_slice(line)?;
+        self.lines.push(b'\n')?;
+        Ok(text)
+    }
+
+    /// The parameters of an `add` line, whose number goes before it.
+    pub fn params(&self, alloc: Global, input: &[u8]) -> Result<Vec<u8>, Failed> {
+        let (place, line) = two(input);
+        let place = number(place)?;
+        let text = params_text(alloc, place, &self.said(alloc, line)?)?;
+        Ok(text.into_bytes())
+    }
+}
+
+/// Reads a line.
+fn read_line(script: &mut Script, line: &[u8]) -> Result<Said, Failed> {
+    match script.read(line) {
+        Ok(Some(asked)) => Ok(Said::Step(asked)),
+        Ok(None) => Ok(Said::Skipped),
+        Err(ScriptRefused::BadLine) => Ok(Said::Bad),
+        Err(ScriptRefused::NoMemory) => Err(Failed::NoMemory),
+    }
+}
+
+/// What a line says.
+fn said_text(alloc: Global, said: &Said) -> Result<String, Failed> {
+    match said {
+        Said::Step(asked) => {
+            let step = step_text(alloc, &asked.step)?;
+            Ok(format!(in alloc; "{step} x{}", asked.times)?)
+        }
+        Said::Skipped => Ok(format!(in alloc; "skipped")?),
+        Said::Bad => Ok(format!(in alloc; "bad")?),
+    }
+}
+
+/// The parameters of an `add` line that was read.
+fn params_text(alloc: Global, place: u64, said: &Said) -> Result<String, Failed> {
+    let Said::Step(asked) = said else {
+        return Err(Failed::BadCase);
+    };
+    let Step::Add {
+        connection: _,
+        words,
+    } = &asked.step
+    else {
+        return Err(Failed::BadCase);
+    };
+    match add_params(alloc, place, words)? {
+        Some(params) => pairs_text(alloc, &params),
+        None => Ok(format!(in alloc; "none")?),
+    }
+}
+
+/// A step.
+fn step_text(alloc: Global, step: &Step) -> Result<String, Failed> {
+    match step {
+        Step::Set { name } => Ok(format!(in alloc; "set {}", name.as_str())?),
+        Step::Item { name, kind, fields } => item_text(alloc, name, *kind, fields),
+        Step::Tick { ms } => Ok(format!(in alloc; "tick {ms}")?),
+        Step::Conn { name, link } => conn_text(alloc, name, *link),
+        Step::Open { name } => Ok(format!(in alloc; "open {}", name.as_str())?),
+        Step::Add { connection, words } => add_text(alloc, *connection, words),
+        Step::Request {
+            connection,
+            name,
+            parameters,
+        } => request_text(alloc, *connection, name, parameters),
+        Step::Publish {
+            adapter,
+            seq,
+            item,
+            cells,
+        } => publish_text(alloc, *adapter, *seq, *item, cells),
+        Step::Clear { adapter, seq, item } => Ok(format!(in alloc;
+            "clear {adapter} {seq} {item}"
+        )?),
+        Step::Enqueue {
+            connection,
+            sub,
+            place,
+        } => Ok(format!(in alloc; "enq {connection} {sub} {place}")?),
+        Step::Take { connection } => Ok(format!(in alloc; "take {connection}")?),
+        Step::Lose { connection } => Ok(format!(in alloc; "lose {connection}")?),
+    }
+}
+
+/// The step of an `item` line.
+fn item_text(alloc: Global, name: &Text, kind: Kind, fields: &Names) -> Result<String, Failed> {
+    let fields = names_text(alloc, fields)?;
+    let kind = match kind {
+        Kind::Merge => "merge",
+        Kind::Distinct => "distinct",
+        Kind::Command => "command",
+    };
+    Ok(format!(in alloc; "item {} {kind} {fields}", name.as_str())?)
+}
+
+/// The step of a `conn` line.
+fn conn_text(alloc: Global, name: &Text, link: LinkKind) -> Result<String, Failed> {
+    let link = match link {
+        LinkKind::Ws => "ws",
+        LinkKind::Http => "http",
+    };
+    Ok(format!(in alloc; "conn {} {link}", name.as_str())?)
+}
+
+/// The step of a `req` line.
+fn request_text(
+    alloc: Global,
+    connection: u32,
+    name: &Text,
+    parameters: &Bytes,
+) -> Result<String, Failed> {
+    let parameters = word(parameters.as_slice())?;
+    Ok(format!(in alloc; "req {connection} {} '{parameters}'", name.as_str())?)
+}
+
+/// The step of a `pub` line.
+fn publish_text(
+    alloc: Global,
+    adapter: u8,
+    seq: u64,
+    item: u32,
+    cells: &Cells,
+) -> Result<String, Failed> {
+    let cells = cells_text(alloc, cells)?;
+    Ok(format!(in alloc; "pub {adapter} {seq} {item} {cells}")?)
+}
+
+/// The step of an `add` line.
+fn add_text(alloc: Global, connection: u32, words: &AddWords) -> Result<String, Failed> {
+    let (sub, items, fields) = (shown(&words.sub), shown(&words.items), shown(&words.fields));
+    let extras = extras_text(alloc, words)?;
+    Ok(format!(in alloc;
+        "add {connection} '{sub}''{items}''{fields}'{}{extras}",
+        mode_word(words.mode)
+    )?)
+}
+
+/// The words behind an `add` line's mode.
+fn extras_text(alloc: Global, words: &AddWords) -> Result<String, Failed> {
+    let snapshot = maybe(words.snapshot.as_ref());
+    let buffer = maybe(words.buffer.as_ref());
+    let frequency = maybe(words.frequency.as_ref());
+    Ok(format!(in alloc; "'{snapshot}''{buffer}''{frequency}'")?)
+}
+
+/// Bytes as a text, or a question mark where they are none.
+fn shown(bytes: &Bytes) -> &str {
+    match std::str::from_utf8(bytes.as_slice()) {
+        Ok(text) => text,
+        Err(_) => "?",
+    }
+}
+
+/// Bytes as a text, or a dash.
+fn maybe(bytes: Option<&Bytes>) -> &str {
+    match bytes {
+        Some(bytes) => shown(bytes),
+        None => "-",
+    }
+}
+
+/// The text of a note, by its name and its number.
+pub fn note(alloc: Global, input: &[u8]) -> Result<String, Failed> {
+    let (name, n) = match split_once(b' ', input) {
+        Some((name, n)) => (name, number(n)?),
+        None => (input, 0),
+    };
+    let note = note_of(word(name)?, n)?;
+    let text = print(alloc, &note)?;
+    Ok(String::from_str(alloc, word(text.as_slice())?)?)
+}
+
+/// The note of a name and a number.
+fn note_of(name: &str, n: u64) -> Result<Out, Failed> {
+    match name {
+        "published" => Ok(Out::Published { no: n }),
+        "repeated" => Ok(Out::Repeated { last: n }),
+        "too_long" => Ok(Out::TooLong { bytes: n }),
+        "backlog" => Ok(Out::Backlog { slot: low(n) }),
+        "moved" => Ok(Out::Moved { no: n }),
+        "not_due" => Ok(Out::NotDue { at: n }),
+        "superseded" => Ok(Out::Superseded { epoch: n }),
+        "ended" => Ok(Out::Ended {
+            code: low(n) as u16,
+        }),
+        _ => short_note(name),
+    }
+}
+
+/// The last 16 bits of a number.
+fn low(n: u64) -> u32
+    ensures { result < 65536 }
+{
+    (n % 65536) as u32
+}
+
+/// The note of a name that has no number.
+fn short_note(name: &str) -> Result<Out, Failed> {
+    match name {
+        "no_key" => Ok(Out::NoKey),
+        "bad_command" => Ok(Out::BadCommand),
+        "too_many_keys" => Ok(Out::TooManyKeys),
+        "spent" => Ok(Out::Spent),
+        "up_to_date" => Ok(Out::UpToDate),
+        "no_slot" => Ok(Out::NoSlot),
+        "idle" => Ok(Out::Idle),
+        "unbound" => Ok(Out::Unbound),
+        "none" => Ok(Out::NoSession),
+        "lost" => Ok(Out::Lost),
+        _ => Err(Failed::BadCase),
+    }
+}

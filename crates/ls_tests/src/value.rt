@@ -1,0 +1,124 @@
+//! Values: the update of TLCP 2.1's example, and UTF-8's well-formed and ill-formed bytes.
+use crate::made::{cells, is_row, names, row};
+use ls_value::*;
+use std::alloc::Global;
+use std::test::Fail;
+
+/// Whether bytes that are UTF-8 are a text, also by way of a string and a copy.
+fn is_text(alloc: Global, bytes: &[u8]) -> Result<bool, TextRefused> {
+    let text = Text::of(alloc, bytes)?;
+    let copy = Text::from_string(text.copy(alloc)?.into_string());
+    Ok(
+        copy.as_bytes() == bytes
+            && copy.len() == bytes.len()
+            && copy.as_str().len() == text.len()
+            && copy.is_empty() == bytes.is_empty(),
+    )
+}
+
+/// Whether bytes are refused as no UTF-8.
+fn is_ill_formed(alloc: Global, bytes: &[u8]) -> bool {
+    matches!(Text::of(alloc, bytes), Err(TextRefused::NotUtf8))
+}
+
+#[test]
+fn texts_are_utf8(rt: HostRuntime) -> Result<(), Fail> {
+    let alloc = rt.alloc();
+    for bytes in [b"20:06:10".as_slice(), b"\xC3\xA9", b""] {
+        assert!(rt; is_text(alloc, bytes)?);
+    }
+    for bytes in [b"\xC3".as_slice(), b"\xE0\x80\x80", b"\xED\xA0\x80"] {
+        assert!(rt; is_ill_formed(alloc, bytes));
+    }
+    Ok(())
+}
+
+/// The row after cells, in two ways.
+fn applied(alloc: Global, before: &'static str, after: &'static str) -> Result<bool, NoMemory> {
+    let mut row = row(alloc, before)?;
+    let cells = cells(alloc, after)?;
+    if row.len() != cells.len() {
+        return Ok(false);
+    }
+    apply(alloc, &mut row, &cells)?;
+    Ok(is_row(&row, "20:06:10|#|\u{E9}") && weight(&row) == 10)
+}
+
+/// A row of nulls after cells that are moved into it.
+fn applied_owned(alloc: Global, after: &'static str) -> Result<bool, NoMemory> {
+    let mut nulls = Row::nulls(alloc, 3)?;
+    let cells = cells(alloc, after)?.copy(alloc)?;
+    if nulls.len() != cells.len() {
+        return Ok(false);
+    }
+    apply_owned(&mut nulls, cells);
+    Ok(is_row(&nulls, "#|#|\u{E9}"))
+}
+
+/// Whether a copy of a row is the same, and has this weight.
+fn copied(alloc: Global, words: &'static str, bytes: u64) -> Result<bool, NoMemory> {
+    let row = row(alloc, words)?;
+    let copy = row.copy(alloc)?;
+    Ok(is_row(&copy, words) && same(&row, &copy) && weight(&copy) == bytes)
+}
+
+/// Whether two rows differ.
+fn differ(alloc: Global, words: &'static str, others: &'static str) -> Result<bool, NoMemory> {
+    let first = row(alloc, words)?;
+    let second = row(alloc, others)?;
+    Ok(!same(&first, &second))
+}
+
+/// Whether the values at places 2, 0, 2 are taken.
+fn projected(alloc: Global) -> Result<bool, NoMemory> {
+    let row = row(alloc, "20:06:10|3.05|0.32")?;
+    let places = Places::of(vec![in alloc; 2, 0, 2]?).copy(alloc)?;
+    if row.len() != 3 {
+        return Ok(false);
+    }
+    let taken = project(alloc, &row, &places)?;
+    Ok(is_row(&taken, "0.32|20:06:10|0.32") && places.as_slice() == [2, 0, 2].as_slice())
+}
+
+#[test]
+fn rows_change_by_cells(rt: HostRuntime) -> Result<(), Fail> {
+    let alloc = rt.alloc();
+    assert!(rt; applied(alloc, "20:06:10|3.05|0.32", "=|#|\u{E9}")?);
+    assert!(rt; applied_owned(alloc, "=|#|\u{E9}")?);
+    assert!(rt; copied(alloc, "20:06:10|3.05|0.32", 16)?);
+    Ok(())
+}
+
+#[test]
+fn rows_are_compared(rt: HostRuntime) -> Result<(), Fail> {
+    let alloc = rt.alloc();
+    for others in ["a|#|c", "a|b", "a|b|d", "a|b|c|#"] {
+        assert!(rt; differ(alloc, "a|b|c", others)?);
+    }
+    Ok(())
+}
+
+#[test]
+fn schemas_take_places(rt: HostRuntime) -> Result<(), Fail> {
+    assert!(rt; projected(rt.alloc())?);
+    Ok(())
+}
+
+#[test]
+fn names_are_found(rt: HostRuntime) -> Result<(), Fail> {
+    let names = names(rt.alloc(), "time,last,change,last")?;
+    assert!(rt; names.find(b"time") == Some(0) && names.find(b"last") == Some(1));
+    assert!(rt; names.find(b"change") == Some(2) && names.find(b"las").is_none());
+    assert!(rt; names.len() == 4 && !names.is_empty());
+    Ok(())
+}
+
+#[test]
+fn bytes_are_any(rt: HostRuntime) -> Result<(), Fail> {
+    let bytes = Bytes::of(rt.alloc(), b"\xC3\x00")?;
+    assert!(rt;
+        same_bytes(bytes.as_slice(), b"\xC3\x00") && !same_bytes(bytes.as_slice(), b"\xC3")
+    );
+    assert!(rt; bytes.len() == 2 && Bytes::from_vec(Vec::new(rt.alloc())).is_empty());
+    Ok(())
+}

@@ -1,0 +1,131 @@
+-- What is true of each world: each client is at a state of its item that the item had, and never goes back (the headline).
+use Rattle.std.specs.Prelude.{◌≡◌, ◌+◌, ◌-◌, ◌<◌, ◌≤◌, length, ℕ, List, [], ◌∷◌, true, false, Some}
+use Rattle.ls_value.specs.Values.{projected}
+use Rattle.ls_event.specs.declared.event.Entry.{Entry}
+use Rattle.ls_event.specs.declared.event.Mode.{Mode}
+use Rattle.ls_event.specs.declared.event.Mode.TheVariants as mode
+use Rattle.ls_event.specs.Shapes.{shape_of, IsShape}
+use Rattle.ls_event.specs.History.{merged}
+use Rattle.ls_event.specs.Publishes.{IsHistory}
+use Rattle.ls_event.specs.Slots.{Plan, Slot}
+use Rattle.ls_config.specs.Items.{are_distinct}
+use Rattle.ls_mirror.specs.Client.{What, Row, HasCome}
+use Rattle.ls_world.specs.Came.{Came, whats}
+use Rattle.ls_line.specs.declared.line.Line.{Line as WireLine}
+use Rattle.ls_line.specs.Reading.{Says}
+use Rattle.ls_world.specs.Lines.{Line, came, last_row, texts}
+use Rattle.ls_world.specs.Cutting.{Wanted}
+use Rattle.ls_world.specs.RawMode.{LawfulRaw}
+use Rattle.ls_world.specs.DistinctMode.{LawfulDistinct}
+use Rattle.ls_world.specs.CommandMode.{LawfulCommand}
+use Rattle.ls_world.specs.ClientKeys.{KeysOf}
+use Rattle.ls_world.specs.World.{World, Session, Board, Stream, Item, Live, history_of, shape_at, is_at}
+
+-- it is true of each
+abbrev pub Each : {A : Type 0} → (A → Type 0) → List A → Type 0
+Each P [] = Unit {0}
+Each P (x ∷ xs) = P x × Each P xs
+
+-- a line of mode MERGE: the item's state at a number among the last of the slot's size then
+pub record IsMergeLine (p : Plan) (w : Wanted) (h : List Entry) (c : Came) : Type 0 where
+  pub row : c.what ≡ Row (projected (merged p.shape.fields h c.upto) w.places)
+  pub reached : c.upto ≤ c.at
+  pub recent : c.at - p.size < c.upto
+  pub within : c.at ≤ length h
+
+-- each is such a line, and their numbers rise, all below a top
+abbrev pub MergeLines : Plan → Wanted → List Entry → ℕ → List Came → Type 0
+MergeLines p w h top [] = Unit {0}
+MergeLines p w h top (c ∷ cs) = (c.upto < top) × IsMergeLine p w h c × MergeLines p w h c.upto cs
+
+-- a slot of mode MERGE: before its first line the client has nothing of it, and from then on the last row that came is
+-- the item's state at the slot's place
+pub record LawfulMerge (h : List Entry) (w : Wanted) (s : Slot) (cs : List Came) : Type 0 where
+  pub some : 0 < s.plan.size
+  pub behind : s.place ≤ s.last
+  pub within : s.last ≤ length h
+  pub before : s.given ≡ false → cs ≡ []
+  pub row : s.given ≡ true → last_row cs ≡ Some (projected (merged s.plan.shape.fields h s.place) w.places)
+  pub lines : MergeLines s.plan w h (s.place + 1) cs
+
+abbrev pub LawfulOf : Mode → List Entry → Wanted → Slot → List Came → Type 0
+LawfulOf mode.Merge h w s cs = LawfulMerge h w s cs
+LawfulOf mode.Raw h w s cs = LawfulRaw h w s cs
+LawfulOf mode.Distinct h w s cs = LawfulDistinct h w s cs
+LawfulOf mode.Command h w s cs = LawfulCommand h w s cs
+
+abbrev pub LawfulSlot : List Entry → Wanted → Slot → List Came → Type 0
+LawfulSlot h w s cs = LawfulOf s.plan.mode h w s cs
+
+-- no two slots of a session are of one place in one subscription
+abbrev pub Apart : List Live → Type 0
+Apart [] = Unit {0}
+Apart (v ∷ vs) = Each (λ u. is_at v.sub v.place u ≡ false) vs × Apart vs
+
+-- a slot is of a declared item and has its shape, and what came to the slot's client, by all lines of the session, is lawful on the item's whole history
+pub record LawfulLive (items : List Item) (lines : List Line) (v : Live) : Type 0 where
+  pub declared : v.item < length items
+  pub shape : v.slot.plan.shape ≡ shape_at items v.item
+  pub told : LawfulSlot (history_of items v.item) v.wanted v.slot (came v.sub v.place lines)
+
+pub record LawfulBoard (items : List Item) (b : Board) : Type 0 where
+  pub apart : Apart b.round
+  pub slots : Each (LawfulLive items b.lines) b.round
+
+-- the numbers given on a stream follow its beginning without a gap
+abbrev pub Follows : ℕ → List ℕ → Type 0
+Follows from [] = Unit {0}
+Follows from (n ∷ ns) = (n ≡ from + length ns + 1) × Follows from ns
+
+-- those of each stream do, and the last number given is that of the newest
+abbrev pub LawfulStreams : ℕ → List Stream → Type 0
+LawfulStreams sent [] = ⊥
+LawfulStreams sent (t ∷ ts) = (sent ≡ t.from + length t.given) × Each (λ u. Follows u.from u.given) (t ∷ ts)
+
+pub record LawfulSession (items : List Item) (s : Session) : Type 0 where
+  pub board : LawfulBoard items s.board
+  pub sent : s.sent ≤ length s.board.lines
+  pub streams : LawfulStreams s.sent s.streams
+
+-- an item has a definition of 1 to 64 fields with distinct names, among them in kind COMMAND a key and a command, and a
+-- history
+pub record IsSound (i : Item) : Type 0 where
+  pub shape : IsShape (shape_of i.definition)
+  pub distinct : are_distinct i.definition.fields ≡ true
+  pub history : IsHistory (shape_of i.definition) i.history
+
+-- each item is sound, and each session is lawful on them
+pub record LawfulRecords (w : World) : Type 0 where
+  pub items : Each IsSound w.items
+  pub sessions : Each (LawfulSession w.items) w.sessions
+
+-- texts are read as lines
+abbrev pub AreRead : List (List ℕ) → List WireLine → Type 0
+AreRead [] [] = Unit {0}
+AreRead [] (l ∷ ls) = ⊥
+AreRead (text ∷ texts) [] = ⊥
+AreRead (text ∷ texts) (l ∷ ls) = Says text l × AreRead texts ls
+
+-- what came of the item of a slot is what a client decodes from the texts of the lines: its subscription has the fields
+-- of the schema, no more than a line can tell, and in mode COMMAND the rows by key that it makes of it are the item's
+pub record Decodes (h : List Entry) (v : Live) (all : List (List ℕ)) (ws : List What) : Type 0 where
+  pub lines : List WireLine
+  pub read : AreRead all lines
+  pub came : HasCome v.sub v.place lines ws
+  pub schema : came.subscription.fields ≡ length v.wanted.places
+  pub most : length v.wanted.places ≤ 999999999
+  pub keys : KeysOf v.slot.plan.mode h v.wanted v.slot came.subscription.keyed ws
+
+-- a slot's client decodes what the records say came to it
+abbrev pub DecodesLive : List Item → List Line → Live → Type 0
+DecodesLive items lines v = Decodes (history_of items v.item) v (texts lines) (whats (came v.sub v.place lines))
+
+-- of each slot of a session, what the records say came to its client is what the client decodes from the texts of all
+-- numbered lines
+abbrev pub Decoded : List Item → Session → Type 0
+Decoded items s = Each (DecodesLive items s.board.lines) s.board.round
+
+-- the headline of a world: what each client decodes from the bytes of its lines is true of the items' histories
+pub record Lawful (w : World) : Type 0 where
+  pub records : LawfulRecords w
+  pub clients : Each (Decoded w.items) w.sessions

@@ -1,0 +1,15 @@
+pub mod Came
+pub mod Tables
+pub mod Lines
+pub mod Cutting
+pub mod World
+pub mod Acting
+pub mod RawMode
+pub mod DistinctMode
+pub mod CommandMode
+pub mod ClientKeys
+pub mod Steps
+pub mod Built
+pub mod Script
+pub mod Lawful
+pub mod Ranges

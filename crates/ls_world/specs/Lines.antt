@@ -1,0 +1,70 @@
+-- The numbered lines of a session, the lines of the protocol that they are, and what came to a client by them (TLCP
+-- 2.1, notifications).
+use Rattle.std.specs.Prelude.{◌==◌, ℕ, ◌+◌, List, [], ◌∷◌, length, Bool, ◌&&◌, Option, None, Some, codes, if◌then◌else◌}
+use Rattle.ls_value.specs.declared.row.Value.{Value}
+use Rattle.ls_update.specs.Fields.{spelled}
+use Rattle.ls_line.specs.declared.line.Line.{Line as WireLine}
+use Rattle.ls_line.specs.declared.line.Line.TheVariants as line
+use Rattle.ls_line.specs.Lines.{text_of}
+use Rattle.ls_mirror.specs.Client.{What, Row, Lost, Cleared, End, last_row as last_row_of}
+use Rattle.ls_world.specs.Came.{Came, whats}
+use Rattle.ls_world.specs.Tables.{InSchema}
+
+-- SUBOK with its numbers of items and fields, or SUBCMD where the places of a key and a command stand behind them;
+-- UNSUB; CONF, filtered or not; and a line that tells of an item of a subscription: U, OV, CS or EOS
+pub data Line : Type 0 where
+  Begins : ℕ → ℕ → ℕ → Option InSchema → Line
+  Ends : ℕ → Line
+  Configures : ℕ → Bool → Line
+  Tells : ℕ → ℕ → Came → Line
+
+-- what came of an item of a subscription since it began, the newest first, as the lines
+abbrev pub came : ℕ → ℕ → List Line → List Came
+came sub place [] = []
+came sub place (Begins s items fields keys ∷ lines) = if s == sub then [] else came sub place lines
+came sub place (Ends s ∷ lines) = if s == sub then [] else came sub place lines
+came sub place (Configures s filtered ∷ lines) = came sub place lines
+came sub place (Tells s p c ∷ lines) =
+    if (s == sub) && (p == place) then c ∷ came sub place lines else came sub place lines
+
+-- the last row that came
+abbrev pub last_row : List Came → Option (List Value)
+last_row cs = last_row_of (whats cs)
+
+-- the line of the protocol that tells, where the last row was this one: a row is coded against it
+abbrev pub tells_line : Option (List Value) → ℕ → ℕ → What → WireLine
+tells_line prev sub place (Row r) = line.U sub place (spelled prev r)
+tells_line prev sub place (Lost k) = line.Ov sub place k
+tells_line prev sub place Cleared = line.Cs sub place
+tells_line prev sub place End = line.Eos sub place
+
+-- its text
+abbrev pub tells_text : Option (List Value) → ℕ → ℕ → What → List ℕ
+tells_text prev sub place what = text_of (tells_line prev sub place what)
+
+-- the line with which a subscription begins; places in it count from 1
+abbrev pub begins_line : ℕ → ℕ → ℕ → Option InSchema → WireLine
+begins_line sub items fields None = line.SubOk sub items fields
+begins_line sub items fields (Some at) = line.SubCmd sub items fields (at.key + 1) (at.command + 1)
+
+-- a numbered line as a line of the protocol, behind the lines before it
+abbrev pub wire : List Line → Line → WireLine
+wire lines (Begins sub items fields keys) = begins_line sub items fields keys
+wire lines (Ends sub) = line.Unsub sub
+wire lines (Configures sub filtered) =
+    line.Conf sub (codes "unlimited") (if filtered then codes "filtered" else codes "unfiltered")
+wire lines (Tells sub place c) = tells_line (last_row (came sub place lines)) sub place c.what
+
+-- the text of a line behind the lines before it
+abbrev pub line_text : List Line → Line → List ℕ
+line_text lines l = text_of (wire lines l)
+
+-- the texts of all lines
+abbrev pub texts : List Line → List (List ℕ)
+texts [] = []
+texts (l ∷ lines) = line_text lines l ∷ texts lines
+
+-- the text of the line of a number, where the newest of the lines stands first
+abbrev pub text_at : List Line → ℕ → List ℕ
+text_at [] n = []
+text_at (l ∷ lines) n = if n == length lines + 1 then line_text lines l else text_at lines n

@@ -1,0 +1,261 @@
+-- The world: all items with their whole histories, all sessions with all their numbered lines, and the connections
+-- (this project's profile).
+use Rattle.std.specs.Prelude.{◌==◌, ℕ, zero, suc, ◌+◌, List, [], ◌∷◌, ◌++◌, length, map, min, Bool, true, false, ◌&&◌, ◌||◌, Option, None, Some, nat_lt, codes, if◌then◌else◌, option_and_then}
+use Rattle.std.specs.Option.{option_map_or}
+use Rattle.std.specs.List.{flat_map}
+use Rattle.std.specs.Fmt.{decimal}
+use Rattle.ls_event.specs.declared.event.Entry.{Entry}
+use Rattle.ls_event.specs.declared.event.Mode.{Mode}
+use Rattle.ls_event.specs.declared.event.Mode.TheVariants as mode
+use Rattle.ls_event.specs.declared.item.ItemDef.{ItemDef}
+use Rattle.ls_event.specs.declared.item.Kind.TheVariants as kind
+use Rattle.ls_event.specs.Shapes.{Shape, shape_of}
+use Rattle.ls_event.specs.Slots.{Slot, enqueued, is_far}
+use Rattle.ls_event.specs.Joining.{plan_of, joined}
+use Rattle.ls_request.specs.declared.request.LinkKind.{LinkKind}
+use Rattle.ls_world.specs.Came.{Came}
+use Rattle.ls_line.specs.declared.line.Line.TheVariants as line
+use Rattle.ls_line.specs.Lines.{text_of}
+use Rattle.ls_world.specs.Lines.{Line, Begins, Configures, Tells, came}
+use Rattle.ls_world.specs.Tables.{InSchema, shown_at}
+use Rattle.ls_world.specs.Cutting.{Wanted, Ask, Turn, turn}
+
+-- an item: its definition and its history
+pub record Item : Type 0 where
+  pub definition : ItemDef
+  pub history : List Entry
+
+-- a slot of a session: the subscription, the place of the item in it, the item, the slot's number on the item, and what
+-- the subscription wants
+pub record Live : Type 0 where
+  pub sub : ℕ
+  pub place : ℕ
+  pub item : ℕ
+  pub number : ℕ
+  pub wanted : Wanted
+  pub slot : Slot
+
+-- all numbered lines, the newest first, and the round of slots
+pub record Board : Type 0 where
+  pub lines : List Line
+  pub round : List Live
+
+-- a stream: the number after which it was bound, and the numbers given on it, the newest first
+pub record Stream : Type 0 where
+  pub from : ℕ
+  pub given : List ℕ
+
+-- a session: its board, the number sent last, the lines owed to its stream, and its streams, the newest first
+pub record Session : Type 0 where
+  pub board : Board
+  pub sent : ℕ
+  pub owed : List (List ℕ)
+  pub streams : List Stream
+
+-- a connection: its name, what it goes over, and the session of its last create, if it ever had one
+pub record Connection : Type 0 where
+  pub name : List ℕ
+  pub link : LinkKind
+  pub session : Option ℕ
+
+-- the number of script lines so far, the adapter set's name, the last tick, and the items, the sessions and the
+-- connections, each in the order in which they came
+pub record World : Type 0 where
+  pub line : ℕ
+  pub set : List ℕ
+  pub tick : ℕ
+  pub items : List Item
+  pub sessions : List Session
+  pub connections : List Connection
+
+abbrev pub empty : World
+empty = record { line = 0; set = codes "DEFAULT"; tick = 0; items = []; sessions = []; connections = [] }
+
+-- an item's history, and its shape; past the last there is nothing
+abbrev pub history_of : List Item → ℕ → List Entry
+history_of [] n = []
+history_of (i ∷ items) zero = i.history
+history_of (i ∷ items) (suc n) = history_of items n
+
+abbrev pub shape_at : List Item → ℕ → Shape
+shape_at [] n = record { kind = kind.Merge; fields = 0; key = 0; command = 0 }
+shape_at (i ∷ items) zero = shape_of i.definition
+shape_at (i ∷ items) (suc n) = shape_at items n
+
+-- the list with the n-th changed
+abbrev pub change : {A : Type 0} → ℕ → (A → A) → List A → List A
+change n f [] = []
+change zero f (x ∷ xs) = f x ∷ xs
+change (suc n) f (x ∷ xs) = x ∷ change n f xs
+
+abbrev pub is_at : ℕ → ℕ → Live → Bool
+is_at sub place v = (sub == v.sub) && (place == v.place)
+
+abbrev pub is_of : ℕ → Live → Bool
+is_of sub v = sub == v.sub
+
+abbrev pub is_used : ℕ → List Live → Bool
+is_used sub [] = false
+is_used sub (v ∷ vs) = is_of sub v || is_used sub vs
+
+-- the slot of a place in a subscription
+abbrev pub live_at : ℕ → ℕ → List Live → Option Live
+live_at sub place [] = None
+live_at sub place (v ∷ vs) = if is_at sub place v then Some v else live_at sub place vs
+
+-- the slots of all sessions
+abbrev pub all_live : List Session → List Live
+all_live sessions = flat_map (λ s. s.board.round) sessions
+
+-- the numbers of the slots on an item
+abbrev pub numbers_of : ℕ → List Live → List ℕ
+numbers_of item [] = []
+numbers_of item (v ∷ vs) = if item == v.item then v.number ∷ numbers_of item vs else numbers_of item vs
+
+-- those that lag by 64 behind so many events
+abbrev pub far_numbers : ℕ → ℕ → List Live → List ℕ
+far_numbers item events [] = []
+far_numbers item events (v ∷ vs) =
+    if (item == v.item) && is_far events v.slot then v.number ∷ far_numbers item events vs
+    else far_numbers item events vs
+
+abbrev pub least_of : List ℕ → Option ℕ
+least_of [] = None
+least_of (n ∷ ns) = Some (option_map_or (min n) (least_of ns) n)
+
+-- the least slot on an item that lags by 64
+abbrev pub least_far : ℕ → ℕ → List Session → Option ℕ
+least_far item events sessions = least_of (far_numbers item events (all_live sessions))
+
+abbrev pub holds : ℕ → List ℕ → Bool
+holds n [] = false
+holds n (m ∷ ms) = (n == m) || holds n ms
+
+-- the least number from n on that isn't used, among the next k
+abbrev pub least_free_from : ℕ → ℕ → List ℕ → ℕ
+least_free_from zero n used = n
+least_free_from (suc k) n used = if holds n used then least_free_from k (n + 1) used else n
+
+-- the least number from 1 that no slot on the item has
+abbrev pub free_number : List Session → ℕ → ℕ
+free_number sessions item = let used = numbers_of item (all_live sessions) in least_free_from (length used) 1 used
+
+-- the slot that joins an item, as is asked
+abbrev pub joined_slot : List Item → Ask → Slot
+joined_slot items a =
+    joined (plan_of (shape_at items a.item) (history_of items a.item) a.mode a.size) (history_of items a.item) a.wanted.snapshot
+
+-- the slots of a new subscription, from this place on, where an item's next slot gets this number
+abbrev pub joined_all : List Item → (ℕ → ℕ) → ℕ → ℕ → List Ask → List Live
+joined_all items free sub place [] = []
+joined_all items free sub place (a ∷ asks) =
+    record { sub = sub; place = place; item = a.item; number = free a.item; wanted = a.wanted; slot = joined_slot items a } ∷ joined_all items free sub (place + 1) asks
+
+-- the first of what is asked, if anything is
+abbrev pub first_of : List Ask → Option Ask
+first_of [] = None
+first_of (a ∷ asks) = Some a
+
+-- a schema shows the key and the command in mode COMMAND alone
+abbrev pub keys_in : Mode → InSchema → Option InSchema
+keys_in mode.Command at = Some at
+keys_in m at = None
+
+-- their places in the schema of a subscription, by what is asked of its first item
+abbrev pub keys_shown : List Item → List Ask → Option InSchema
+keys_shown items asks =
+    option_and_then (λ a. keys_in a.mode (shown_at (shape_at items a.item) a.wanted.places)) (first_of asks)
+
+-- RAW knows no frequency, so it isn't filtered
+abbrev pub is_filtered : Mode → Bool
+is_filtered mode.Raw = false
+is_filtered m = true
+
+abbrev pub are_filtered : List Ask → Bool
+are_filtered asks = option_map_or (λ a. is_filtered a.mode) (first_of asks) true
+
+-- a new subscription numbers SUBOK or SUBCMD, and CONF, and its slots join the round's end
+abbrev pub added : List Item → (ℕ → ℕ) → ℕ → ℕ → List Ask → Board → Board
+added items free sub fields asks b =
+    record b {
+      lines = Configures sub (are_filtered asks) ∷ Begins sub (length asks) fields (keys_shown items asks) ∷ b.lines;
+      round = b.round ++ joined_all items free sub 1 asks;
+    }
+
+-- a slot takes its item's next event, if there is one
+abbrev pub enqueue_slot : List Entry → Live → Live
+enqueue_slot h v = if nat_lt v.slot.last (length h) then record v { slot = enqueued v.slot } else v
+
+abbrev pub enqueue_at : List Item → ℕ → ℕ → Live → Live
+enqueue_at items sub place v = if is_at sub place v then enqueue_slot (history_of items v.item) v else v
+
+abbrev pub enqueued_in : List Item → ℕ → ℕ → Board → Board
+enqueued_in items sub place b = record b { round = map (enqueue_at items sub place) b.round }
+
+-- the slot of a round that gives a line, and what comes by it
+pub record Told : Type 0 where
+  pub live : Live
+  pub came : Came
+
+-- a round that was asked: the first slot that gave a line, and the others in their order
+pub record Round : Type 0 where
+  pub kept : List Live
+  pub told : Option Told
+
+-- a slot that isn't due has no turn
+abbrev pub turn_if : Bool → Slot → Turn → Turn
+turn_if true s t = t
+turn_if false s t = record { slot = s; told = None }
+
+abbrev pub live_turn : (Live → Bool) → List Item → List Line → Live → Turn
+live_turn due items lines v =
+    turn_if (due v) v.slot (turn (history_of items v.item) v.wanted v.slot (came v.sub v.place lines))
+
+abbrev pub met_by : Live → Option Came → List Live → Round → Round
+met_by v (Some c) vs rest = record { kept = vs; told = Some (record { live = v; came = c }) }
+met_by v None vs rest = record rest { kept = v ∷ rest.kept }
+
+abbrev pub met : Live → Turn → List Live → Round → Round
+met v t vs rest = met_by (record v { slot = t.slot }) t.told vs rest
+
+-- the round is asked in its order, up to the first line
+abbrev pub asked : (Live → Bool) → List Item → List Line → List Live → Round
+asked due items lines [] = record { kept = []; told = None }
+asked due items lines (v ∷ vs) = met v (live_turn due items lines v) vs (asked due items lines vs)
+
+-- the line is numbered, and its slot goes to the round's end
+abbrev pub given_by : Board → List Live → Option Told → Board
+given_by b kept None = record b { round = kept }
+given_by b kept (Some t) =
+    record b { lines = Tells t.live.sub t.live.place t.came ∷ b.lines; round = kept ++ t.live ∷ [] }
+
+abbrev pub taken_in : (Live → Bool) → List Item → Board → Board
+taken_in due items b = given_by b (asked due items b.lines b.round).kept (asked due items b.lines b.round).told
+
+-- a step of the board
+abbrev pub on_board : (Board → Board) → Session → Session
+on_board f s = record s { board = f s.board }
+
+abbrev pub noted_in : ℕ → List Stream → List Stream
+noted_in n [] = []
+noted_in n (t ∷ ts) = record t { given = n ∷ t.given } ∷ ts
+
+-- whether a numbered line isn't given yet
+abbrev pub is_unsent : Session → Bool
+is_unsent s = nat_lt s.sent (length s.board.lines)
+
+-- the next unsent line is given, if there is one
+abbrev pub given_next : Session → Session
+given_next s = if is_unsent s then record s { sent = s.sent + 1; streams = noted_in (s.sent + 1) s.streams } else s
+
+-- what a new stream begins with: the session's name, the longest request, the keep-alive in ms and no control link; the
+-- server's name; the bandwidth (TLCP 2.1, CONOK, SERVNAME, CONS)
+abbrev pub opening_lines : ℕ → ℕ → List (List ℕ)
+opening_lines number keepalive =
+    text_of (line.ConOk (codes "S" ++ decimal number) keepalive) ∷ text_of line.ServName
+    ∷ text_of (line.Cons (codes "unlimited")) ∷ []
+
+-- a session that begins, by its number from 1 and its keep-alive
+abbrev pub opened : ℕ → ℕ → Session
+opened number keepalive =
+    record { board = record { lines = []; round = [] }; sent = 0; owed = opening_lines number keepalive; streams = record { from = 0; given = [] } ∷ [] }
