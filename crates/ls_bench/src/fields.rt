@@ -14,20 +14,20 @@ const SIZES: [usize; 3] = [4, 16, 64];
 /// How often each row is written and read.
 const TIMES: u64 = 20_000;
 
-/// The value of a field in a row of this turn: every tenth field changes from turn to turn.
-fn value_of(alloc: Global, field: usize, turn: u64) -> Result<Value, NoMemory> {
-    let moved = if field % 10 == 0 { turn } else { 0 };
-    let text = format!(in alloc; "{field}.{moved}4")?;
+/// The value of a field in this version of a row: every tenth field differs from version to version.
+fn value_of(alloc: Global, field: usize, version: u64) -> Result<Value, NoMemory> {
+    let changed = if field % 10 == 0 { version } else { 0 };
+    let text = format!(in alloc; "{field}.{changed}4")?;
     Ok(Value::Text(Text::from_string(text)))
 }
 
 /// A row of so many fields.
-fn row_of(alloc: Global, fields: usize, turn: u64) -> Result<Row, NoMemory>
+fn row_of(alloc: Global, fields: usize, version: u64) -> Result<Row, NoMemory>
     ensures { IfOk result (λ row. length row ≡ fields) }
 {
     let mut values = Vec::new(alloc);
     for field in 0..fields {
-        values.push(value_of(alloc, field, turn)?)?;
+        values.push(value_of(alloc, field, version)?)?;
     }
     Ok(Row::of(values))
 }
@@ -61,7 +61,7 @@ fn read_often(alloc: Global, before: &Row, text: &[u8], fields: usize) -> Result
 }
 
 /// Prints what one call took, and how many bytes a second went through.
-fn tell<R: Runtime + AllocGlobal>(
+fn report<R: Runtime + AllocGlobal>(
     rt: &R,
     what: &str,
     fields: usize,
@@ -84,11 +84,11 @@ fn measure_size<R: Runtime + AllocGlobal>(rt: &R, fields: usize) -> Result<(), F
     let row = row_of(alloc, fields, 2)?;
     let start = Instant::now(rt)?;
     let written = write_often(alloc, &before, &row)?;
-    tell(rt, "write", fields, start, written)?;
+    report(rt, "write", fields, start, written)?;
     let text = write(alloc, Some(&before), &row)?;
     let start = Instant::now(rt)?;
     let taken = read_often(alloc, &before, text.as_slice(), fields)?;
-    tell(rt, "read ", fields, start, taken)
+    report(rt, "read ", fields, start, taken)
 }
 
 /// Measures rows of each size.

@@ -21,10 +21,19 @@ const ROUNDS: u64 = 5;
 /// How many requests are read.
 const REQUESTS: u64 = 1_000;
 
-/// The ratio, in hundredths, above which the time grows faster than the form text. It is 200 where both double, and 400 of a square.
+/// The mode, the items and the fields of each request.
+const ADD_ITEMS: &str = "LS_mode=MERGE&LS_group=item1+item2&LS_schema=last_price+time+stock_name";
+
+/// The other parameters of each request.
+const ADD_REST: &str =
+    "LS_data_adapter=QUOTE_ADAPTER&LS_snapshot=true&LS_requested_max_frequency=3.0";
+
+/// The ratio, in hundredths, above which the time grows faster than the form text. It is 200 where both double, and
+/// 400 of a square.
 const MOST_RATIO: u128 = 300;
 
-/// A form text of as many pairs as go into so many bytes. Their names are the numbers from 0, so that they differ, and each text is `b`.
+/// A form text of as many pairs as go into so many bytes. Their names are the numbers from 0, so that they differ, and
+/// each text is `b`.
 fn short_pairs(alloc: Global, bytes: usize) -> Result<Vec<u8>, AllocError>
     ensures { IfOk result (λ form. length form.items ≤ bytes) }
 {
@@ -44,8 +53,8 @@ fn one_pair(alloc: Global, bytes: usize) -> Result<Vec<u8>, AllocError>
     ensures { IfOk result (λ form. length form.items ≤ bytes) }
 {
     let mut form = Vec::new(alloc);
-    for place in 0..bytes {
-        form.push(if place == 1 { b'=' } else { b'b' })?;
+    for i in 0..bytes {
+        form.push(if i == 1 { b'=' } else { b'b' })?;
     }
     Ok(form)
 }
@@ -74,8 +83,9 @@ fn read_time<R: Runtime + AllocGlobal>(rt: &R, form: &[u8]) -> Result<(usize, u1
     Ok((count, best / TIMES as u128))
 }
 
-/// Prints the times of a form text and of one of half its bytes, and their ratio, which must show that the time doesn't grow as a square.
-fn tell<R: Runtime + AllocGlobal>(
+/// Prints the times of a form text and of one of half its bytes, and their ratio, which must show that the time doesn't
+/// grow as a square.
+fn report<R: Runtime + AllocGlobal>(
     rt: &R,
     what: &str,
     half: &[u8],
@@ -99,9 +109,7 @@ fn tell<R: Runtime + AllocGlobal>(
 
 /// The parameters of a control request that adds a subscription of this number.
 fn add_of(alloc: Global, number: u64) -> Result<String, AllocError> {
-    format!(in alloc;
-        "LS_reqId={number}&LS_op=add&LS_subId={number}&LS_mode=MERGE&LS_group=item1+item2&LS_schema=last_price+time+stock_name&LS_data_adapter=QUOTE_ADAPTER&LS_snapshot=true&LS_requested_max_frequency=3.0"
-    )
+    format!(in alloc; "LS_reqId={number}&LS_op=add&LS_subId={number}&{ADD_ITEMS}&{ADD_REST}")
 }
 
 /// Reads so many control requests on a WebSocket, each of which adds a subscription.
@@ -135,7 +143,7 @@ pub fn measure<R: Runtime + AllocGlobal>(rt: &R) -> Result<(), Failed> {
     let alloc = rt.alloc();
     let half = short_pairs(alloc, MOST / 2)?;
     let whole = short_pairs(alloc, MOST)?;
-    tell(
+    report(
         rt,
         "names of 1 to 4 digits and texts of one letter",
         &half,
@@ -143,6 +151,6 @@ pub fn measure<R: Runtime + AllocGlobal>(rt: &R) -> Result<(), Failed> {
     )?;
     let half = one_pair(alloc, MOST / 2)?;
     let whole = one_pair(alloc, MOST)?;
-    tell(rt, "one text", &half, &whole)?;
+    report(rt, "one text", &half, &whole)?;
     measure_adds(rt)
 }

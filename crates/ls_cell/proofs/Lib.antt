@@ -3,7 +3,7 @@ pub mod Passing
 pub mod Tails
 pub mod Grown
 pub mod Refusals
-pub mod Told
+pub mod Recorded
 pub mod Sound
 pub mod CellStands
 pub mod Arrivals

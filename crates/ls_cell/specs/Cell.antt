@@ -1,5 +1,7 @@
 -- What an item with its slots holds, and the histories and records that it stands for.
-use Rattle.std.specs.Prelude.{◌≡◌, ℕ, ◌+◌, ◌-◌, ◌≤◌, ◌^◌, List, [], ◌∷◌, ◌++◌, length, drop, Bool, false, Option, None, Some, Result, Ok, Err, nat_lt, nat_le, if◌then◌else◌, slice_index, slice_set, option_map, option_and_then, IsSome}
+use Rattle.std.specs.Prelude.{◌≡◌, ℕ, ◌+◌, ◌-◌, ◌≤◌, List, [], ◌∷◌, ◌++◌, length, drop, Bool, false, Option, None}
+use Rattle.std.specs.Prelude.{Some, Result, Ok, Err, nat_lt, nat_le, if◌then◌else◌, slice_index, slice_set, option_map}
+use Rattle.std.specs.Prelude.{option_and_then, IsSome}
 use Rattle.std.specs.Option.{option_or, option_map_or}
 use Rattle.ls_event.specs.declared.event.Event.{Event}
 use Rattle.ls_event.specs.declared.event.Entry.{Entry}
@@ -11,20 +13,23 @@ use Rattle.ls_event.specs.declared.item.Kind.{Kind}
 use Rattle.ls_event.specs.declared.item.Kind.TheVariants as kind
 use Rattle.ls_event.specs.declared.snapshot.Snapshot.{Snapshot}
 use Rattle.ls_event.specs.declared.snapshot.Snapshot.TheVariants as state
+use Rattle.ls_event.specs.declared.limits.TheConstants.{MOST_ADAPTERS, MOST_LAG}
 use Rattle.ls_event.specs.History.{RowFits, last_seq}
 use Rattle.ls_event.specs.Shapes.{Shape, IsShape}
-use Rattle.ls_event.specs.States.{state_at, state_after, left_by, push_refusal}
+use Rattle.ls_event.specs.States.{state_at, state_after, key_row, push_refusal}
 use Rattle.ls_event.specs.Publishes.{stored_from, publish_cause, backlog_or, IsHistory}
 use Rattle.ls_event.specs.Slots.{Slot, enqueued}
 use Rattle.ls_item.specs.States.{Kept}
+use Rattle.ls_value.specs.declared.limits.TheConstants.{GREATEST_NUMBER}
 use Rattle.ls_cell.specs.declared.any.AnyBuffer.{AnyBuffer}
 use Rattle.ls_cell.specs.declared.cell.Enqueued.{Enqueued}
 use Rattle.ls_cell.specs.declared.cell.Enqueued.TheVariants as answer
-use Rattle.ls_cell.specs.Table.{slot_at, EachSlot, far_from, StandsAll}
-use Rattle.ls_cell.specs.Any.{any_last, any_head, any_left}
+use Rattle.ls_cell.specs.Numbered.{slot_at, EachSlot, first_lagging, StandsAll}
+use Rattle.ls_cell.specs.Any.{any_last, any_cut, any_pending}
 use Rattle.ls_cell.specs.Standing.{IsEventOf, IsSlotOf, StandsSlot, last_at}
 
--- what an item holds: its shape and its state, its number of events, the last of them, the last seq of each adapter, and its slots
+-- what an item holds: its shape and its state, its number of events, the last of them, the last seq of each adapter,
+-- and its slots
 pub record Held : Type 0 where
   pub item : Kept
   pub number : ℕ
@@ -59,10 +64,10 @@ AreKept p n (x ∷ xs) = IsKept p (n + 1) x × AreKept p (n + 1) xs
 pub record IsSound (c : Held) : Type 0 where
   pub shape : IsShape c.item.shape
   pub state : IsOfKind c.item.shape.kind c.item.state
-  pub seqs : length c.seqs ≡ 65
-  pub short : length c.tail ≤ 64
+  pub seqs : length c.seqs ≡ MOST_ADAPTERS + 1
+  pub most : length c.tail ≤ MOST_LAG
   pub within : length c.tail ≤ c.number
-  pub in_range : c.number ≤ 2 ^ 60
+  pub in_range : c.number ≤ GREATEST_NUMBER
   pub kept : AreKept c.item.shape (c.number - length c.tail) c.tail
   pub slots : EachSlot (IsSlotOf c.item.shape c.number (length c.tail)) c.slots
 
@@ -74,7 +79,9 @@ HasSlot c slot = IsSome (slot_at c.slots slot)
 abbrev pub refusal_of : Held → ℕ → ℕ → Event → Option PublishRefused
 refusal_of c adapter seq event =
     if nat_le seq (slice_index c.seqs adapter) then Some (refused.Repeated (slice_index c.seqs adapter))
-    else option_or (option_map publish_cause (push_refusal c.item.shape c.item.state event)) (backlog_or (far_from any_last c.number 1 c.slots) (if nat_le (2 ^ 60) c.number then Some refused.Spent else None))
+    else option_or (option_map publish_cause (push_refusal c.item.shape c.item.state event))
+    (backlog_or (first_lagging any_last c.number 1 c.slots)
+    (if nat_le GREATEST_NUMBER c.number then Some refused.Spent else None))
 
 -- the answer is the first cause, or without a cause this number; want of memory comes last
 abbrev pub AnswersFirst : Option PublishRefused → ℕ → Result ℕ PublishRefused → Type 0
@@ -82,13 +89,18 @@ AnswersFirst cause next (Ok n) = (cause ≡ None) × (n ≡ next)
 AnswersFirst cause next (Err refused.NoMemory) = cause ≡ None
 AnswersFirst cause next (Err e) = cause ≡ Some e
 
--- the last 64 events, after one more
+-- the last events, after one more
 abbrev pub tail_after : List Stored → Stored → List Stored
-tail_after t x = drop (length t + 1 - 64) (t ++ x ∷ [])
+tail_after t x = drop (length t + 1 - MOST_LAG) (t ++ x ∷ [])
 
--- an event with its number and the row that it leaves its key, where it is added to an item
+-- an event with its number and its key's row then, where it is added to an item
 abbrev pub stored_next : Held → Event → Stored
-stored_next c event = record { no = c.number + 1; event = event; after = left_by c.item.shape (state_after c.item.shape c.item.state event) event }
+stored_next c event = record {
+  no = c.number + 1;
+  event = event;
+  after =
+      key_row c.item.shape (state_after c.item.shape c.item.state event) event;
+}
 
 -- what is held after an entry
 abbrev pub published : Held → Entry → Held
@@ -100,13 +112,13 @@ published c e =
       seqs = slice_set c.seqs e.adapter e.seq;
     }
 
--- what a slot tells next
-abbrev pub head_at : Held → ℕ → Option Taken
-head_at c slot = option_and_then any_head (slot_at c.slots slot)
+-- the next cut of a slot
+abbrev pub cut_at : Held → ℕ → Option Taken
+cut_at c slot = option_and_then any_cut (slot_at c.slots slot)
 
 -- whether a slot is pending
-abbrev pub left_at : Held → ℕ → Bool
-left_at c slot = option_map_or any_left (slot_at c.slots slot) false
+abbrev pub pending_at : Held → ℕ → Bool
+pending_at c slot = option_map_or any_pending (slot_at c.slots slot) false
 
 -- the number that was enqueued last into a slot, 0 where none is live
 abbrev pub last_in : Held → ℕ → ℕ
@@ -124,16 +136,16 @@ next_last number last = if nat_lt last number then last + 1 else last
 abbrev pub enqueued_at : List Entry → Slot → Slot
 enqueued_at h s = if nat_lt s.last (length h) then enqueued s else s
 
--- the least number of a slot that lags by 64 behind so many events
-abbrev pub least_far : ℕ → List (Option Slot) → Option ℕ
-least_far number ss = far_from (λ s. s.last) number 1 ss
+-- the least number of a slot that lags by as much as it may behind so many events
+abbrev pub least_lagging : ℕ → List (Option Slot) → Option ℕ
+least_lagging number ss = first_lagging (λ s. s.last) number 1 ss
 
 -- what is held stands for a history and the records of its slots, of which the first has number 1
 pub record StandsCell (c : Held) (ss : List (Option Slot)) (h : List Entry) : Type 0 where
   pub number : c.number ≡ length h
   pub shape : IsShape c.item.shape
   pub state : c.item.state ≡ state_at c.item.shape h (length h)
-  pub tail : c.tail ≡ stored_from c.item.shape h (length h - 64) (drop (length h - 64) h)
-  pub seqs : (adapter : ℕ) → adapter ≤ 64 → slice_index c.seqs adapter ≡ last_seq adapter h
+  pub tail : c.tail ≡ stored_from c.item.shape h (length h - MOST_LAG) (drop (length h - MOST_LAG) h)
+  pub seqs : (adapter : ℕ) → adapter ≤ MOST_ADAPTERS → slice_index c.seqs adapter ≡ last_seq adapter h
   pub slots : StandsAll (StandsSlot c.item.shape) c.slots ss h
   pub history : IsHistory c.item.shape h

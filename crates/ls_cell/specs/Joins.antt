@@ -3,9 +3,6 @@ use Rattle.std.specs.Prelude.{◌≡◌, ℕ, List, length, min, Option, None, S
 use Rattle.ls_event.specs.declared.event.Entry.{Entry}
 use Rattle.ls_event.specs.declared.event.Event.{Event}
 use Rattle.ls_event.specs.declared.event.Mode.{Mode}
-use Rattle.ls_event.specs.declared.event.Mode.TheVariants as mode
-use Rattle.ls_event.specs.declared.item.Kind.{Kind}
-use Rattle.ls_event.specs.declared.item.Kind.TheVariants as kind
 use Rattle.ls_event.specs.declared.snapshot.Snapshot.{Snapshot}
 use Rattle.ls_event.specs.declared.snapshot.Snapshot.TheVariants as state
 use Rattle.ls_event.specs.States.{state_at}
@@ -15,26 +12,22 @@ use Rattle.ls_cell.specs.declared.any.AnyBuffer.{AnyBuffer}
 use Rattle.ls_cell.specs.Any.{StandsAny, any_last, HasAnyFields, AnyAdmits}
 use Rattle.ls_cell.specs.Standing.{IsEventOf}
 
--- the modes in which an item of a kind can be told: RAW, and the one that the kind is named after (TLCP 2.1, LS_mode)
-abbrev pub IsModeOf : Kind → Mode → Type 0
-IsModeOf k mode.Raw = Unit {0}
-IsModeOf kind.Merge mode.Merge = Unit {0}
-IsModeOf kind.Merge mode.Distinct = ⊥
-IsModeOf kind.Merge mode.Command = ⊥
-IsModeOf kind.Distinct mode.Merge = ⊥
-IsModeOf kind.Distinct mode.Distinct = Unit {0}
-IsModeOf kind.Distinct mode.Command = ⊥
-IsModeOf kind.Command mode.Merge = ⊥
-IsModeOf kind.Command mode.Distinct = ⊥
-IsModeOf kind.Command mode.Command = Unit {0}
+-- a join: the item and its number of events, the slot's mode and size, and how many rows of a snapshot are asked for,
+-- if one is
+pub record Join : Type 0 where
+  pub item : Kept
+  pub number : ℕ
+  pub mode : Mode
+  pub size : ℕ
+  pub asked : Option ℕ
 
--- the buffer of a slot that joins, in a mode and with a size, an item in this state at this number, where so many rows of a snapshot are
--- asked for, if one is
-pub record Joins (k : Kept) (number : ℕ) (m : Mode) (size : ℕ) (asked : Option ℕ) (b : AnyBuffer) : Type 0 where
-  pub last : any_last b ≡ number
-  pub fields : HasAnyFields b k.shape.fields
-  pub admits : (e : Event) → IsEventOf k.shape e → AnyAdmits b e
-  pub stands : (h : List Entry) → number ≡ length h → k.state ≡ state_at k.shape h (length h) → StandsAny b (joined (plan_of k.shape h m size) h asked) h
+-- the buffer of a slot that joins
+pub record Joins (j : Join) (b : AnyBuffer) : Type 0 where
+  pub last : any_last b ≡ j.number
+  pub fields : HasAnyFields b j.item.shape.fields
+  pub admits : (e : Event) → IsEventOf j.item.shape e → AnyAdmits b e
+  pub stands : (h : List Entry) → j.number ≡ length h → j.item.state ≡ state_at j.item.shape h (length h)
+      → StandsAny b (joined (plan_of j.item.shape h j.mode j.size) h j.asked) h
 
 -- how many rows of a snapshot are owed: as many as are asked for, or as there are; only mode DISTINCT counts them
 abbrev pub rows_owed : Option Snapshot → Option ℕ → ℕ

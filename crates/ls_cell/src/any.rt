@@ -9,7 +9,7 @@ use ls_merge::MergeBuffer;
 use ls_raw::RawBuffer;
 use ls_value::NoMemory;
 
-/// What a slot in one of the modes still has to tell.
+/// The buffer of a slot, by its mode.
 #[derive(Drop)]
 pub enum AnyBuffer {
     Raw(RawBuffer),
@@ -33,7 +33,9 @@ impl AnyBuffer {
 }
 
 impl Buffer for AnyBuffer {
-    ghost use Rattle.ls_cell.specs.Any.{StandsAny, any_last as any_last_number, HasAnyFields, AnyAdmits, any_head, any_left, any_waits, any_head_is_cut, any_left_is_pending, any_waits_is_waiting, any_last_is, any_longer};
+    ghost use Rattle.ls_cell.specs.Any.{StandsAny, any_last as any_last_number, HasAnyFields, AnyAdmits, any_cut};
+    ghost use Rattle.ls_cell.specs.Any.{any_pending, any_waiting, any_cut_is, any_pending_is, any_waiting_is};
+    ghost use Rattle.ls_cell.specs.Any.{any_last_is, any_longer};
 
     ghost stands = { StandsAny };
 
@@ -43,17 +45,17 @@ impl Buffer for AnyBuffer {
 
     ghost admits = { AnyAdmits };
 
-    ghost head = { any_head };
+    ghost head = { any_cut };
 
-    ghost left = { any_left };
+    ghost is_pending = { any_pending };
 
-    ghost waits = { any_waits };
+    ghost waiting_count = { any_waiting };
 
-    ghost head_is_cut = { any_head_is_cut };
+    ghost head_is_cut = { any_cut_is };
 
-    ghost left_is_pending = { any_left_is_pending };
+    ghost pending_is = { any_pending_is };
 
-    ghost waits_is_waiting = { any_waits_is_waiting };
+    ghost waiting_is = { any_waiting_is };
 
     ghost last_is = { any_last_is };
 

@@ -1,11 +1,12 @@
 //! The buffers of slots that join.
-ghost use Rattle.std.specs.Prelude.{◌≡◌, ◌<◌, ◌≤◌, ℕ, Option, None, Some, IfOk, length, is_some, if◌then◌else◌};
+ghost use Rattle.std.specs.Prelude.{◌≡◌, ◌<◌, ◌≤◌, ℕ, true, Option, None, Some, IfOk, length, is_some, if◌then◌else◌};
 ghost use Rattle.std.specs.Option.{ForSome};
 ghost use Rattle.ls_event.specs.Shapes.{IsShape};
-ghost use Rattle.ls_event.specs.Joining.{rows_asked};
+ghost use Rattle.ls_event.specs.Joining.{rows_asked, is_mode_of};
+ghost use Rattle.ls_event.specs.declared.limits.TheConstants.{MOST_BUFFER_SIZE, MOST_SNAPSHOT_ROWS};
 ghost use Rattle.ls_item.specs.States.{IsStateOf, Kept};
-ghost use Rattle.ls_distinct.specs.Distinct.{rows_of};
-ghost use Rattle.ls_cell.specs.Joins.{IsModeOf, Joins, rows_owed as owed_of};
+ghost use Rattle.ls_distinct.specs.Distinct.{distinct_rows};
+ghost use Rattle.ls_cell.specs.Joins.{Joins, rows_owed as owed_of};
 
 use crate::any::AnyBuffer;
 use ls_command::CommandBuffer;
@@ -17,9 +18,6 @@ use ls_raw::RawBuffer;
 use ls_value::NoMemory;
 use std::alloc::Global;
 
-/// The rows of a snapshot that are the most that a slot is given.
-const MOST_ROWS: u32 = 32;
-
 /// The buffer of a slot that joins an item of so many events.
 pub fn buffer_of(
     alloc: Global,
@@ -30,10 +28,11 @@ pub fn buffer_of(
     snapshot: Snap,
 ) -> Result<AnyBuffer, NoMemory>
     requires shape { IsShape item.now.shape }
-    requires mode { IsModeOf item.now.shape.kind mode }
+    requires mode { is_mode_of mode item.now.shape.kind ≡ true }
     requires some { 0 < n }
-    requires most { n ≤ 256 }
-    ensures { IfOk result (Joins item.now number mode n (rows_asked snapshot)) }
+    requires most { n ≤ MOST_BUFFER_SIZE }
+    ensures { IfOk result (Joins
+        (record { item = item.now; number = number; mode = mode; size = n; asked = rows_asked snapshot })) }
 {
     match mode {
         Mode::Raw => raw_buffer(alloc, number),
@@ -45,7 +44,8 @@ pub fn buffer_of(
 
 /// The buffer of a slot in mode RAW, which knows no snapshot and no size.
 fn raw_buffer(alloc: Global, number: u64) -> Result<AnyBuffer, NoMemory>
-    ensures { IfOk result (λ b. (k : Kept) (n : ℕ) (asked : Option ℕ) → Joins k number Mode.Raw n asked b) }
+    ensures { IfOk result (λ b. (k : Kept) (n : ℕ) (asked : Option ℕ)
+        → Joins (record { item = k; number = number; mode = Mode.Raw; size = n; asked = asked }) b) }
 {
     let buffer = RawBuffer::new(alloc, number)?;
     Ok(AnyBuffer::Raw(buffer))
@@ -61,8 +61,9 @@ fn merge_buffer(
 ) -> Result<AnyBuffer, NoMemory>
     requires kind { item.now.shape.kind ≡ Kind.Merge }
     requires some { 0 < n }
-    requires most { n ≤ 256 }
-    ensures { IfOk result (Joins item.now number Mode.Merge n (rows_asked snapshot)) }
+    requires most { n ≤ MOST_BUFFER_SIZE }
+    ensures { IfOk result (Joins
+        (record { item = item.now; number = number; mode = Mode.Merge; size = n; asked = rows_asked snapshot })) }
 {
     let Snapshot::Merge(row) = item.snapshot()? else {
         unreachable!()
@@ -81,8 +82,9 @@ fn distinct_buffer(
 ) -> Result<AnyBuffer, NoMemory>
     requires kind { item.now.shape.kind ≡ Kind.Distinct }
     requires some { 0 < n }
-    requires most { n ≤ 256 }
-    ensures { IfOk result (Joins item.now number Mode.Distinct n (rows_asked snapshot)) }
+    requires most { n ≤ MOST_BUFFER_SIZE }
+    ensures { IfOk result (Joins
+        (record { item = item.now; number = number; mode = Mode.Distinct; size = n; asked = rows_asked snapshot })) }
 {
     let first = snapshot_asked(item, snapshot)?;
     let rows = rows_owed(&first, snapshot);
@@ -98,7 +100,13 @@ fn command_buffer(
     snapshot: Snap,
 ) -> Result<AnyBuffer, NoMemory>
     requires { item.now.shape.kind ≡ Kind.Command }
-    ensures { IfOk result (λ b. (n : ℕ) → Joins item.now number Mode.Command n (rows_asked snapshot) b) }
+    ensures { IfOk result (λ b. (n : ℕ) → Joins (record {
+      item = item.now;
+      number = number;
+      mode = Mode.Command;
+      size = n;
+      asked = rows_asked snapshot;
+    }) b) }
 {
     let first = snapshot_asked(item, snapshot)?;
     let buffer = CommandBuffer::new(alloc, number, item.key(), first)?;
@@ -107,7 +115,8 @@ fn command_buffer(
 
 /// The item's state, where it is asked for.
 fn snapshot_asked(item: &ItemState, snapshot: Snap) -> Result<Option<Snapshot>, NoMemory>
-    ensures state { IfOk result (λ first. first ≡ (if is_some (rows_asked snapshot) then Some item.now.state else None)) }
+    ensures state { IfOk result (λ first. first ≡ (if is_some (rows_asked snapshot) then Some item.now.state else
+        None)) }
     ensures fits { IfOk result (λ first. ForSome first (IsStateOf item.now.shape)) }
 {
     if is_asked(snapshot) {
@@ -124,13 +133,13 @@ fn is_asked(snapshot: Snap) -> bool
     !matches!(snapshot, Snap::No)
 }
 
-/// How many of a snapshot's rows are given: as many as are asked for, or as there are.
+/// How many of a snapshot's rows are owed: as many as are asked for, or as there are.
 fn rows_owed(first: &Option<Snapshot>, snapshot: Snap) -> u32
-    requires { length (rows_of first.now) ≤ 32 }
+    requires { length (distinct_rows first.now) ≤ MOST_SNAPSHOT_ROWS }
     ensures { result ≡ owed_of first.now (rows_asked snapshot) }
 {
     match (first, snapshot) {
-        (Some(Snapshot::Distinct(rows)), Snap::All) => MOST_ROWS.min(rows.len() as u32),
+        (Some(Snapshot::Distinct(rows)), Snap::All) => rows.len() as u32,
         (Some(Snapshot::Distinct(rows)), Snap::Last(asked)) => asked.min(rows.len() as u32),
         _ => 0,
     }

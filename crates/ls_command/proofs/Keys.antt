@@ -76,7 +76,8 @@ before_trans (x ∷ xs) (y ∷ ys) (z ∷ zs) a b = by_head (x == y) (y == z) re
     less x y t true e a = omega (arith, eqb-true x y e)
     less x y t false e a = omega (arith, ltb-true x y a)
 
-    at_most : (v w : Bool) → (x == y) ≡ v → (y == z) ≡ w → cond v (is_before xs ys) (nat_lt x y) ≡ true → cond w (is_before ys zs) (nat_lt y z) ≡ true → (x ≤ y) × (y ≤ z)
+    at_most : (v w : Bool) → (x == y) ≡ v → (y == z) ≡ w → cond v (is_before xs ys) (nat_lt x y) ≡ true → cond w (is_before ys zs) (nat_lt y z) ≡ true
+        → (x ≤ y) × (y ≤ z)
     at_most v w e f a b = (less x y (is_before xs ys) v e a, less y z (is_before ys zs) w f b)
 
     first_less : (n : (x == z) ≡ false) → x ≤ z → nat_lt x z ≡ true
@@ -88,7 +89,8 @@ before_trans (x ∷ xs) (y ∷ ys) (z ∷ zs) a b = by_head (x == y) (y == z) re
             apart : true ≡ false → ⊥
             apart h = cc
 
-    by_same : (v w u : Bool) → (x == y) ≡ v → (y == z) ≡ w → (x == z) ≡ u → cond v (is_before xs ys) (nat_lt x y) ≡ true → cond w (is_before ys zs) (nat_lt y z) ≡ true
+    by_same : (v w u : Bool) → (x == y) ≡ v → (y == z) ≡ w → (x == z) ≡ u → cond v (is_before xs ys) (nat_lt x y) ≡ true
+        → cond w (is_before ys zs) (nat_lt y z) ≡ true
         → (is_before xs ys ≡ true → is_before ys zs ≡ true → is_before xs zs ≡ true) → cond u (is_before xs zs) (nat_lt x z) ≡ true
     by_same v w false e f g a b rest = let m = at_most v w e f a b in first_less g (omega (arith, m.0, m.1))
     by_same true true true e f g a b rest = rest a b
@@ -116,7 +118,8 @@ with_after : (j key : List ℕ) (row : List Value) (ks : List KeyedRow) → is_b
 with_after j key row [] b a = (b, tt)
 with_after j key row (k ∷ ks) b a = by_test (text_eq k.key key) (is_before key k.key) (with_after j key row ks b a.1)
   where
-    by_test : (v w : Bool) → AllAfter j (with_row key row ks) → AllAfter j (cond v (record { key = key; row = row } ∷ ks) (cond w (record { key = key; row = row } ∷ k ∷ ks) (k ∷ with_row key row ks)))
+    by_test : (v w : Bool) → AllAfter j (with_row key row ks)
+        → AllAfter j (cond v (record { key = key; row = row } ∷ ks) (cond w (record { key = key; row = row } ∷ k ∷ ks) (k ∷ with_row key row ks)))
     by_test true w rest = (b, a.1)
     by_test false true rest = (b, a)
     by_test false false rest = (a.0, rest)

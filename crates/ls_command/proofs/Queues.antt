@@ -25,15 +25,17 @@ keys_queued new (q ∷ qs) = by_same (text_eq q.key new.key) (has_key (keys_of q
     by_same false true same rest = ap (λ z. q.key ∷ z) rest
     by_same false false same rest = ap (λ z. q.key ∷ z) rest
 
--- rows of other keys are left
+-- rows of other keys stay
 row_with_other : (j k : List ℕ) (row : List Value) (ks : List KeyedRow) → text_eq k j ≡ false → row_at j (with_row k row ks) ≡ row_at j ks
 row_with_other j k row [] other = ap (λ v. cond v (Some row) None) other
 row_with_other j k row (x ∷ ks) other = by_same (text_eq x.key k) (is_before k x.key) refl (row_with_other j k row ks other)
   where
     by_same : (v w : Bool) → text_eq x.key k ≡ v → row_at j (with_row k row ks) ≡ row_at j ks
-        → row_at j (cond v (record { key = k; row = row } ∷ ks) (cond w (record { key = k; row = row } ∷ x ∷ ks) (x ∷ with_row k row ks))) ≡ cond (text_eq x.key j) (Some x.row) (row_at j ks)
+        → row_at j (cond v (record { key = k; row = row } ∷ ks) (cond w (record { key = k; row = row } ∷ x ∷ ks) (x ∷ with_row k row ks)))
+        ≡ cond (text_eq x.key j) (Some x.row) (row_at j ks)
     by_same true w is rest =
-        ap (λ v. cond v (Some row) (row_at j ks)) other ∙ sym (ap (λ v. cond v (Some x.row) (row_at j ks)) (ap (λ z. text_eq z j) (text_eq_true x.key k is) ∙ other))
+        ap (λ v. cond v (Some row) (row_at j ks)) other ∙ sym (ap (λ v. cond v (Some x.row) (row_at j ks))
+        (ap (λ z. text_eq z j) (text_eq_true x.key k is) ∙ other))
     by_same false true is rest = ap (λ v. cond v (Some row) (cond (text_eq x.key j) (Some x.row) (row_at j ks))) other
     by_same false false is rest = ap (λ z. cond (text_eq x.key j) (Some x.row) z) rest
 
@@ -41,32 +43,38 @@ row_without_other : (j k : List ℕ) (ks : List KeyedRow) → text_eq k j ≡ fa
 row_without_other j k [] other = refl
 row_without_other j k (x ∷ ks) other = by_same (text_eq x.key k) refl (row_without_other j k ks other)
   where
-    by_same : (v : Bool) → text_eq x.key k ≡ v → row_at j (without k ks) ≡ row_at j ks → row_at j (cond v ks (x ∷ without k ks)) ≡ cond (text_eq x.key j) (Some x.row) (row_at j ks)
+    by_same : (v : Bool) → text_eq x.key k ≡ v → row_at j (without k ks) ≡ row_at j ks
+        → row_at j (cond v ks (x ∷ without k ks)) ≡ cond (text_eq x.key j) (Some x.row) (row_at j ks)
     by_same true is rest = sym (ap (λ v. cond v (Some x.row) (row_at j ks)) (ap (λ z. text_eq z j) (text_eq_true x.key k is) ∙ other))
     by_same false is rest = ap (λ z. cond (text_eq x.key j) (Some x.row) z) rest
 
-pub other_rows : (p : Shape) (ks : List KeyedRow) (cells : List Cell) (j : List ℕ) → text_eq (key_of p cells) j ≡ false → row_at j (keyed_after p ks (Update cells)) ≡ row_at j ks
+pub other_rows : (p : Shape) (ks : List KeyedRow) (cells : List Cell) (j : List ℕ) → text_eq (key_of p cells) j ≡ false
+    → row_at j (keyed_after p ks (Update cells)) ≡ row_at j ks
 other_rows p ks cells j other = by_delete (deletes p cells)
   where
-    by_delete : (v : Bool) → row_at j (cond v (without (key_of p cells) ks) (with_row (key_of p cells) (row_with p (row_at (key_of p cells) ks) cells) ks)) ≡ row_at j ks
+    by_delete : (v : Bool) → row_at j (cond v (without (key_of p cells) ks) (with_row (key_of p cells) (row_with p (row_at (key_of p cells) ks) cells) ks))
+        ≡ row_at j ks
     by_delete true = row_without_other j (key_of p cells) ks other
     by_delete false = row_with_other j (key_of p cells) (row_with p (row_at (key_of p cells) ks) cells) ks other
 
--- the rows of a queue with one more key, where the rows of other keys are left
-pub rows_queued : (ks after : List KeyedRow) (new : Queued) (qs : List Queued) → ((j : List ℕ) → text_eq new.key j ≡ false → row_at j after ≡ row_at j ks) → new.row ≡ row_at new.key after → AreDistinct (keys_of qs) → RowsOf ks qs → RowsOf after (with_queued qs new)
+-- the rows of a queue with one more key, where the rows of other keys stay
+pub rows_queued : (ks after : List KeyedRow) (new : Queued) (qs : List Queued) → ((j : List ℕ) → text_eq new.key j ≡ false → row_at j after ≡ row_at j ks)
+    → new.row ≡ row_at new.key after → AreDistinct (keys_of qs) → RowsOf ks qs → RowsOf after (with_queued qs new)
 rows_queued ks after new [] others is d rows = (is, tt)
 rows_queued ks after new (q ∷ qs) others is d rows = by_same (text_eq q.key new.key) refl (rows_queued ks after new qs others is d.1 rows.1)
   where
     keep : (zs : List Queued) → has_key (keys_of zs) new.key ≡ false → RowsOf ks zs → RowsOf after zs
     keep [] none r = tt
-    keep (z ∷ zs) none r = let o = or_false (text_eq z.key new.key) (has_key (keys_of zs) new.key) none in (r.0 ∙ sym (others z.key (text_eq-sym new.key z.key ∙ o.0)), keep zs o.1 r.1)
+    keep (z ∷ zs) none r = let o = or_false (text_eq z.key new.key) (has_key (keys_of zs) new.key) none in
+        (r.0 ∙ sym (others z.key (text_eq-sym new.key z.key ∙ o.0)), keep zs o.1 r.1)
 
     by_same : (v : Bool) → text_eq q.key new.key ≡ v → RowsOf after (with_queued qs new) → RowsOf after (cond v (new ∷ qs) (q ∷ with_queued qs new))
     by_same true same rest = (is, keep qs (ap (has_key (keys_of qs)) (sym (text_eq_true q.key new.key same)) ∙ d.0) rows.1)
     by_same false other rest = (rows.0 ∙ sym (others q.key (text_eq-sym new.key q.key ∙ other)), rest)
 
 -- the marks of a queue with one more key that was touched
-pub marked_queued : (t : List (List ℕ)) (new : Queued) (qs : List Queued) → new.touched ≡ true → AreDistinct (keys_of qs) → AreMarked t qs → AreMarked (with_key t new.key) (with_queued qs new)
+pub marked_queued : (t : List (List ℕ)) (new : Queued) (qs : List Queued) → new.touched ≡ true → AreDistinct (keys_of qs) → AreMarked t qs
+    → AreMarked (with_key t new.key) (with_queued qs new)
 marked_queued t new [] on d m = (on ∙ sym (has_with t new.key new.key ∙ ap (λ v. v || has_key t new.key) (text_eq_same new.key)), tt)
 marked_queued t new (q ∷ qs) on d m = by_same (text_eq q.key new.key) refl (marked_queued t new qs on d.1 m.1)
   where
@@ -76,22 +84,29 @@ marked_queued t new (q ∷ qs) on d m = by_same (text_eq q.key new.key) refl (ma
         let o = or_false (text_eq z.key new.key) (has_key (keys_of zs) new.key) none in
         (r.0 ∙ sym (has_with t new.key z.key ∙ ap (λ v. v || has_key t z.key) (text_eq-sym new.key z.key ∙ o.0)), keep zs o.1 r.1)
 
-    by_same : (v : Bool) → text_eq q.key new.key ≡ v → AreMarked (with_key t new.key) (with_queued qs new) → AreMarked (with_key t new.key) (cond v (new ∷ qs) (q ∷ with_queued qs new))
-    by_same true same rest =
-        (on ∙ sym (has_with t new.key new.key ∙ ap (λ v. v || has_key t new.key) (text_eq_same new.key)), keep qs (ap (has_key (keys_of qs)) (sym (text_eq_true q.key new.key same)) ∙ d.0) m.1)
+    by_same : (v : Bool) → text_eq q.key new.key ≡ v → AreMarked (with_key t new.key) (with_queued qs new)
+        → AreMarked (with_key t new.key) (cond v (new ∷ qs) (q ∷ with_queued qs new))
+    by_same true same rest = (
+      on ∙ sym (has_with t new.key new.key ∙ ap (λ v. v || has_key t new.key) (text_eq_same new.key)),
+      keep qs
+          (ap (has_key (keys_of qs)) (sym (text_eq_true q.key new.key same)) ∙ d.0) m.1,
+    )
     by_same false other rest = (m.0 ∙ sym (has_with t new.key q.key ∙ ap (λ v. v || has_key t q.key) (text_eq-sym new.key q.key ∙ other)), rest)
 
 -- the marks of a queue that a key has left
 pub marked_without : (t : List (List ℕ)) (k : List ℕ) (qs : List Queued) → has_key (keys_of qs) k ≡ false → AreMarked t qs → AreMarked (without_key k t) qs
 marked_without t k [] none m = tt
-marked_without t k (q ∷ qs) none m = let o = or_false (text_eq q.key k) (has_key (keys_of qs) k) none in (m.0 ∙ sym (has_without k q.key t o.0), marked_without t k qs o.1 m.1)
+marked_without t k (q ∷ qs) none m = let o = or_false (text_eq q.key k) (has_key (keys_of qs) k) none in
+    (m.0 ∙ sym (has_without k q.key t o.0), marked_without t k qs o.1 m.1)
 
 -- the mark that is found at a key
-pub found_mark : (t : List (List ℕ)) (k : List ℕ) (qs : List Queued) → AreMarked t qs → (has_key (keys_of qs) k ≡ false → has_key t k ≡ false) → is_touched qs k ≡ has_key t k
+pub found_mark : (t : List (List ℕ)) (k : List ℕ) (qs : List Queued) → AreMarked t qs → (has_key (keys_of qs) k ≡ false → has_key t k ≡ false)
+    → is_touched qs k ≡ has_key t k
 found_mark t k [] m f = sym (f refl)
 found_mark t k (q ∷ qs) m f = by_same (text_eq q.key k) refl f (found_mark t k qs m.1)
   where
-    by_same : (v : Bool) → text_eq q.key k ≡ v → ((v || has_key (keys_of qs) k) ≡ false → has_key t k ≡ false) → ((has_key (keys_of qs) k ≡ false → has_key t k ≡ false) → is_touched qs k ≡ has_key t k)
+    by_same : (v : Bool) → text_eq q.key k ≡ v → ((v || has_key (keys_of qs) k) ≡ false → has_key t k ≡ false)
+        → ((has_key (keys_of qs) k ≡ false → has_key t k ≡ false) → is_touched qs k ≡ has_key t k)
         → cond v q.touched (is_touched qs k) ≡ has_key t k
     by_same true same f rest = m.0 ∙ ap (has_key t) (text_eq_true q.key k same)
     by_same false other f rest = rest f
@@ -113,5 +128,8 @@ rows_later x ks (q ∷ qs) none r =
 
 pub rows_owed : (ks : List KeyedRow) → AreDistinct (map (λ k. k.key) ks) → RowsOf ks (map owed_key ks)
 rows_owed [] d = tt
-rows_owed (k ∷ ks) d =
-    (sym (ap (λ v. cond v (Some k.row) (row_at k.key ks)) (text_eq_same k.key)), rows_later k ks (map owed_key ks) (ap (λ z. has_key z k.key) (keys_owed ks) ∙ d.0) (rows_owed ks d.1))
+rows_owed (k ∷ ks) d = (
+  sym (ap (λ v. cond v (Some k.row) (row_at k.key ks)) (text_eq_same k.key)),
+  rows_later k ks (map owed_key ks)
+      (ap (λ z. has_key z k.key) (keys_owed ks) ∙ d.0) (rows_owed ks d.1),
+)

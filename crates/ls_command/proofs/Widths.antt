@@ -8,7 +8,7 @@ use Rattle.ls_event.specs.declared.event.Event.TheVariants.{Update, Clear}
 use Rattle.ls_event.specs.declared.snapshot.KeyedRow.{KeyedRow}
 use Rattle.ls_event.specs.History.{RowFits}
 use Rattle.ls_command.specs.declared.queue.Queued.{Queued}
-use Rattle.ls_command.specs.Command.{Command, AreWide, with_queued, command_after, key_in, owed_key, with_owed}
+use Rattle.ls_command.specs.Command.{Command, AreKeysWide, with_queued, command_after, key_in, owed_key, with_owed}
 
 abbrev Wide : ℕ → Queued → Type 0
 Wide n q = RowFits n q.row
@@ -31,7 +31,7 @@ wide_queued n new (q ∷ qs) w all = by_same (text_eq q.key new.key) (wide_queue
     by_same true rest = wide_cons n new qs w (All-drop (Wide n) 1 (q ∷ qs) all)
     by_same false rest = wide_cons n q (with_queued qs new) (wide_head n q qs all) rest
 
-pub after_wide : (n : ℕ) (b : Command) (event : Event) (row : Option (List Value)) → AreWide n b → RowFits n row → AreWide n (command_after b event row)
+pub after_wide : (n : ℕ) (b : Command) (event : Event) (row : Option (List Value)) → AreKeysWide n b → RowFits n row → AreKeysWide n (command_after b event row)
 after_wide n b (Update cells) row all w = wide_queued n (record { key = key_in b.key cells; row = row; touched = true }) b.queue w all
 after_wide n b Clear row all w = All-nil (Wide n)
 
@@ -39,4 +39,5 @@ after_wide n b Clear row all w = All-nil (Wide n)
 pub with_owed_wide : (n : ℕ) (qs : List Queued) (ks : List KeyedRow) → RowsWide n qs → All (λ k. length k.row ≡ n) ks → RowsWide n (with_owed qs ks)
 with_owed_wide n qs [] all rows = all
 with_owed_wide n qs (k ∷ ks) all rows =
-    with_owed_wide n (with_queued qs (owed_key k)) ks (wide_queued n (owed_key k) qs (rows 0 k (omega arith)) all) (All-drop (λ (x : KeyedRow). length x.row ≡ n) 1 (k ∷ ks) rows)
+    with_owed_wide n (with_queued qs (owed_key k)) ks (wide_queued n (owed_key k) qs (rows 0 k (omega arith)) all)
+    (All-drop (λ (x : KeyedRow). length x.row ≡ n) 1 (k ∷ ks) rows)

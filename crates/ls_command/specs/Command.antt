@@ -1,5 +1,6 @@
 -- What a buffer of mode COMMAND holds, and the slots that it stands for.
-use Rattle.std.specs.Prelude.{◌≡◌, ◌==◌, ℕ, ◌+◌, ◌-◌, ◌≤◌, ◌<◌, List, [], ◌∷◌, length, map, drop, Bool, true, false, ◌&&◌, Option, None, Some, is_some, if◌then◌else◌, option_map, slice_get, unwrap_or, All}
+use Rattle.std.specs.Prelude.{◌≡◌, ◌==◌, ℕ, ◌+◌, ◌-◌, ◌≤◌, ◌<◌, List, [], ◌∷◌, length, map, drop, Bool, true, false}
+use Rattle.std.specs.Prelude.{◌&&◌, Option, None, Some, is_some, if◌then◌else◌, option_map, slice_get, unwrap_or, All}
 use Rattle.std.specs.Option.{option_map_or}
 use Rattle.ls_value.specs.declared.row.Value.{Value}
 use Rattle.ls_value.specs.declared.row.Cell.{Cell}
@@ -18,15 +19,15 @@ use Rattle.ls_event.specs.declared.snapshot.Snapshot.TheVariants as snapshot
 use Rattle.ls_event.specs.History.{RowFits}
 use Rattle.ls_event.specs.Slots.{Plan, Slot}
 use Rattle.ls_event.specs.Updates.{last_clear}
-use Rattle.ls_event.specs.Keyed.{text_of, row_at, keyed}
-use Rattle.ls_event.specs.CommandCuts.{has_key, place_of, command_queue, touched_keys}
+use Rattle.ls_event.specs.Keyed.{text_of_cell, row_at, keyed}
+use Rattle.ls_event.specs.CommandCuts.{has_key, key_cursor, command_queue, touched_keys}
 use Rattle.ls_command.specs.declared.queue.Queued.{Queued}
 
 -- the keys of a queue
 abbrev pub keys_of : List Queued → List (List ℕ)
 keys_of queue = map (λ q. q.key) queue
 
--- a queue in which a key has this row: it keeps its place, and goes last where it has none
+-- a queue in which a key has this row: it stays where it stands, and goes last where it doesn't stand
 abbrev pub with_queued : List Queued → Queued → List Queued
 with_queued [] new = new ∷ []
 with_queued (q ∷ queue) new = if text_eq q.key new.key then new ∷ queue else q ∷ with_queued queue new
@@ -36,8 +37,9 @@ abbrev pub is_touched : List Queued → List ℕ → Bool
 is_touched [] key = false
 is_touched (q ∷ queue) key = if text_eq q.key key then q.touched else is_touched queue key
 
--- the place of the key among the fields, the last number, how many keys of the snapshot are owed and whether its end is, the last Clear that is
--- not told, the keys that have a turn, each with its row at the last number, and how many of them were touched
+-- the key's place among the fields, the last number, how many keys of the snapshot are owed and whether its end is, the
+-- last Clear that no cut took, the keys that have a turn, each with its row at the last number, and how many of them
+-- were touched
 pub record Command : Type 0 where
   pub key : ℕ
   pub last : ℕ
@@ -65,21 +67,21 @@ pub record StandsCommand (b : Command) (s : Slot) (h : List Entry) : Type 0 wher
   pub last : b.last ≡ s.last
   pub owed : b.owed ≡ s.owed
   pub ends : b.ends ≡ s.ends
-  pub based : s.plan.base ≤ s.place
-  pub behind : s.place ≤ s.last
+  pub based : s.plan.base ≤ s.cursor
+  pub behind : s.cursor ≤ s.last
   pub within : s.last ≤ length h
   pub first : 0 < s.owed → s.ends ≡ true
   pub enough : s.owed ≤ length (keyed s.plan.shape h s.plan.base)
-  pub cleared : b.cleared ≡ last_clear h s.place s.last
+  pub cleared : b.cleared ≡ last_clear h s.cursor s.last
   pub keys : keys_of b.queue ≡ command_queue h s
   pub rows : RowsOf (keyed s.plan.shape h s.last) b.queue
   pub marked : AreMarked (touched_keys h s) b.queue
   pub waiting : b.waiting ≡ length (touched_keys h s)
-  pub placed : (k : List ℕ) → place_of s.noted s.place k ≤ unwrap_or (last_clear h s.place s.last) s.last
+  pub placed : (k : List ℕ) → key_cursor s.key_cursors s.cursor k ≤ unwrap_or (last_clear h s.cursor s.last) s.last
 
--- what a Clear tells: the end of the snapshot, where it is owed, and then itself
-abbrev pub clear_head : Command → ℕ → Option Taken
-clear_head b c = if b.ends then Some taken.EndOfSnapshot else Some (taken.Cleared c)
+-- what a Clear gives: the end of the snapshot, where it is owed, and then itself
+abbrev pub command_clear_head : Command → ℕ → Option Taken
+command_clear_head b c = if b.ends then Some taken.EndOfSnapshot else Some (taken.Cleared c)
 
 -- the turn of a key
 abbrev pub key_head : Command → Queued → Taken
@@ -89,71 +91,72 @@ key_head b q = taken.Key q.key q.row b.last
 abbrev pub is_whole : Command → Bool
 is_whole b = b.ends && (b.owed == 0)
 
--- what it tells next, by the last Clear that is not told
-abbrev pub head_of : Command → Option ℕ → Option Taken
-head_of b (Some c) = clear_head b c
-head_of b None = if is_whole b then Some taken.EndOfSnapshot else option_map (key_head b) (slice_get b.queue 0)
+-- its next cut, by the last Clear that no cut took
+abbrev pub command_head_of : Command → Option ℕ → Option Taken
+command_head_of b (Some c) = command_clear_head b c
+command_head_of b None = if is_whole b then Some taken.EndOfSnapshot else option_map (key_head b) (slice_get b.queue 0)
 
--- what it tells next
+-- its next cut
 abbrev pub command_head : Command → Option Taken
-command_head b = head_of b b.cleared
+command_head b = command_head_of b b.cleared
 
 -- whether it is pending
-abbrev pub is_left : Command → Bool
-is_left b = is_some (command_head b)
+abbrev pub command_is_pending : Command → Bool
+command_is_pending b = is_some (command_head b)
 
 -- the key that an update names, by the key's place
 abbrev pub key_in : ℕ → List Cell → List ℕ
-key_in key cells = text_of (cell_at cells key)
+key_in key cells = text_of_cell (cell_at cells key)
 
--- an update has a text in its key's cell
+-- a cell has a text
 abbrev pub IsText : Cell → Type 0
 IsText cell.Same = ⊥
 IsText cell.Null = ⊥
 IsText (cell.Text t) = Unit {0}
 
+-- an update has a text in its key's cell
 abbrev pub NamesKey : ℕ → Event → Type 0
 NamesKey key (Update cells) = IsText (cell_at cells key)
 NamesKey key Clear = Unit {0}
 
--- after an update of the next number, which leaves this row at its key
-abbrev pub touched_more : Command → List ℕ → Option (List Value) → Command
-touched_more b key row =
+-- after an update of the next number, after which its key has this row
+abbrev pub key_touched : Command → List ℕ → Option (List Value) → Command
+key_touched b key row =
     record b {
       queue = with_queued b.queue (record { key = key; row = row; touched = true });
       waiting = b.waiting + (if is_touched b.queue key then 0 else 1);
       last = b.last + 1;
     }
 
--- after the event of the next number, which leaves this row at its key: a Clear empties the queue
+-- after the event of the next number, after which its key has this row: a Clear empties the queue
 abbrev pub command_after : Command → Event → Option (List Value) → Command
-command_after b (Update cells) row = touched_more b (key_in b.key cells) row
+command_after b (Update cells) row = key_touched b (key_in b.key cells) row
 command_after b Clear row = record b { queue = []; waiting = 0; cleared = Some (b.last + 1); last = b.last + 1 }
 
 -- after the end of the snapshot
-abbrev pub ended : Command → Command
-ended b = record b { ends = false; owed = 0 }
+abbrev pub command_ended : Command → Command
+command_ended b = record b { ends = false; owed = 0 }
 
 -- how many of the first key's updates wait: one where it was touched
 abbrev pub first_waits : List Queued → ℕ
 first_waits queue = option_map_or (λ q. if q.touched then 1 else 0) (slice_get queue 0) 0
 
 -- after the turn of the first key
-abbrev pub turn_told : Command → Command
-turn_told b = record b { queue = drop 1 b.queue; waiting = b.waiting - first_waits b.queue; owed = b.owed - 1 }
+abbrev pub turn_passed : Command → Command
+turn_passed b = record b { queue = drop 1 b.queue; waiting = b.waiting - first_waits b.queue; owed = b.owed - 1 }
 
--- after what it tells next, by the last Clear that is not told
-abbrev pub passed_of : Command → Option ℕ → Command
-passed_of b (Some c) = if b.ends then ended b else record b { cleared = None }
-passed_of b None = if is_whole b then ended b else turn_told b
+-- after its next cut, by the last Clear that no cut took
+abbrev pub command_passed_of : Command → Option ℕ → Command
+command_passed_of b (Some c) = if b.ends then command_ended b else record b { cleared = None }
+command_passed_of b None = if is_whole b then command_ended b else turn_passed b
 
--- after what it tells next
+-- after its next cut
 abbrev pub command_passed : Command → Command
-command_passed b = passed_of b b.cleared
+command_passed b = command_passed_of b b.cleared
 
 -- the rows of the keys have so many values
-abbrev pub AreWide : ℕ → Command → Type 0
-AreWide n b = All (λ q. RowFits n q.row) b.queue
+abbrev pub AreKeysWide : ℕ → Command → Type 0
+AreKeysWide n b = All (λ q. RowFits n q.row) b.queue
 
 -- no key stands twice
 abbrev pub AreDistinct : List (List ℕ) → Type 0
@@ -161,11 +164,11 @@ AreDistinct [] = Unit {0}
 AreDistinct (k ∷ ks) = (has_key ks k ≡ false) × AreDistinct ks
 
 -- the keys with their rows of a snapshot of mode COMMAND
-abbrev pub rows_of : Option Snapshot → List KeyedRow
-rows_of (Some (snapshot.Command rows)) = rows
-rows_of (Some (snapshot.Merge row)) = []
-rows_of (Some (snapshot.Distinct rows)) = []
-rows_of None = []
+abbrev pub command_rows : Option Snapshot → List KeyedRow
+command_rows (Some (snapshot.Command rows)) = rows
+command_rows (Some (snapshot.Merge row)) = []
+command_rows (Some (snapshot.Distinct rows)) = []
+command_rows None = []
 
 -- there is no snapshot, or one of mode COMMAND
 abbrev pub IsOfCommand : Option Snapshot → Type 0
@@ -184,9 +187,17 @@ with_owed queue [] = queue
 with_owed queue (k ∷ ks) = with_owed (with_queued queue (owed_key k)) ks
 
 -- a buffer that is new at a number, with the keys of a snapshot, or without one
-abbrev pub joining : ℕ → ℕ → Option Snapshot → Command
-joining base key first =
-    record { key = key; last = base; owed = length (rows_of first); ends = is_some first; cleared = None; queue = with_owed [] (rows_of first); waiting = 0 }
+abbrev pub command_joining : ℕ → ℕ → Option Snapshot → Command
+command_joining base key first =
+    record {
+      key = key;
+      last = base;
+      owed = length (command_rows first);
+      ends = is_some first;
+      cleared = None;
+      queue = with_owed [] (command_rows first);
+      waiting = 0;
+    }
 
 -- what must be so of a slot that joins a history at a number
 pub record IsJoining (from at : ℕ) (p : Plan) (h : List Entry) : Type 0 where
@@ -201,4 +212,4 @@ abbrev pub IsSnapshotOf : Plan → List Entry → Option Snapshot → Option ℕ
 IsSnapshotOf p h None None = Unit {0}
 IsSnapshotOf p h None (Some asked) = ⊥
 IsSnapshotOf p h (Some first) None = ⊥
-IsSnapshotOf p h (Some first) (Some asked) = rows_of (Some first) ≡ keyed p.shape h p.base
+IsSnapshotOf p h (Some first) (Some asked) = command_rows (Some first) ≡ keyed p.shape h p.base

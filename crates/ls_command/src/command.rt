@@ -1,10 +1,15 @@
 //! The buffer of a slot in mode COMMAND.
-ghost use Rattle.std.specs.Prelude.{◌≡◌, ◌↔◌, ◌+◌, ◌-◌, ◌<◌, ◌≤◌, ◌^◌, ℕ, List, All, Option, None, IfOk, OnOk, OnErr, IsSome, IsTrue, length, map};
+ghost use Rattle.std.specs.Prelude.{◌≡◌, ◌↔◌, ◌+◌, ◌-◌, ◌<◌, ◌≤◌, ℕ, List, All, Option, None, IfOk, OnOk, OnErr};
+ghost use Rattle.std.specs.Prelude.{IsSome, IsTrue, length, map};
 ghost use Rattle.ls_value.specs.Values.{cell_at};
+ghost use Rattle.ls_value.specs.declared.limits.TheConstants.{GREATEST_NUMBER};
 ghost use Rattle.ls_event.specs.Slots.{Plan};
 ghost use Rattle.ls_event.specs.Joining.{command_joined};
 ghost use Rattle.ls_event.specs.declared.event.Entry.{Entry};
-ghost use Rattle.ls_command.specs.Command.{StandsCommand, IsJoining, IsSnapshotOf, IsOfCommand, AreDistinct, AreWide, NamesKey, rows_of, joining, command_head, command_after, command_passed, touched_more, is_whole, is_left, ended, owed_key, IsText, turn_told, key_in};
+ghost use Rattle.ls_command.specs.Command.{StandsCommand, IsJoining, IsSnapshotOf, IsOfCommand, IsText, NamesKey};
+ghost use Rattle.ls_command.specs.Command.{AreDistinct, AreKeysWide, command_rows, command_joining, command_head};
+ghost use Rattle.ls_command.specs.Command.{command_after, command_passed, command_is_pending, command_ended, is_whole};
+ghost use Rattle.ls_command.specs.Command.{key_touched, owed_key, turn_passed, key_in};
 
 use crate::queue::{Queue, Queued, copied_row, owed_queue};
 use ls_event::{Event, KeyedRow, Snapshot, Stored, Taken};
@@ -12,8 +17,9 @@ use ls_value::{Cell, Cells, NoMemory, Row, Text};
 use std::alloc::Global;
 use std::marker::Model;
 
-/// What a slot in mode COMMAND still has to tell: the keys of the snapshot that are owed and its end, the last Clear, and the keys
-/// that were touched since their last turns, each with its row. It keeps the allocator that `new` took, for all that its later calls take.
+/// What a slot in mode COMMAND still has to tell: the keys of the snapshot that are owed and its end, the last Clear,
+/// and the keys that were touched since their last turns, each with its row. It keeps the allocator that `new` took,
+/// for all that its later calls take.
 #[derive(Drop)]
 pub struct CommandBuffer {
     alloc: Global,
@@ -32,14 +38,22 @@ impl Model for CommandBuffer {
 
     ghost Value = { Command };
 
-    ghost view = { λ b. record { key = b.key; last = b.last; owed = b.owed; ends = b.ends; cleared = b.cleared; queue = b.queue; waiting = b.waiting } };
+    ghost view = { λ b. record {
+      key = b.key;
+      last = b.last;
+      owed = b.owed;
+      ends = b.ends;
+      cleared = b.cleared;
+      queue = b.queue;
+      waiting = b.waiting;
+    } };
 
     ghost invariant = { λ b. b.waiting ≤ b.last };
 }
 
 impl CommandBuffer {
-    /// The buffer of a slot that joins where the item has `base` events, and whose fields have the key at the place `key`: with the
-    /// item's snapshot, in which no key stands twice, or without one.
+    /// The buffer of a slot that joins where the item has `base` events, and whose fields have the key at the place
+    /// `key`: with the item's snapshot, in which no key stands twice, or without one.
     pub fn new(
         alloc: Global,
         base: u64,
@@ -47,14 +61,17 @@ impl CommandBuffer {
         first: Option<Snapshot>,
     ) -> Result<CommandBuffer, NoMemory>
         requires kind { IsOfCommand first }
-        ensures ok { IfOk result (λ b. b ≡ joining base key first) }
+        ensures ok { IfOk result (λ b. b ≡ command_joining base key first) }
 
         // The queue has the keys of the snapshot in their order, and their rows.
-        ensures queue { IfOk result (λ b. AreDistinct (map (λ k. k.key) (rows_of first)) → b.queue ≡ map owed_key (rows_of first)) }
-        ensures fields { IfOk result (λ b. (n : ℕ) → All (λ k. length k.row ≡ n) (rows_of first) → AreWide n b) }
+        ensures queue { IfOk result (λ b. AreDistinct (map (λ k. k.key) (command_rows first))
+            → b.queue ≡ map owed_key (command_rows first)) }
+        ensures fields { IfOk result (λ b. (n : ℕ) → All (λ k. length k.row ≡ n) (command_rows first)
+            → AreKeysWide n b) }
 
         // It stands for the slot that joins, where the snapshot is the item's state.
-        ensures stands { IfOk result (λ b. (p : Plan) (h : List Entry) (asked : Option ℕ) → IsJoining base key p h → IsSnapshotOf p h first asked → StandsCommand b (command_joined p h asked) h) }
+        ensures stands { IfOk result (λ b. (p : Plan) (h : List Entry) (asked : Option ℕ) → IsJoining base key p h
+            → IsSnapshotOf p h first asked → StandsCommand b (command_joined p h asked) h) }
     {
         let ends = first.is_some();
         let rows = rows_from(alloc, first);
@@ -88,9 +105,9 @@ impl CommandBuffer {
         }
     }
 
-    /// Whether a Clear, a key or the snapshot's end isn't told yet. It takes no memory.
+    /// Whether a Clear, a key or the snapshot's end is in a cut to come. It takes no memory.
     pub fn pending(&self) -> bool
-        ensures { result ≡ is_left self.now }
+        ensures { result ≡ command_is_pending self.now }
     {
         self.cleared.is_some() || self.is_whole() || !self.queue.is_empty()
     }
@@ -109,10 +126,10 @@ impl CommandBuffer {
         self.waiting
     }
 
-    /// Takes the event of the next number, with the row that it leaves its key. An update has a text in its key's cell. After
-    /// `NoMemory` it is as before.
+    /// Takes the event of the next number, with the row that its key then has. An update has a text in its key's cell.
+    /// After `NoMemory` it is as before.
     pub fn enqueue(&mut self, event: &Stored) -> Result<(), NoMemory>
-        requires few { self.old.last < 2 ^ 60 }
+        requires few { self.old.last < GREATEST_NUMBER }
         requires key { NamesKey self.old.key event.now.event }
         ensures ok { OnOk result (self.new ≡ command_after self.old event.now.event event.now.after) }
         ensures err { OnErr result (self.new ≡ self.old) }
@@ -130,10 +147,10 @@ impl CommandBuffer {
         }
     }
 
-    /// Takes the update of the next number, which leaves this row at its key.
+    /// Takes the update of the next number, after which its key has this row.
     fn touch(&mut self, key: Text, row: Option<Row>) -> Result<(), NoMemory>
-        requires { self.old.last < 2 ^ 60 }
-        ensures ok { OnOk result (self.new ≡ touched_more self.old key row) }
+        requires { self.old.last < GREATEST_NUMBER }
+        ensures ok { OnOk result (self.new ≡ key_touched self.old key row) }
         ensures err { OnErr result (self.new ≡ self.old) }
     {
         let touched = self.queue.put(Queued {
@@ -150,7 +167,7 @@ impl CommandBuffer {
 
     /// Takes the Clear of the next number.
     fn clear(&mut self)
-        requires { self.old.last < 2 ^ 60 }
+        requires { self.old.last < GREATEST_NUMBER }
         ensures { self.new ≡ command_after self.old Event.Clear None }
     {
         self.last += 1;
@@ -159,8 +176,8 @@ impl CommandBuffer {
         self.waiting = 0;
     }
 
-    /// The next cut: where a Clear came, the snapshot's end, if it is owed, and then the Clear; else the snapshot's end, where none of
-    /// its keys is owed, or the first key with its row. `None` where nothing is left.
+    /// The next cut: where a Clear came, the snapshot's end, if it is owed, and then the Clear; else the snapshot's
+    /// end, where none of its keys is owed, or the first key with its row. `None` where there is nothing of these.
     pub fn look(&self) -> Result<Option<Taken>, NoMemory>
         ensures { IfOk result (λ t. t ≡ command_head self.now) }
     {
@@ -203,9 +220,9 @@ impl CommandBuffer {
         self.turn();
     }
 
-    /// The first key is told.
+    /// The turn of the first key.
     fn turn(&mut self)
-        ensures { self.new ≡ turn_told self.old }
+        ensures { self.new ≡ turn_passed self.old }
     {
         self.owed = self.owed.saturating_sub(1);
         if let Some(first) = self.queue.take_first() {
@@ -217,7 +234,7 @@ impl CommandBuffer {
 
     /// The snapshot has ended: no key of it is owed any more.
     fn end(&mut self)
-        ensures { self.new ≡ ended self.old }
+        ensures { self.new ≡ command_ended self.old }
     {
         self.ends = false;
         self.owed = 0;
@@ -247,7 +264,7 @@ fn key_text(cells: &Cells, key: usize) -> &Text
 
 /// The keys with their rows of a snapshot of mode COMMAND, and none where there is no snapshot.
 fn rows_from(alloc: Global, first: Option<Snapshot>) -> Vec<KeyedRow>
-    ensures { result.items ≡ rows_of first }
+    ensures { result.items ≡ command_rows first }
 {
     match first {
         Some(Snapshot::Command(rows)) => rows.into_vec(),

@@ -52,8 +52,8 @@ impl Queue {
         }
     }
 
-    /// Gives a key this row: it keeps its place, or goes last where it has none. The answer is whether it stood there and was
-    /// touched. After `NoMemory` the queue is as before.
+    /// Gives a key this row: it stays where it stands, or goes last where it doesn't stand. The answer is whether it
+    /// stood there and was touched. After `NoMemory` the queue is as before.
     #[tactic(auto, using(crate::proofs::Inserted::inserted, crate::proofs::Inserted::found_touched))]
     pub fn put(&mut self, new: Queued) -> Result<bool, NoMemory>
         ensures queue { OnOk result (self.new ≡ with_queued self.old new) }

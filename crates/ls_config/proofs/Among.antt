@@ -1,12 +1,13 @@
 -- Names among others, as the set of names finds them.
-use Rattle.std.proofs.Common.{◌≡◌, ◌==◌, ℕ, suc, ◌+◌, List, [], ◌∷◌, ◌++◌, length, map, refl, sym, ap, ◌∙◌, arith, Bool, true, false, ◌&&◌, ◌||◌, not, nat_lt, cond, Option, Some, None, option_map, subst}
+use Rattle.std.proofs.Common.{◌≡◌, ◌==◌, ℕ, suc, ◌+◌, List, [], ◌∷◌, ◌++◌, length, map, refl, sym, ap, ◌∙◌, arith, Bool, true, false, ◌&&◌, ◌||◌, not, nat_lt}
+use Rattle.std.proofs.Common.{cond, Option, Some, None, option_map}
 use Rattle.std.specs.Prelude.{is_none, position}
 use Rattle.std.specs.List.{list_any, position_or_len}
 use Rattle.std.specs.Str.{bytes_eq}
 use Rattle.std.proofs.lemmas.Bool.Decides.{nat_tests}
 use Rattle.std.proofs.lemmas.List.{map-append}
 use Rattle.ls_value.specs.Values.{text_eq, place_of}
-use Rattle.ls_value.proofs.Rows.{text_eq_true, text_eq_same}
+use Rattle.ls_value.proofs.Distinct.{text_eq_turned}
 
 -- a name that stands later stands somewhere
 pub none_later : (o : Option ℕ) → is_none (option_map (λ i. i + 1) o) ≡ is_none o
@@ -20,23 +21,15 @@ same_test [] (y ∷ t) = refl
 same_test (x ∷ s) [] = refl
 same_test (x ∷ s) (y ∷ t) = ap (λ (v : Bool). (x == y) && v) (same_test s t)
 
--- so is the order of the texts no matter
-pub turned : (s t : List ℕ) → text_eq s t ≡ text_eq t s
-turned s t = by_test (text_eq s t) refl (text_eq t s) refl
-  where
-    by_test : (v : Bool) → text_eq s t ≡ v → (w : Bool) → text_eq t s ≡ w → v ≡ w
-    by_test true e true f = refl
-    by_test false e false f = refl
-    by_test true e false f = absurd (let is : s ≡ t = text_eq_true s t e in let g : text_eq t s ≡ true = subst (λ (x : List ℕ). text_eq t x ≡ true) (sym is) (text_eq_same t) in cc)
-    by_test false e true f = absurd (let is : t ≡ s = text_eq_true t s f in let g : text_eq s t ≡ true = subst (λ (x : List ℕ). text_eq s x ≡ true) (sym is) (text_eq_same s) in cc)
-
+-- in either order
 tests_agree : (name n : List ℕ) → bytes_eq name n ≡ text_eq n name
-tests_agree name n = same_test name n ∙ turned name n
+tests_agree name n = same_test name n ∙ text_eq_turned name n
 
 -- the place that a test finds is the name's
 pub found_place : {K : Type 0} (f : K → List ℕ) (name : List ℕ) (ks : List K) → position (λ k. bytes_eq name (f k)) ks ≡ place_of (map f ks) name
 found_place f name [] = refl
-found_place f name (k ∷ ks) = rw (sym (tests_agree name (f k)), sym (found_place f name ks)) (by_test (bytes_eq name (f k)) (position_or_len (λ x. bytes_eq name (f x)) ks) (length ks))
+found_place f name (k ∷ ks) = rw (sym (tests_agree name (f k)), sym (found_place f name ks))
+    (by_test (bytes_eq name (f k)) (position_or_len (λ x. bytes_eq name (f x)) ks) (length ks))
   where
     by_test : (v : Bool) (at n : ℕ) → cond (nat_lt (cond (not v) (1 + at) 0) (suc n)) (Some (cond (not v) (1 + at) 0)) None
         ≡ cond v (Some 0) (option_map (λ i. i + 1) (cond (nat_lt at n) (Some at) None))

@@ -1,66 +1,38 @@
 -- What is read is a config: few items, with distinct names, each as it has to be.
-use Rattle.std.proofs.Common.{◌≡◌, ℕ, ◌+◌, List, [], ◌∷◌, ◌++◌, length, refl, ap, subst, ◌∙◌, arith, Bool, true, false, ◌&&◌, not, cond, Option, Some, None, IfSome, option_map, Ok, nat_le, nat_lt}
-use Rattle.std.specs.Prelude.{is_none, codes}
+use Rattle.std.proofs.Common.{◌≡◌, ℕ, ◌+◌, List, [], ◌∷◌, ◌++◌, length, refl, ap, subst, ◌∙◌, arith, Bool, true, false, ◌&&◌, not, cond, Option, Some, None}
+use Rattle.std.proofs.Common.{IfSome, Ok, nat_le, nat_lt}
+use Rattle.std.specs.Prelude.{codes}
 use Rattle.std.specs.List.{list_all}
 use Rattle.std.proofs.lemmas.Bool.Decides.{nat_tests}
 use Rattle.std.proofs.lemmas.List.{length-append}
 use Rattle.std.proofs.lemmas.List.Folds.{list_all-append}
-use Rattle.ls_value.specs.Values.{text_eq, place_of}
-use Rattle.ls_value.proofs.Rows.{and_left, and_right}
+use Rattle.ls_value.specs.Values.{text_eq, are_distinct}
+use Rattle.ls_value.proofs.Rows.{and_left, and_right, both}
+use Rattle.ls_value.proofs.Distinct.{distinct_push}
 use Rattle.ls_words.specs.Words.{divided, is_name}
 use Rattle.ls_event.specs.declared.item.ItemDef.{ItemDef}
 use Rattle.ls_event.specs.declared.item.Kind.{Kind}
-use Rattle.ls_config.proofs.Among.{turned}
 use Rattle.ls_config.specs.declared.reading.Draft.{Draft}
-use Rattle.ls_config.specs.Items.{are_distinct, is_item, item_with, item_said, kind_said, names_of, are_items, may_follow}
+use Rattle.ls_config.specs.declared.items.TheConstants.{MOST_ITEMS}
+use Rattle.ls_config.specs.Items.{is_item, item_with, item_said, kind_said, names_of, are_items, may_follow}
 use Rattle.ls_config.specs.Configs.{is_skipped, with_set, with_item, with_words, with_line, with_lines}
-
--- texts that differ one way differ the other
-differ : (s t : List ℕ) → text_eq s t ≡ false → text_eq t s ≡ false
-differ s t h = turned t s ∙ h
-
--- a name that is none of some is none of one more
-none_push : (ts : List (List ℕ)) (x t : List ℕ) → is_none (place_of ts t) ≡ true → text_eq x t ≡ false → is_none (place_of (ts ++ x ∷ []) t) ≡ true
-none_push [] x t h e = rw e refl
-none_push (s ∷ ts) x t h e = by_test (text_eq s t) (place_of ts t) (place_of (ts ++ x ∷ []) t) h (λ g. none_push ts x t g e)
-  where
-    by_test : (v : Bool) (o p : Option ℕ) → is_none (cond v (Some 0) (option_map (λ i. i + 1) o)) ≡ true → (is_none o ≡ true → is_none p ≡ true) → is_none (cond v (Some 0) (option_map (λ i. i + 1) p)) ≡ true
-    by_test true o p h g = cc
-    by_test false None None h g = refl
-    by_test false None (Some i) h g = g refl
-    by_test false (Some i) p h g = cc
-
--- a name of none of some, against the first
-none_head : (v : Bool) (o : Option ℕ) → is_none (cond v (Some 0) (option_map (λ i. i + 1) o)) ≡ true → (v ≡ false) × (is_none o ≡ true)
-none_head true o h = cc
-none_head false None h = (refl, refl)
-none_head false (Some i) h = cc
-
-both : (a b : Bool) → a ≡ true → b ≡ true → (a && b) ≡ true
-both true b p q = q
-both false b p q = p
-
-distinct_push : (ts : List (List ℕ)) (x : List ℕ) → are_distinct ts ≡ true → is_none (place_of ts x) ≡ true → are_distinct (ts ++ x ∷ []) ≡ true
-distinct_push [] x h n = refl
-distinct_push (t ∷ ts) x h n =
-    let first = none_head (text_eq t x) (place_of ts x) n in
-    both (is_none (place_of (ts ++ x ∷ []) t)) (are_distinct (ts ++ x ∷ []))
-    (none_push ts x t (and_left _ _ h) (differ t x first.0))
-    (distinct_push ts x (and_right (is_none (place_of ts t)) (are_distinct ts) h) first.1)
 
 names_push : (items : List ItemDef) (i : ItemDef) → names_of (items ++ i ∷ []) ≡ names_of items ++ i.name ∷ []
 names_push [] i = refl
 names_push (j ∷ items) i = ap (λ (ns : List (List ℕ)). j.name ∷ ns) (names_push items i)
 
 -- one more item
-items_push : (items : List ItemDef) (i : ItemDef) → are_items items ≡ true → is_item i ≡ true → may_follow items i.name ≡ true → are_items (items ++ i ∷ []) ≡ true
+items_push : (items : List ItemDef) (i : ItemDef) → are_items items ≡ true → is_item i ≡ true → may_follow items i.name ≡ true
+    → are_items (items ++ i ∷ []) ≡ true
 items_push items i h is m =
-    let few : nat_lt (length items) 4096 ≡ true = and_left _ _ m in
+    let few : nat_lt (length items) MOST_ITEMS ≡ true = and_left _ _ m in
     let n = length-append items (i ∷ []) in
-    let count : nat_le (length (items ++ i ∷ [])) 4096 ≡ true = rw n (grind (arith, nat_tests)) in
-    let old : list_all is_item items ≡ true = and_right (nat_le (length items) 4096) _ (and_left _ _ h) in
-    let each : list_all is_item (items ++ i ∷ []) ≡ true = list_all-append is_item items (i ∷ []) ∙ both (list_all is_item items) (is_item i && true) old (both (is_item i) true is refl) in
-    let apart : are_distinct (names_of (items ++ i ∷ [])) ≡ true = rw (names_push items i) (distinct_push (names_of items) i.name (and_right _ (are_distinct (names_of items)) h) (and_right (nat_lt (length items) 4096) _ m)) in
+    let count : nat_le (length (items ++ i ∷ [])) MOST_ITEMS ≡ true = rw n (grind (arith, nat_tests)) in
+    let old : list_all is_item items ≡ true = and_right (nat_le (length items) MOST_ITEMS) _ (and_left _ _ h) in
+    let each : list_all is_item (items ++ i ∷ []) ≡ true = list_all-append is_item items (i ∷ [])
+    ∙ both (list_all is_item items) (is_item i && true) old (both (is_item i) true is refl) in
+    let apart : are_distinct (names_of (items ++ i ∷ [])) ≡ true = rw (names_push items i)
+    (distinct_push (names_of items) i.name (and_right _ (are_distinct (names_of items)) h) (and_right (nat_lt (length items) MOST_ITEMS) _ m)) in
     both _ _ (both _ _ count each) apart
 
 -- what a draft holds is a config's items
@@ -72,7 +44,8 @@ pub said_item : (name : List ℕ) (fields : List (List ℕ)) (k : Option Kind) �
 said_item name fields None = tt
 said_item name fields (Some k) = by_test (is_item (record { name = name; kind = k; fields = fields })) refl
   where
-    by_test : (v : Bool) → is_item (record { name = name; kind = k; fields = fields }) ≡ v → IfSome {T = ItemDef} (cond v (Some (record { name = name; kind = k; fields = fields })) None) (λ i. is_item i ≡ true)
+    by_test : (v : Bool) → is_item (record { name = name; kind = k; fields = fields }) ≡ v
+        → IfSome {T = ItemDef} (cond v (Some (record { name = name; kind = k; fields = fields })) None) (λ i. is_item i ≡ true)
     by_test true e = e
     by_test false e = tt
 
@@ -85,11 +58,12 @@ fits_item d (Some i) h is = by_test (may_follow d.items i.name) refl
     by_test false e = tt
 
 fits_set : (d : Draft) (word name : List ℕ) → are_items d.items ≡ true → Fits (with_set d word name)
-fits_set d word name h = by_test (text_eq word (codes "set") && not d.begun && is_name name)
+fits_set d word name h = by_test (text_eq word (codes "set") && not d.begun) (is_name name)
   where
-    by_test : (v : Bool) → Fits (cond v (Some (record { set = Some name; begun = true; items = d.items })) None)
-    by_test true = h
-    by_test false = tt
+    by_test : (v w : Bool) → Fits (cond v (cond w (Some (record { set = Some name; begun = true; items = d.items })) None) None)
+    by_test true true = h
+    by_test true false = tt
+    by_test false w = tt
 
 fits_words : (d : Draft) (words : List (List ℕ)) → are_items d.items ≡ true → Fits (with_words d words)
 fits_words d [] h = tt

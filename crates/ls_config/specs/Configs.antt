@@ -1,5 +1,6 @@
 -- The config of a server, line by line (this project's profile).
-use Rattle.std.specs.Prelude.{◌≡◌, ◌⊎◌, ◌==◌, ℕ, ◌+◌, List, [], ◌∷◌, ◌++◌, Bool, true, false, ◌&&◌, not, Option, None, Some, Result, Ok, Err, codes, if◌then◌else◌}
+use Rattle.std.specs.Prelude.{◌≡◌, ◌⊎◌, ◌==◌, ℕ, ◌+◌, List, [], ◌∷◌, ◌++◌, Bool, true, false, ◌&&◌, not, Option, None}
+use Rattle.std.specs.Prelude.{Some, Result, Ok, Err, codes, if◌then◌else◌}
 use Rattle.ls_value.specs.Values.{text_eq}
 use Rattle.ls_words.specs.Words.{divided, is_name}
 use Rattle.ls_event.specs.declared.item.ItemDef.{ItemDef}
@@ -18,14 +19,19 @@ is_skipped (b ∷ bs) = b == 35
 abbrev pub nothing : Draft
 nothing = record { set = None; begun = false; items = [] }
 
+-- a draft whose set has this name, if it is one
+abbrev pub with_name : Draft → List ℕ → Option Draft
+with_name d name = if is_name name then Some (record { set = Some name; begun = true; items = d.items }) else None
+
 -- `set <name>`: only the first line that isn't skipped may be one
 abbrev pub with_set : Draft → List ℕ → List ℕ → Option Draft
-with_set d word name = if text_eq word (codes "set") && not d.begun && is_name name then Some (record { set = Some name; begun = true; items = d.items }) else None
+with_set d word name = if text_eq word (codes "set") && not d.begun then with_name d name else None
 
 -- one more item
 abbrev pub with_item : Draft → Option ItemDef → Option Draft
 with_item d None = None
-with_item d (Some i) = if may_follow d.items i.name then Some (record { set = d.set; begun = true; items = d.items ++ i ∷ [] }) else None
+with_item d (Some i) =
+    if may_follow d.items i.name then Some (record { set = d.set; begun = true; items = d.items ++ i ∷ [] }) else None
 
 -- behind a line of these words
 abbrev pub with_words : Draft → List (List ℕ) → Option Draft
@@ -37,7 +43,8 @@ with_words d words = None
 abbrev pub with_line : Draft → List ℕ → Option Draft
 with_line d line = if is_skipped line then Some d else with_words d (divided 32 line)
 
--- what all lines say behind a draft, or the first of them that is outside the format; lines are counted from 1, and so many came before
+-- what all lines say behind a draft, or the first of them that is outside the format; lines are counted from 1, and so
+-- many came before
 abbrev pub with_lines : ℕ → Option Draft → List (List ℕ) → Result Draft ConfigRefused
 with_lines before None lines = Err (refused.BadConfig before)
 with_lines before (Some d) [] = Ok d
@@ -48,6 +55,7 @@ abbrev pub set_of : Option (List ℕ) → List ℕ
 set_of None = codes "DEFAULT"
 set_of (Some name) = name
 
+-- the config that a draft of all lines says
 abbrev pub config_from : Result Draft ConfigRefused → Result Config ConfigRefused
 config_from (Ok d) = Ok (record { set = set_of d.set; items = d.items })
 config_from (Err cause) = Err cause

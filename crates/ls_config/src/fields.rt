@@ -1,64 +1,54 @@
 //! An item's line: its name, its kind and its fields (this project's profile).
-ghost use Rattle.std.specs.Prelude.{◌≡◌, IfOk, map, is_none, Some, None, if◌then◌else◌};
-ghost use Rattle.std.specs.List.{list_all};
-ghost use Rattle.ls_value.specs.Values.{place_of};
+ghost use Rattle.std.specs.Prelude.{◌≡◌, ◌++◌, [], ◌∷◌, IfOk, map, true};
 ghost use Rattle.ls_words.specs.Words.{is_name};
-ghost use Rattle.ls_config.specs.Items.{are_distinct, kind_said, has_needed, item_said, fields_said};
+ghost use Rattle.ls_config.specs.Items.{kind_said, has_needed, item_said, names_said, fields_said};
 
-use ls_event::{ItemDef, Kind};
-use ls_value::{Names, NoMemory, same_bytes};
+use ls_event::{ItemDef, Kind, MOST_FIELDS};
+use ls_value::{Names, NoMemory, Text, same_bytes};
 use ls_words::{divided, name_of};
 use std::alloc::Global;
 
-/// The most fields of an item (this project's profile).
-const MOST_FIELDS: usize = 64;
-
-/// Whether a name is none of these.
-#[tactic(auto, using(crate::proofs::Among::none_later))]
-fn is_free(names: &[&[u8]], name: &[u8]) -> bool
-    ensures { result ≡ is_none (place_of (map (λ n. n.now) names.now) name.now) }
-{
-    for other in names {
-        if same_bytes(other, name) {
-            return false;
-        }
-    }
-    true
-}
-
-/// Whether no name stands twice. The callers have at most 64.
-fn are_distinct(names: &[&[u8]]) -> bool
-    ensures { result ≡ are_distinct (map (λ n. n.now) names.now) }
-{
-    for i in 0..names.len() {
-        if !is_free(&names[i + 1..], names[i]) {
-            return false;
-        }
-    }
-    true
-}
-
 /// The names that these texts are: `None` exactly where one of them is none.
 fn names_said(alloc: Global, texts: &[&[u8]]) -> Result<Option<Names>, NoMemory>
-    ensures { IfOk result (λ names. names ≡ (if list_all is_name (map (λ n. n.now) texts.now) then Some (map (λ n. n.now) texts.now) else None)) }
+    ensures { IfOk result (λ names. names ≡ names_said (map (λ n. n.now) texts.now)) }
 {
     let mut names = Vec::new(alloc);
     for text in texts {
-        let Some(name) = name_of(alloc, text)? else {
+        if !add_name(alloc, &mut names, text)? {
             return Ok(None);
-        };
-        names.push(name)?;
+        }
     }
     Ok(Some(Names::of(names)))
 }
 
-/// The fields that a text names, divided by commas: `None` exactly where they aren't 1 to 64 distinct names.
+/// Adds a name behind others, if it is one.
+fn add_name(alloc: Global, names: &mut Vec<Text>, text: &[u8]) -> Result<bool, NoMemory>
+    ensures is { IfOk result (λ is. is ≡ is_name text.now) }
+    ensures new { IfOk result (λ is. is ≡ true → names.new.items ≡ names.old.items ++ text.now ∷ []) }
+{
+    match name_of(alloc, text)? {
+        Some(name) => {
+            names.push(name)?;
+            Ok(true)
+        }
+        None => Ok(false),
+    }
+}
+
+/// The fields that a text names, divided by commas: `None` exactly where they aren't distinct names, at least one
+/// and at most `MOST_FIELDS`.
 fn fields_said(alloc: Global, text: &[u8]) -> Result<Option<Names>, NoMemory>
     ensures { IfOk result (λ fields. fields ≡ fields_said text.now) }
 {
     let texts = divided(alloc, b',', text)?;
-    if 1 <= texts.len() && texts.len() <= MOST_FIELDS && are_distinct(&texts) {
-        names_said(alloc, &texts)
+    if texts.is_empty() || texts.len() > MOST_FIELDS {
+        return Ok(None);
+    }
+    let Some(names) = names_said(alloc, &texts)? else {
+        return Ok(None);
+    };
+    if names.are_distinct() {
+        Ok(Some(names))
     } else {
         Ok(None)
     }
@@ -89,9 +79,10 @@ fn has_needed(kind: Kind, fields: &Names) -> bool
     }
 }
 
-/// The item that three words say: its name, its kind `MERGE`, `DISTINCT` or `COMMAND`, and its fields, divided by commas.
-/// `None` exactly where the first is no name, the second no kind, the fields aren't 1 to 64 distinct names, or a COMMAND
-/// item lacks the field `key` or `command`.
+/// The item that three words say: its name, its kind `MERGE`, `DISTINCT` or `COMMAND`, and its fields, divided by
+/// commas.
+/// `None` exactly where the first is no name, the second no kind, the fields aren't distinct names, at least one and at
+/// most `MOST_FIELDS`, or a COMMAND item lacks the field `key` or `command`.
 pub fn item_said(
     alloc: Global,
     name: &[u8],

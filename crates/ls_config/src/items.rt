@@ -1,5 +1,6 @@
 //! The items of a config, found by their names.
-ghost use Rattle.std.specs.Prelude.{◌≡◌, ◌<◌, ◌≤◌, ℕ, List, [], ◌∷◌, ◌++◌, None, Some, IfOk, IfSome, OnErr, length, slice_get, nat_eq, if◌then◌else◌};
+ghost use Rattle.std.specs.Prelude.{◌≡◌, ◌<◌, ◌≤◌, ℕ, List, [], ◌∷◌, ◌++◌, None, Some, IfOk, IfSome, OnErr, length};
+ghost use Rattle.std.specs.Prelude.{slice_get, nat_eq, if◌then◌else◌};
 ghost use Rattle.ls_value.specs.Values.{place_of};
 ghost use Rattle.ls_config.specs.Items.{names_of, may_follow};
 
@@ -9,10 +10,10 @@ use ls_value::NoMemory;
 use std::alloc::Global;
 use std::marker::Model;
 
-/// The most items of a config (this project's profile).
-const MOST_ITEMS: usize = 4096;
+/// How many items a config has at most (this project's profile).
+pub const MOST_ITEMS: usize = 4096;
 
-/// Items with distinct names, in the order of their numbers: at most 4,096. They keep the allocator of `new`.
+/// Items with distinct names, in the order of their numbers: at most `MOST_ITEMS`. They keep the allocator of `new`.
 #[derive(Drop)]
 pub struct Items {
     /// The items.
@@ -25,12 +26,13 @@ impl Model for Items {
     ghost use Rattle.std.specs.Prelude.{◌≡◌, ◌≤◌, List, length};
     ghost use Rattle.ls_event.specs.declared.item.ItemDef.{ItemDef as Def};
     ghost use Rattle.ls_config.specs.Items.{names_of};
+    ghost use Rattle.ls_config.specs.declared.items.TheConstants.{MOST_ITEMS as AS_MANY};
 
     ghost Value = { List Def };
 
     ghost view = { λ i. i.defs.items };
 
-    ghost invariant = { λ i. (length i.defs.items ≤ 4096) × (i.names ≡ names_of i.defs.items) };
+    ghost invariant = { λ i. (length i.defs.items ≤ AS_MANY) × (i.names ≡ names_of i.defs.items) };
 }
 
 impl Items {
@@ -44,9 +46,10 @@ impl Items {
         }
     }
 
-    /// Adds an item behind the others, or answers `false` exactly where there are 4,096 or one of them has its name.
+    /// Adds an item behind the others, or answers `false` exactly where there are `MOST_ITEMS` or one of them has its
+    /// name.
     pub fn add(&mut self, item: ItemDef) -> Result<bool, NoMemory>
-        ensures told { IfOk result (λ added. added ≡ may_follow self.old item.name) }
+        ensures added { IfOk result (λ added. added ≡ may_follow self.old item.name) }
         ensures new { IfOk result (λ added. self.new ≡ (if added then self.old ++ item ∷ [] else self.old)) }
         ensures err { OnErr result (self.new ≡ self.old) }
     {
@@ -59,7 +62,8 @@ impl Items {
         Ok(true)
     }
 
-    /// Whether an item with this name may be added: there are fewer than 4,096, and none of them has it. No memory is taken.
+    /// Whether an item with this name may be added: there are fewer than `MOST_ITEMS`, and none of them has it. No
+    /// memory is taken.
     pub fn may_follow(&self, name: &[u8]) -> bool
         ensures { result ≡ may_follow self.now name.now }
     {

@@ -1,8 +1,10 @@
 //! How a config is read (this project's profile).
-ghost use Rattle.std.specs.Prelude.{◌≡◌, ◌⊎◌, Ok, Err, Some, None, IfOk, IfErr, OnOk, length, map, true, false, if◌then◌else◌};
+ghost use Rattle.std.specs.Prelude.{◌≡◌, ◌⊎◌, Ok, Err, Some, None, IfOk, IfErr, OnOk, length, map, true, false};
+ghost use Rattle.std.specs.Prelude.{if◌then◌else◌};
 ghost use Rattle.ls_words.specs.Words.{divided};
 ghost use Rattle.ls_config.specs.Items.{are_items, item_said};
-ghost use Rattle.ls_config.specs.Configs.{is_skipped, nothing, with_set, with_item, with_words, with_line, with_lines, config_of, set_of, Answers};
+ghost use Rattle.ls_config.specs.Configs.{is_skipped, nothing, with_name, with_set, with_item, with_words};
+ghost use Rattle.ls_config.specs.Configs.{with_line, with_lines, config_of, set_of, Answers};
 
 use crate::config::Config;
 use crate::fields::item_said;
@@ -46,12 +48,12 @@ struct Draft {
 ///
 /// Lines end with LF; the last may end with the input. Empty lines and lines that begin with `#` are skipped. The first
 /// other line may be `set <name>`; the set's name is `DEFAULT` without it. Every other line is `<name> <kind> <f,f,f>`:
-/// an item as `item_said` reads it, with another name than those before it, and at most 4,096 of them. `BadConfig` tells
-/// the first line outside this.
+/// an item as `item_said` reads it, with another name than those before it, and at most `MOST_ITEMS` of them.
+/// `BadConfig` tells the first line outside this.
 pub fn read(alloc: Global, bytes: &[u8]) -> Result<Config, ConfigRefused>
     ensures answer { Answers (config_of bytes.now) result }
 
-    // At most 4,096 items with distinct names, each with 1 to 64 distinct fields, in COMMAND with `key` and `command`.
+    // At most `MOST_ITEMS` items with distinct names, each with distinct fields, in COMMAND with `key` and `command`.
     ensures items { IfOk result (λ c. are_items c.items ≡ true) }
 {
     let Draft { set, items, .. } = read_lines(alloc, bytes)?;
@@ -80,8 +82,8 @@ fn read_lines(alloc: Global, bytes: &[u8]) -> Result<Draft, ConfigRefused>
     };
     let mut rest = Some(bytes);
     let mut line: u64 = 0;
-    while let Some(left) = rest {
-        let (text, behind) = first_piece(b'\n', left);
+    while let Some(unread) = rest {
+        let (text, behind) = first_piece(b'\n', unread);
         line += 1;
         if !add_line(alloc, &mut draft, text)? {
             return Err(ConfigRefused::BadConfig { line });
@@ -114,7 +116,8 @@ pub fn is_skipped(line: &[u8]) -> bool
 
 /// Reads the words of a line.
 fn add_words(alloc: Global, draft: &mut Draft, words: &[&[u8]]) -> Result<bool, NoMemory>
-    ensures { IfOk result (λ fits. with_words draft.old (map (λ w. w.now) words.now) ≡ (if fits then Some draft.new else None)) }
+    ensures { IfOk result (λ fits. with_words draft.old (map (λ w. w.now) words.now)
+        ≡ (if fits then Some draft.new else None)) }
 {
     match words {
         [word, name] => add_set(alloc, draft, word, name),
@@ -123,19 +126,29 @@ fn add_words(alloc: Global, draft: &mut Draft, words: &[&[u8]]) -> Result<bool, 
     }
 }
 
-/// Reads the set's name.
+/// Reads the set's name, which only the first line that isn't skipped says.
 fn add_set(alloc: Global, draft: &mut Draft, word: &[u8], name: &[u8]) -> Result<bool, NoMemory>
     ensures { IfOk result (λ fits. with_set draft.old word.now name.now ≡ (if fits then Some draft.new else None)) }
 {
-    if draft.begun || !same_bytes(word, b"set") {
-        return Ok(false);
+    if same_bytes(word, b"set") && !draft.begun {
+        name_set(alloc, draft, name)
+    } else {
+        Ok(false)
     }
-    let Some(name) = name_of(alloc, name)? else {
-        return Ok(false);
-    };
-    draft.set = Some(name);
-    draft.begun = true;
-    Ok(true)
+}
+
+/// Names the set.
+fn name_set(alloc: Global, draft: &mut Draft, name: &[u8]) -> Result<bool, NoMemory>
+    ensures { IfOk result (λ fits. with_name draft.old name.now ≡ (if fits then Some draft.new else None)) }
+{
+    match name_of(alloc, name)? {
+        Some(name) => {
+            draft.set = Some(name);
+            draft.begun = true;
+            Ok(true)
+        }
+        None => Ok(false),
+    }
 }
 
 /// Reads an item.
@@ -146,7 +159,8 @@ fn add_item(
     word: &[u8],
     fields: &[u8],
 ) -> Result<bool, NoMemory>
-    ensures { IfOk result (λ fits. with_item draft.old (item_said name.now word.now fields.now) ≡ (if fits then Some draft.new else None)) }
+    ensures { IfOk result (λ fits. with_item draft.old (item_said name.now word.now fields.now)
+        ≡ (if fits then Some draft.new else None)) }
 {
     let Some(item) = item_said(alloc, name, word, fields)? else {
         return Ok(false);

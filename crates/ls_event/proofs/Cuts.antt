@@ -6,7 +6,7 @@ use Rattle.std.proofs.lemmas.List.{take-append-le, drop-append-le, drop_all, len
 use Rattle.ls_event.specs.declared.event.Event.{Event}
 use Rattle.ls_event.specs.declared.event.Event.TheVariants.{Update, Clear}
 use Rattle.ls_event.specs.declared.event.Entry.{Entry}
-use Rattle.ls_event.specs.Cuts.{touched_after, touched_after_all, touched_cells, told_cells}
+use Rattle.ls_event.specs.Cuts.{touched_after, touched_after_all, touched_cells, flagged_cells}
 use Rattle.ls_event.specs.History.{between}
 
 pub touched_after_all-append : (ts : List Bool) (xs ys : List Entry) → touched_after_all ts (xs ++ ys) ≡ touched_after_all (touched_after_all ts xs) ys
@@ -14,7 +14,8 @@ touched_after_all-append ts [] ys = refl
 touched_after_all-append ts (x ∷ xs) ys = touched_after_all-append (touched_after ts x.event) xs ys
 
 -- one entry more
-pub between-next : (h : List Entry) (p i : ℕ) (e : Entry) → p ≤ i → i ≤ length h → take (i + 1) h ≡ take i h ++ e ∷ [] → between h p (i + 1) ≡ between h p i ++ e ∷ []
+pub between-next : (h : List Entry) (p i : ℕ) (e : Entry) → p ≤ i → i ≤ length h → take (i + 1) h ≡ take i h ++ e ∷ []
+    → between h p (i + 1) ≡ between h p i ++ e ∷ []
 between-next h p i e low high next =
     let within : p ≤ length (take i h) = omega (arith, length-take-le i h high) in
     rw next (drop-append-le p (take i h) (e ∷ []) within)
@@ -27,7 +28,8 @@ between-append h more p i within = ap (drop p) (take-append-le i h more within)
 pub between_none : (h : List Entry) (l p : ℕ) → l ≤ p → l ≤ length h → between h p l ≡ []
 between_none h l p low within = drop_all p (take l h) (omega (arith, low, length-take-le l h within))
 
-pub touched-next : (ts : List Bool) (h : List Entry) (p i : ℕ) (e : Entry) → p ≤ i → i ≤ length h → take (i + 1) h ≡ take i h ++ e ∷ [] → touched_after_all ts (between h p (i + 1)) ≡ touched_after (touched_after_all ts (between h p i)) e.event
+pub touched-next : (ts : List Bool) (h : List Entry) (p i : ℕ) (e : Entry) → p ≤ i → i ≤ length h → take (i + 1) h ≡ take i h ++ e ∷ []
+    → touched_after_all ts (between h p (i + 1)) ≡ touched_after (touched_after_all ts (between h p i)) e.event
 touched-next ts h p i e low high next = ap (touched_after_all ts) (between-next h p i e low high next) ∙ touched_after_all-append ts (between h p i) (e ∷ [])
 
 pub touched_cells_length : (ts : List Bool) (cells : List Cell) → length (touched_cells ts cells) ≡ length ts
@@ -43,7 +45,7 @@ pub touched_after_all_length : (ts : List Bool) (es : List Entry) → length (to
 touched_after_all_length ts [] = refl
 touched_after_all_length ts (e ∷ es) = touched_after_all_length (touched_after ts e.event) es ∙ touched_after_length ts e.event
 
-pub told_cells_length : (ts : List Bool) (row : List Value) → length ts ≡ length row → length (told_cells ts row) ≡ length row
+pub told_cells_length : (ts : List Bool) (row : List Value) → length ts ≡ length row → length (flagged_cells ts row) ≡ length row
 told_cells_length [] [] h = refl
 told_cells_length [] (v ∷ row) h = h
 told_cells_length (t ∷ ts) [] h = refl

@@ -1,8 +1,10 @@
 -- Histories as they grow.
-use Rattle.std.proofs.Common.{◌≡◌, ◌==◌, ℕ, ◌+◌, ◌<◌, ◌^◌, List, [], ◌∷◌, ◌++◌, length, take, refl, sym, ◌∙◌, ap, subst, arith, cond, Bool, true, false, Option, None, Some, nat_le, option_map, append_assoc, append-nil}
+use Rattle.std.proofs.Common.{◌≡◌, ◌==◌, ℕ, ◌+◌, ◌<◌, List, [], ◌∷◌, ◌++◌, length, take, refl, sym, ◌∙◌, ap, subst, arith, cond, Bool, true, false, Option}
+use Rattle.std.proofs.Common.{None, Some, nat_le, option_map, append_assoc, append-nil}
 use Rattle.std.specs.Option.{option_or}
 use Rattle.std.proofs.lemmas.List.{length-append, take-append-le, take_all}
 use Rattle.std.proofs.lemmas.Bool.{leb-false}
+use Rattle.ls_value.specs.declared.limits.TheConstants.{GREATEST_NUMBER}
 use Rattle.ls_event.specs.declared.event.Event.{Event}
 use Rattle.ls_event.specs.declared.event.Entry.{Entry}
 use Rattle.ls_event.specs.declared.event.PushRefused.{PushRefused}
@@ -19,7 +21,8 @@ next_at_end h e =
     ∙ ap (λ xs. xs ++ e ∷ []) (sym (take-append-le (length h) h (e ∷ []) (omega arith) ∙ take_all (length h) h (omega arith)))
 
 -- the last seq after one more entry
-last_seq_from-append : (seq adapter : ℕ) (h : List Entry) (e : Entry) → last_seq_from seq adapter (h ++ e ∷ []) ≡ cond (e.adapter == adapter) e.seq (last_seq_from seq adapter h)
+last_seq_from-append : (seq adapter : ℕ) (h : List Entry) (e : Entry) → last_seq_from seq adapter (h ++ e ∷ [])
+    ≡ cond (e.adapter == adapter) e.seq (last_seq_from seq adapter h)
 last_seq_from-append seq adapter [] e = refl
 last_seq_from-append seq adapter (x ∷ h) e = last_seq_from-append (cond (x.adapter == adapter) x.seq seq) adapter h e
 
@@ -29,36 +32,45 @@ last_seq-append adapter h e = last_seq_from-append 0 adapter h e
 -- one entry more may follow
 each_more : (p : Shape) (before es : List Entry) (e : Entry) → EachFollows p before es → MayFollow p (before ++ es) e → EachFollows p before (es ++ e ∷ [])
 each_more p before [] e each m = (subst (λ (h : List Entry). MayFollow p h e) (append-nil before) m, tt)
-each_more p before (x ∷ es) e each m = (each.0, each_more p (before ++ x ∷ []) es e each.1 (subst (λ (h : List Entry). MayFollow p h e) (sym (append_assoc before (x ∷ []) es)) m))
+each_more p before (x ∷ es) e each m =
+    (each.0, each_more p (before ++ x ∷ []) es e each.1 (subst (λ (h : List Entry). MayFollow p h e) (sym (append_assoc before (x ∷ []) es)) m))
 
 -- why an event isn't refused
 pub record Admitted (p : Shape) (h : List Entry) (far : Option ℕ) (adapter seq : ℕ) (event : Event) : Type 0 where
   pub rises : last_seq adapter h < seq
   pub admitted : push_refusal p (state_at p h (length h)) event ≡ None
   pub near : far ≡ None
-  pub few : length h < 2 ^ 60
+  pub few : length h < GREATEST_NUMBER
 
-pub admitted : (p : Shape) (h : List Entry) (far : Option ℕ) (adapter seq : ℕ) (event : Event) → refusal p h far adapter seq event ≡ None → Admitted p h far adapter seq event
+pub admitted : (p : Shape) (h : List Entry) (far : Option ℕ) (adapter seq : ℕ) (event : Event) → refusal p h far adapter seq event ≡ None
+    → Admitted p h far adapter seq event
 admitted p h far adapter seq event none = by_seq (nat_le seq (last_seq adapter h)) refl none
   where
-    by_number : (v : Bool) → nat_le (2 ^ 60) (length h) ≡ v → last_seq adapter h < seq → push_refusal p (state_at p h (length h)) event ≡ None → far ≡ None → cond v (Some refused.Spent) None ≡ None → Admitted p h far adapter seq event
+    by_number : (v : Bool) → nat_le GREATEST_NUMBER (length h) ≡ v → last_seq adapter h < seq → push_refusal p (state_at p h (length h)) event ≡ None
+        → far ≡ None → cond v (Some refused.Spent) None ≡ None → Admitted p h far adapter seq event
     by_number true t rises fits near x = cc
-    by_number false t rises fits near x = record { rises = rises; admitted = fits; near = near; few = leb-false (2 ^ 60) (length h) t }
+    by_number false t rises fits near x = record { rises = rises; admitted = fits; near = near; few = leb-false GREATEST_NUMBER (length h) t }
 
-    by_far : (o : Option ℕ) → far ≡ o → last_seq adapter h < seq → push_refusal p (state_at p h (length h)) event ≡ None → backlog_or o (cond (nat_le (2 ^ 60) (length h)) (Some refused.Spent) None) ≡ None → Admitted p h far adapter seq event
-    by_far None is rises fits x = by_number (nat_le (2 ^ 60) (length h)) refl rises fits is x
+    by_far : (o : Option ℕ) → far ≡ o → last_seq adapter h < seq → push_refusal p (state_at p h (length h)) event ≡ None
+        → backlog_or o (cond (nat_le GREATEST_NUMBER (length h)) (Some refused.Spent) None) ≡ None → Admitted p h far adapter seq event
+    by_far None is rises fits x = by_number (nat_le GREATEST_NUMBER (length h)) refl rises fits is x
     by_far (Some slot) is rises fits x = cc
 
-    by_push : (o : Option PushRefused) → push_refusal p (state_at p h (length h)) event ≡ o → last_seq adapter h < seq → option_or (option_map publish_cause o) (backlog_or far (cond (nat_le (2 ^ 60) (length h)) (Some refused.Spent) None)) ≡ None → Admitted p h far adapter seq event
+    by_push : (o : Option PushRefused) → push_refusal p (state_at p h (length h)) event ≡ o → last_seq adapter h < seq
+        → option_or (option_map publish_cause o) (backlog_or far (cond (nat_le GREATEST_NUMBER (length h)) (Some refused.Spent) None)) ≡ None
+        → Admitted p h far adapter seq event
     by_push None is rises x = by_far far refl rises is x
     by_push (Some cause) is rises x = cc
 
-    by_seq : (v : Bool) → nat_le seq (last_seq adapter h) ≡ v → cond v (Some (refused.Repeated (last_seq adapter h))) (option_or (option_map publish_cause (push_refusal p (state_at p h (length h)) event)) (backlog_or far (cond (nat_le (2 ^ 60) (length h)) (Some refused.Spent) None))) ≡ None → Admitted p h far adapter seq event
+    by_seq : (v : Bool) → nat_le seq (last_seq adapter h) ≡ v → cond v (Some (refused.Repeated (last_seq adapter h)))
+        (option_or (option_map publish_cause (push_refusal p (state_at p h (length h)) event))
+        (backlog_or far (cond (nat_le GREATEST_NUMBER (length h)) (Some refused.Spent) None))) ≡ None → Admitted p h far adapter seq event
     by_seq true t x = cc
     by_seq false t x = by_push (push_refusal p (state_at p h (length h)) event) refl (leb-false seq (last_seq adapter h) t) x
 
 -- a history with one more entry that isn't refused
-pub history_grown : (p : Shape) (h : List Entry) (far : Option ℕ) (e : Entry) → IsHistory p h → HasFields p.fields e.event → refusal p h far e.adapter e.seq e.event ≡ None → IsHistory p (h ++ e ∷ [])
+pub history_grown : (p : Shape) (h : List Entry) (far : Option ℕ) (e : Entry) → IsHistory p h → HasFields p.fields e.event
+    → refusal p h far e.adapter e.seq e.event ≡ None → IsHistory p (h ++ e ∷ [])
 history_grown p h far e is fits none =
     let a : Admitted p h far e.adapter e.seq e.event = admitted p h far e.adapter e.seq e.event none in
     record {

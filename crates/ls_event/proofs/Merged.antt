@@ -15,7 +15,8 @@ row_after_all-append row [] ys = refl
 row_after_all-append row (x ∷ xs) ys = row_after_all-append (row_after row x.event) xs ys
 
 -- one entry more
-pub merged-next : (fields : ℕ) (h : List Entry) (i : ℕ) (e : Entry) → take (i + 1) h ≡ take i h ++ e ∷ [] → merged fields h (i + 1) ≡ row_after (merged fields h i) e.event
+pub merged-next : (fields : ℕ) (h : List Entry) (i : ℕ) (e : Entry) → take (i + 1) h ≡ take i h ++ e ∷ []
+    → merged fields h (i + 1) ≡ row_after (merged fields h i) e.event
 merged-next fields h i e next = rw next (row_after_all-append (nulls fields) (take i h) (e ∷ []))
 
 -- later entries leave it

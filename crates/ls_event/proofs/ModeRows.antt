@@ -16,7 +16,7 @@ use Rattle.ls_event.specs.Slots.{Plan, Slot, fresh, fresh_with, passed}
 use Rattle.ls_event.specs.Updates.{own_row, updates_between, last_clear, recent_rows}
 use Rattle.ls_event.specs.Keyed.{keyed, row_at, is_before}
 use Rattle.ls_event.specs.CommandCuts.{command_queue}
-use Rattle.ls_event.specs.Cuts.{cut, pending, waiting}
+use Rattle.ls_event.specs.Cuts.{cut, is_pending, waiting_count}
 use Rattle.ls_event.specs.States.{push_refusal}
 use Rattle.ls_event.specs.declared.event.PushRefused.TheVariants as push
 use Rattle.ls_event.specs.declared.snapshot.Snapshot.{Snapshot}
@@ -98,7 +98,7 @@ raw_passes_clear = refl
 pub raw_rest_of_clears : cut twice_cleared (passed (slot mode.Raw 1 0 6) (taken.Row (row 4) 5)) ≡ None
 raw_rest_of_clears = refl
 
-pub raw_rest_is_pending : pending twice_cleared (passed (slot mode.Raw 1 0 6) (taken.Row (row 4) 5)) ≡ true
+pub raw_rest_is_pending : is_pending twice_cleared (passed (slot mode.Raw 1 0 6) (taken.Row (row 4) 5)) ≡ true
 raw_rest_is_pending = refl
 
 pub raw_none_lost : cut (many 256) (slot mode.Raw 1 0 256) ≡ Some (taken.Row (row 1) 1)
@@ -110,10 +110,10 @@ raw_44_lost = refl
 pub raw_behind_lost : cut (many 300) (passed (slot mode.Raw 1 0 300) (taken.Lost 44 44)) ≡ Some (taken.Row (row 1) 45)
 raw_behind_lost = refl
 
-pub raw_waits_256 : waiting (many 300) (slot mode.Raw 1 0 300) ≡ 256
+pub raw_waits_256 : waiting_count (many 300) (slot mode.Raw 1 0 300) ≡ 256
 raw_waits_256 = refl
 
-pub raw_waits_updates_alone : waiting twice_cleared (slot mode.Raw 1 0 6) ≡ 4
+pub raw_waits_updates_alone : waiting_count twice_cleared (slot mode.Raw 1 0 6) ≡ 4
 raw_waits_updates_alone = refl
 
 -- DISTINCT: older updates than the last of the buffer's size are dropped
@@ -127,10 +127,10 @@ distinct_fifth = refl
 pub distinct_none_left : cut five (passed (slot mode.Distinct 2 0 5) (taken.Row (row 5) 5)) ≡ None
 distinct_none_left = refl
 
-pub distinct_not_pending : pending five (passed (slot mode.Distinct 2 0 5) (taken.Row (row 5) 5)) ≡ false
+pub distinct_not_pending : is_pending five (passed (slot mode.Distinct 2 0 5) (taken.Row (row 5) 5)) ≡ false
 distinct_not_pending = refl
 
-pub distinct_waits_2 : waiting five (slot mode.Distinct 2 0 5) ≡ 2
+pub distinct_waits_2 : waiting_count five (slot mode.Distinct 2 0 5) ≡ 2
 distinct_waits_2 = refl
 
 -- the snapshot's rows come first and don't count against the size, then its end
@@ -147,7 +147,7 @@ distinct_snapshot_end = refl
 pub distinct_behind_end : cut five (passed (with_snapshot mode.Distinct 1 3 5 0) taken.EndOfSnapshot) ≡ Some (taken.Row (row 5) 5)
 distinct_behind_end = refl
 
-pub distinct_owed_is_pending : pending five (with_snapshot mode.Distinct 1 5 5 0) ≡ true
+pub distinct_owed_is_pending : is_pending five (with_snapshot mode.Distinct 1 5 5 0) ≡ true
 distinct_owed_is_pending = refl
 
 -- a Clear drops the snapshot's rows: its end, the Clear, and what came later
@@ -164,15 +164,15 @@ distinct_behind_clear = refl
 pub distinct_one_clear_of_two : cut twice_cleared (slot mode.Distinct 9 0 6) ≡ Some (taken.Cleared 6)
 distinct_one_clear_of_two = refl
 
-pub distinct_waits_behind_clear : waiting twice_cleared (slot mode.Distinct 9 0 5) ≡ 2
+pub distinct_waits_behind_clear : waiting_count twice_cleared (slot mode.Distinct 9 0 5) ≡ 2
 distinct_waits_behind_clear = refl
 
 -- MERGE
 
-pub merge_waits_2 : waiting five (slot mode.Merge 2 0 5) ≡ 2
+pub merge_waits_2 : waiting_count five (slot mode.Merge 2 0 5) ≡ 2
 merge_waits_2 = refl
 
-pub merge_waits_without_snapshot : waiting five (record (slot mode.Merge 9 3 5) { place = 2 }) ≡ 2
+pub merge_waits_without_snapshot : waiting_count five (record (slot mode.Merge 9 3 5) { cursor = 2 }) ≡ 2
 merge_waits_without_snapshot = refl
 
 -- COMMAND: a table of which the keys a and b are the snapshot
@@ -225,10 +225,10 @@ command_after_turn = refl
 pub command_end : cut touched (of_table 0 2) ≡ Some taken.EndOfSnapshot
 command_end = refl
 
-pub command_waits : waiting touched (of_table 2 5) ≡ 3
+pub command_waits : waiting_count touched (of_table 2 5) ≡ 3
 command_waits = refl
 
-pub command_not_pending : pending touched (passed (of_table 0 2) taken.EndOfSnapshot) ≡ false
+pub command_not_pending : is_pending touched (passed (of_table 0 2) taken.EndOfSnapshot) ≡ false
 command_not_pending = refl
 
 pub command_clear_ends : cut emptied (of_table 2 4) ≡ Some taken.EndOfSnapshot
@@ -237,7 +237,8 @@ command_clear_ends = refl
 pub command_cleared : cut emptied (passed (of_table 2 4) taken.EndOfSnapshot) ≡ Some (taken.Cleared 3)
 command_cleared = refl
 
-pub command_behind_clear : cut emptied (passed (passed (of_table 2 4) taken.EndOfSnapshot) (taken.Cleared 3)) ≡ Some (taken.Key (99 ∷ []) (Some (keyed_row 99 4)) 4)
+pub command_behind_clear : cut emptied (passed (passed (of_table 2 4) taken.EndOfSnapshot) (taken.Cleared 3))
+    ≡ Some (taken.Key (99 ∷ []) (Some (keyed_row 99 4)) 4)
 command_behind_clear = refl
 
 -- why an update isn't added to the table, or to an item of kind DISTINCT, in the order of the causes
@@ -251,7 +252,8 @@ update_of key command text = Update (key ∷ command ∷ cell.Text text ∷ [])
 pub no_key_before_bad_command : push_refusal table with_keys (update_of cell.Null cell.Null (replicate 4097 120)) ≡ Some push.NoKey
 no_key_before_bad_command = refl
 
-pub bad_command_before_too_long : push_refusal table with_keys (update_of (cell.Text (97 ∷ [])) (cell.Text (codes "GO")) (replicate 4097 120)) ≡ Some push.BadCommand
+pub bad_command_before_too_long : push_refusal table with_keys (update_of (cell.Text (97 ∷ [])) (cell.Text (codes "GO")) (replicate 4097 120))
+    ≡ Some push.BadCommand
 bad_command_before_too_long = refl
 
 -- the key, the word and the value; the row has no command

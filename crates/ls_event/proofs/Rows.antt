@@ -10,7 +10,7 @@ use Rattle.ls_event.specs.declared.event.Entry.{Entry}
 use Rattle.ls_event.specs.declared.event.Mode.TheVariants as mode
 use Rattle.ls_event.specs.declared.event.PublishRefused.TheVariants as refused
 use Rattle.ls_event.specs.declared.event.Taken.TheVariants as taken
-use Rattle.ls_event.specs.Cuts.{cut, pending, Fits}
+use Rattle.ls_event.specs.Cuts.{cut, is_pending, Fits}
 use Rattle.ls_event.specs.History.{merged, between, last_seq}
 use Rattle.ls_event.specs.Shapes.{Shape}
 use Rattle.ls_event.specs.Publishes.{refusal, IsHistory}
@@ -61,7 +61,7 @@ joined size = enqueued (enqueued (enqueued (fresh (plan size) 0)))
 
 -- the slot whose lines told of the first events, of so many that were enqueued
 abbrev told_to : ℕ → ℕ → ℕ → Slot
-told_to size place last = record { plan = plan size; last = last; place = place; owed = 0; ends = false; given = true; noted = [] }
+told_to size cursor last = record { plan = plan size; last = last; cursor = cursor; owed = 0; ends = false; has_started = true; key_cursors = [] }
 
 -- merged states
 
@@ -91,10 +91,12 @@ between_first_and_third = refl
 pub two_first : cut letters (joined 2) ≡ Some (taken.Change (digit 1 ∷ digit 2 ∷ cell.Null ∷ []) 2)
 two_first = refl
 
-pub two_second : cut letters (passed (joined 2) (taken.Change (digit 1 ∷ digit 2 ∷ cell.Null ∷ []) 2)) ≡ Some (taken.Change (cell.Same ∷ cell.Same ∷ digit 3 ∷ []) 3)
+pub two_second : cut letters (passed (joined 2) (taken.Change (digit 1 ∷ digit 2 ∷ cell.Null ∷ []) 2))
+    ≡ Some (taken.Change (cell.Same ∷ cell.Same ∷ digit 3 ∷ []) 3)
 two_second = refl
 
-pub two_end : cut letters (passed (passed (joined 2) (taken.Change (digit 1 ∷ digit 2 ∷ cell.Null ∷ []) 2)) (taken.Change (cell.Same ∷ cell.Same ∷ digit 3 ∷ []) 3)) ≡ None
+pub two_end : cut letters (passed (passed (joined 2) (taken.Change (digit 1 ∷ digit 2 ∷ cell.Null ∷ []) 2))
+    (taken.Change (cell.Same ∷ cell.Same ∷ digit 3 ∷ []) 3)) ≡ None
 two_end = refl
 
 -- with a buffer of one all is told at once
@@ -144,10 +146,10 @@ said_again = refl
 pub fits_three : Fits 3 (cut letters (joined 2))
 fits_three = refl
 
-pub pending_before : pending letters (told_to 1 2 3) ≡ true
+pub pending_before : is_pending letters (told_to 1 2 3) ≡ true
 pending_before = refl
 
-pub pending_after : pending letters (told_to 1 3 3) ≡ false
+pub pending_after : is_pending letters (told_to 1 3 3) ≡ false
 pending_after = refl
 
 pub far_by_64 : is_far 67 (told_to 1 0 3) ≡ true
@@ -158,7 +160,15 @@ near_by_63 = refl
 
 -- the third entry is the next one after two
 pub third_is_next : IsNext (told_to 1 0 2) letters (record { no = 3; event = Update (cell.Same ∷ cell.Same ∷ digit 3 ∷ []); after = None })
-third_is_next = record { entry = entry 1 3 (Update (cell.Same ∷ cell.Same ∷ digit 3 ∷ [])); more = omega arith; next = refl; no = refl; event = refl; after = refl }
+third_is_next = record {
+  entry = entry 1 3 (Update (cell.Same ∷ cell.Same ∷ digit 3 ∷ []));
+  more = omega arith;
+  next = refl;
+  no = refl;
+  event = refl;
+  after =
+      refl;
+}
 
 -- seqs of two adapters
 

@@ -1,5 +1,6 @@
 -- The updates of a history as it grows, and behind one of them.
-use Rattle.std.proofs.Common.{◌≡◌, ℕ, ◌+◌, ◌-◌, ◌<◌, ◌≤◌, List, [], ◌∷◌, ◌++◌, length, take, drop, refl, sym, ◌∙◌, ap, arith, suc, zero, Option, Some, None, slice_get, min, unwrap_or, inl, inr, ◌⊎◌}
+use Rattle.std.proofs.Common.{◌≡◌, ℕ, ◌+◌, ◌-◌, ◌<◌, ◌≤◌, List, [], ◌∷◌, ◌++◌, length, take, drop, refl, sym, ◌∙◌, ap, arith, suc, zero, Option, Some, None}
+use Rattle.std.proofs.Common.{slice_get, min, unwrap_or, inl, inr, ◌⊎◌}
 use Rattle.std.proofs.lemmas.List.{length-take-le, length-drop, length-append, append_assoc, drop-drop, drop-append-le}
 use Rattle.std.proofs.lemmas.Option.{slice_get_within}
 use Rattle.ls_event.specs.declared.event.Event.{Event}
@@ -13,7 +14,8 @@ use Rattle.ls_event.proofs.Cuts.{between-next, between-append}
 pub own_from-append : (n : ℕ) (xs ys : List Entry) → own_from n (xs ++ ys) ≡ own_from n xs ++ own_from (n + length xs) ys
 own_from-append n [] ys = ap (λ k. own_from k ys) {x = n} {y = n + 0} (omega arith)
 own_from-append n (x ∷ xs) ys =
-    ap (λ z. own_of (n + 1) x.event ++ z) (own_from-append (n + 1) xs ys ∙ ap (λ k. own_from (n + 1) xs ++ own_from k ys) {x = n + 1 + length xs} {y = n + suc (length xs)} (omega arith))
+    ap (λ z. own_of (n + 1) x.event ++ z) (own_from-append (n + 1) xs ys ∙ ap (λ k. own_from (n + 1) xs ++ own_from k ys) {x = n + 1 + length xs}
+    {y = n + suc (length xs)} (omega arith))
     ∙ sym (append_assoc (own_of (n + 1) x.event) (own_from (n + 1) xs) (own_from (n + length (x ∷ xs)) ys))
 
 pub between_length : (h : List Entry) (p l : ℕ) → l ≤ length h → length (between h p l) ≡ l - p
@@ -24,7 +26,8 @@ own_one n (Update cells) = refl
 own_one n Clear = refl
 
 -- one entry more
-pub updates_between-next : (h : List Entry) (p l : ℕ) (e : Entry) → p ≤ l → l ≤ length h → take (l + 1) h ≡ take l h ++ e ∷ [] → updates_between h p (l + 1) ≡ updates_between h p l ++ own_of (l + 1) e.event
+pub updates_between-next : (h : List Entry) (p l : ℕ) (e : Entry) → p ≤ l → l ≤ length h → take (l + 1) h ≡ take l h ++ e ∷ []
+    → updates_between h p (l + 1) ≡ updates_between h p l ++ own_of (l + 1) e.event
 updates_between-next h p l e low high next =
     let at : p + length (between h p l) ≡ l = omega (arith, between_length h p l high, low) in
     ap (own_from p) (between-next h p l e low high next)
@@ -46,7 +49,8 @@ pub record Behind (n : ℕ) (es : List Entry) (us : List OwnRow) (j : ℕ) (u : 
 drop_past : (n to : ℕ) (e : Entry) (es : List Entry) → n < to → drop (to - n) (e ∷ es) ≡ drop (to - (n + 1)) es
 drop_past n to e es low = ap (λ k. drop k (e ∷ es)) {x = to - n} {y = suc (to - (n + 1))} (omega (arith, low))
 
-behind_later : (n : ℕ) (e : Entry) (es : List Entry) (us vs : List OwnRow) (i j : ℕ) (u : OwnRow) → drop j vs ≡ drop i us → drop (j + 1) vs ≡ drop (i + 1) us → Behind (n + 1) es us i u → Behind n (e ∷ es) vs j u
+behind_later : (n : ℕ) (e : Entry) (es : List Entry) (us vs : List OwnRow) (i j : ℕ) (u : OwnRow) → drop j vs ≡ drop i us → drop (j + 1) vs ≡ drop (i + 1) us
+    → Behind (n + 1) es us i u → Behind n (e ∷ es) vs j u
 behind_later n e es us vs i j u at after b =
     let above : n + 1 < u.no = b.above in
     record {
@@ -56,7 +60,8 @@ behind_later n e es us vs i j u at after b =
       at_it = ap (own_from (u.no - 1)) (drop_past n (u.no - 1) e es (omega (arith, above))) ∙ b.at_it ∙ sym at;
     }
 
-behind_first : (n : ℕ) (e : Entry) (es : List Entry) (x u : OwnRow) → own_of (n + 1) e.event ≡ x ∷ [] → x.no ≡ n + 1 → Some x ≡ Some u → Behind n (e ∷ es) (x ∷ own_from (n + 1) es) 0 u
+behind_first : (n : ℕ) (e : Entry) (es : List Entry) (x u : OwnRow) → own_of (n + 1) e.event ≡ x ∷ [] → x.no ≡ n + 1 → Some x ≡ Some u
+    → Behind n (e ∷ es) (x ∷ own_from (n + 1) es) 0 u
 behind_first n e es x u is no_is same =
     let no' : u.no ≡ n + 1 = ap (λ o. (unwrap_or o x).no) (sym same) ∙ no_is in
     record {
@@ -69,7 +74,8 @@ behind_first n e es x u is no_is same =
 
 behind_step : (n : ℕ) (e : Entry) (event : Event) (es : List Entry) → e.event ≡ event
     → ((j : ℕ) (u : OwnRow) → slice_get (own_from (n + 1) es) j ≡ Some u → Behind (n + 1) es (own_from (n + 1) es) j u)
-    → (j : ℕ) (u : OwnRow) → slice_get (own_of (n + 1) event ++ own_from (n + 1) es) j ≡ Some u → Behind n (e ∷ es) (own_of (n + 1) event ++ own_from (n + 1) es) j u
+    → (j : ℕ) (u : OwnRow) → slice_get (own_of (n + 1) event ++ own_from (n + 1) es) j ≡ Some u
+    → Behind n (e ∷ es) (own_of (n + 1) event ++ own_from (n + 1) es) j u
 behind_step n e Clear es is rest j u at = behind_later n e es (own_from (n + 1) es) (own_from (n + 1) es) j j u refl refl (rest j u at)
 behind_step n e (Update cells) es is rest zero u at = behind_first n e es _ u (ap (own_of (n + 1)) is) refl at
 behind_step n e (Update cells) es is rest (suc i) u at =
@@ -128,9 +134,11 @@ slice_get_drop (suc k) (x ∷ xs) = slice_get_drop k xs
 
 pub clear_from-append : (c : Option ℕ) (n : ℕ) (xs ys : List Entry) → clear_from c n (xs ++ ys) ≡ clear_from (clear_from c n xs) (n + length xs) ys
 clear_from-append c n [] ys = ap (λ k. clear_from c k ys) {x = n} {y = n + 0} (omega arith)
-clear_from-append c n (x ∷ xs) ys = clear_from-append (clear_of c (n + 1) x.event) (n + 1) xs ys ∙ ap (λ k. clear_from (clear_from c n (x ∷ xs)) k ys) {x = n + 1 + length xs} {y = n + suc (length xs)} (omega arith)
+clear_from-append c n (x ∷ xs) ys = clear_from-append (clear_of c (n + 1) x.event) (n + 1) xs ys
+    ∙ ap (λ k. clear_from (clear_from c n (x ∷ xs)) k ys) {x = n + 1 + length xs} {y = n + suc (length xs)} (omega arith)
 
-pub last_clear-next : (h : List Entry) (p l : ℕ) (e : Entry) → p ≤ l → l ≤ length h → take (l + 1) h ≡ take l h ++ e ∷ [] → last_clear h p (l + 1) ≡ clear_of (last_clear h p l) (l + 1) e.event
+pub last_clear-next : (h : List Entry) (p l : ℕ) (e : Entry) → p ≤ l → l ≤ length h → take (l + 1) h ≡ take l h ++ e ∷ []
+    → last_clear h p (l + 1) ≡ clear_of (last_clear h p l) (l + 1) e.event
 last_clear-next h p l e low high next =
     let at : p + length (between h p l) ≡ l = omega (arith, between_length h p l high, low) in
     ap (clear_from None p) (between-next h p l e low high next)
@@ -142,7 +150,8 @@ pub no_clear : (c : Option ℕ) (n to : ℕ) (es : List Entry) → clear_from c 
 no_clear c n to [] none = (none, refl)
 no_clear c n to (e ∷ es) none = by_event e.event (no_clear (clear_of c (n + 1) e.event) (n + 1) (to + 1) es none)
   where
-    by_event : (event : Event) → (clear_of c (n + 1) event ≡ None) × (clear_from None (to + 1) es ≡ None) → (c ≡ None) × (clear_from (clear_of None (to + 1) event) (to + 1) es ≡ None)
+    by_event : (event : Event) → (clear_of c (n + 1) event ≡ None) × (clear_from None (to + 1) es ≡ None)
+        → (c ≡ None) × (clear_from (clear_of None (to + 1) event) (to + 1) es ≡ None)
     by_event (Update cells) h = h
     by_event Clear h = absurd_some h.0
       where
@@ -163,14 +172,16 @@ pub record LastClear (n : ℕ) (es : List Entry) (c : ℕ) : Type 0 where
 abbrev pub ClearAt : Option ℕ → ℕ → List Entry → ℕ → Type 0
 ClearAt c0 n es c = ((c0 ≡ Some c) × (clear_from None n es ≡ None)) ⊎ LastClear n es c
 
-clear_step : (c0 : Option ℕ) (n : ℕ) (e : Entry) (event : Event) (es : List Entry) (c : ℕ) → e.event ≡ event → ClearAt (clear_of c0 (n + 1) event) (n + 1) es c → ClearAt c0 n (e ∷ es) c
+clear_step : (c0 : Option ℕ) (n : ℕ) (e : Entry) (event : Event) (es : List Entry) (c : ℕ) → e.event ≡ event → ClearAt (clear_of c0 (n + 1) event) (n + 1) es c
+    → ClearAt c0 n (e ∷ es) c
 clear_step c0 n e (Update cells) es c is (inl h) = inl (h.0, ap (λ v. clear_from (clear_of None (n + 1) v) (n + 1) es) is ∙ h.1)
 clear_step c0 n e Clear es c is (inl h) =
     let at : n + 1 ≡ c = ap (λ o. unwrap_or o c) h.0 in
     inr (record {
       above = omega (arith, at);
       reached = omega (arith, at);
-      none = ap (λ k. clear_from None k (drop (k - n) (e ∷ es))) (sym at) ∙ ap (λ k. clear_from None (n + 1) (drop k (e ∷ es))) {x = n + 1 - n} {y = 1} (omega arith) ∙ h.1;
+      none = ap (λ k. clear_from None k (drop (k - n) (e ∷ es))) (sym at) ∙ ap (λ k. clear_from None (n + 1) (drop k (e ∷ es))) {x = n + 1 - n} {y = 1}
+          (omega arith) ∙ h.1;
     })
 clear_step c0 n e event es c is (inr l) =
     let above : n + 1 < c = l.above in

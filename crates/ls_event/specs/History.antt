@@ -1,5 +1,7 @@
--- The history of an item: its events in the order of their numbers, and the state that they make (General Concepts, items and mode MERGE).
-use Rattle.std.specs.Prelude.{◌≡◌, ◌==◌, ℕ, List, [], ◌∷◌, length, take, drop, sum_by, Option, None, Some, if◌then◌else◌}
+-- The history of an item: its events in the order of their numbers, and the state that they make (General Concepts,
+-- items and mode MERGE).
+use Rattle.std.specs.Prelude.{◌≡◌, ◌==◌, ℕ, List, [], ◌∷◌, length, take, drop, sum_by, Option, None, Some}
+use Rattle.std.specs.Prelude.{if◌then◌else◌}
 use Rattle.ls_value.specs.Values.{applied, nulls, weight_of_cell}
 use Rattle.ls_value.specs.declared.row.Value.{Value}
 use Rattle.ls_event.specs.declared.event.Event.{Event}

@@ -1,5 +1,6 @@
 -- The state of a COMMAND item: a row for each key (General Concepts, mode COMMAND).
-use Rattle.std.specs.Prelude.{ℕ, List, [], ◌∷◌, set, take, Bool, true, false, Option, None, Some, nat_lt, ◌==◌, codes, if◌then◌else◌, unwrap_or}
+use Rattle.std.specs.Prelude.{ℕ, List, [], ◌∷◌, set, take, Bool, true, false, Option, None, Some, nat_lt, ◌==◌}
+use Rattle.std.specs.Prelude.{if◌then◌else◌, unwrap_or}
 use Rattle.ls_value.specs.Values.{applied, nulls, cell_at, text_eq}
 use Rattle.ls_value.specs.declared.row.Value.{Value}
 use Rattle.ls_value.specs.declared.row.Value.TheVariants as value
@@ -8,9 +9,9 @@ use Rattle.ls_value.specs.declared.row.Cell.TheVariants as cell
 use Rattle.ls_event.specs.declared.event.Event.{Event}
 use Rattle.ls_event.specs.declared.event.Event.TheVariants.{Update, Clear}
 use Rattle.ls_event.specs.declared.event.Entry.{Entry}
-use Rattle.ls_event.specs.declared.item.Kind.{Kind}
-use Rattle.ls_event.specs.declared.item.Kind.TheVariants as kind
+use Rattle.ls_event.specs.declared.orders.Order.TheVariants as order
 use Rattle.ls_event.specs.declared.snapshot.KeyedRow.{KeyedRow}
+use Rattle.ls_event.specs.Orders.{word_of}
 use Rattle.ls_event.specs.Shapes.{Shape}
 
 -- whether a text stands before another in the order of their bytes
@@ -20,18 +21,18 @@ is_before [] (y ∷ ys) = true
 is_before (x ∷ xs) (y ∷ ys) = if x == y then is_before xs ys else nat_lt x y
 
 -- the text that a cell says
-abbrev pub text_of : Cell → List ℕ
-text_of cell.Same = []
-text_of cell.Null = []
-text_of (cell.Text t) = t
+abbrev pub text_of_cell : Cell → List ℕ
+text_of_cell cell.Same = []
+text_of_cell cell.Null = []
+text_of_cell (cell.Text t) = t
 
 -- the key that an update names
 abbrev pub key_of : Shape → List Cell → List ℕ
-key_of p cells = text_of (cell_at cells p.key)
+key_of p cells = text_of_cell (cell_at cells p.key)
 
 -- whether an update deletes its key
 abbrev pub deletes : Shape → List Cell → Bool
-deletes p cells = text_eq (text_of (cell_at cells p.command)) (codes "DELETE")
+deletes p cells = text_eq (text_of_cell (cell_at cells p.command)) (word_of order.Delete)
 
 -- the row of a key
 abbrev pub row_at : List ℕ → List KeyedRow → Option (List Value)
@@ -70,17 +71,3 @@ keyed_after_all p ks (e ∷ es) = keyed_after_all p (keyed_after p ks e.event) e
 -- the keyed state after the first i entries
 abbrev pub keyed : Shape → List Entry → ℕ → List KeyedRow
 keyed p h i = keyed_after_all p [] (take i h)
-
--- the row that an event leaves its key, by the keys after it: none where the key is gone
-abbrev pub row_left : Shape → List KeyedRow → Event → Option (List Value)
-row_left p ks (Update cells) = row_at (key_of p cells) ks
-row_left p ks Clear = None
-
--- the row that the event of number n leaves its key in an item of a kind; other kinds than COMMAND have no keys
-abbrev pub left_in : Kind → Shape → List Entry → ℕ → Event → Option (List Value)
-left_in kind.Merge p h n event = None
-left_in kind.Distinct p h n event = None
-left_in kind.Command p h n event = row_left p (keyed p h n) event
-
-abbrev pub left_after : Shape → List Entry → ℕ → Event → Option (List Value)
-left_after p h n event = left_in p.kind p h n event

@@ -8,25 +8,27 @@ use Rattle.ls_event.specs.declared.orders.Order.TheVariants as order
 use Rattle.ls_event.specs.declared.orders.CommandRefused.{CommandRefused}
 use Rattle.ls_event.specs.declared.orders.CommandRefused.TheVariants as refused
 
--- the order that a word says: `ADD`, `UPDATE` or `DELETE`, and no other
+-- the word that a command's cell has for an order
+abbrev pub word_of : Order → List ℕ
+word_of order.Add = codes "ADD"
+word_of order.Update = codes "UPDATE"
+word_of order.Delete = codes "DELETE"
+
+-- the order that a word says, and no other word does
 abbrev pub order_said : List ℕ → Result Order CommandRefused
 order_said word =
-    if text_eq word (codes "ADD") then Ok order.Add
-    else if text_eq word (codes "UPDATE") then Ok order.Update
-    else if text_eq word (codes "DELETE") then Ok order.Delete
+    if text_eq word (word_of order.Add) then Ok order.Add
+    else if text_eq word (word_of order.Update) then Ok order.Update
+    else if text_eq word (word_of order.Delete) then Ok order.Delete
     else Err refused.BadCommand
-
--- the order of the command's cell
-abbrev pub order_in : Cell → Result Order CommandRefused
-order_in cell.Same = Err refused.BadCommand
-order_in cell.Null = Err refused.BadCommand
-order_in (cell.Text word) = order_said word
 
 -- the order of the key's and the command's cells; without a key there is none
 abbrev pub order_with : Cell → Cell → Result Order CommandRefused
 order_with cell.Same command = Err refused.NoKey
 order_with cell.Null command = Err refused.NoKey
-order_with (cell.Text key) command = order_in command
+order_with (cell.Text key) cell.Same = Err refused.BadCommand
+order_with (cell.Text key) cell.Null = Err refused.BadCommand
+order_with (cell.Text key) (cell.Text word) = order_said word
 
 -- the order that cells say, with the places of the key and of the command
 abbrev pub order_of : List Cell → ℕ → ℕ → Result Order CommandRefused

@@ -9,6 +9,7 @@ use Rattle.ls_event.specs.declared.event.Event.TheVariants.{Update, Clear}
 use Rattle.ls_event.specs.declared.event.Entry.{Entry}
 use Rattle.ls_event.specs.declared.updates.OwnRow.{OwnRow}
 use Rattle.ls_event.specs.History.{between}
+use Rattle.ls_event.specs.declared.limits.TheConstants.{MOST_SNAPSHOT_ROWS}
 
 -- the last n of a list
 abbrev pub last_of : {A : Type 0} → ℕ → List A → List A
@@ -56,6 +57,7 @@ last_clear h p l = clear_from None p (between h p l)
 abbrev pub clear_or : List Entry → ℕ → ℕ → ℕ
 clear_or h p l = unwrap_or (last_clear h p l) p
 
--- the state of a DISTINCT item after the first i entries: the last 32 own rows since the last Clear
+-- the state of a DISTINCT item after the first i entries: the own rows since the last Clear, as many of the last as are
+-- kept
 abbrev pub recent_rows : List Entry → ℕ → List (List Value)
-recent_rows h i = last_of 32 (map (λ u. u.row) (updates_between h (clear_or h 0 i) i))
+recent_rows h i = last_of MOST_SNAPSHOT_ROWS (map (λ u. u.row) (updates_between h (clear_or h 0 i) i))

@@ -33,7 +33,8 @@ pub enum Event {
     Clear,
 }
 
-/// An entry of an item's history: an event, the adapter that published it (1 to 64), and the seq that the adapter gave it.
+/// An entry of an item's history: an event, the adapter that published it (1 to [`crate::MOST_ADAPTERS`]), and the seq
+/// that the adapter gave it.
 #[derive(Drop)]
 pub struct Entry {
     pub adapter: u8,
@@ -41,7 +42,8 @@ pub struct Entry {
     pub event: Event,
 }
 
-/// An event with its number in the history. In a COMMAND item `after` is the key's row after the event, where it has one; in other items it is `None`.
+/// An event with its number in the history. In a COMMAND item `after` is the key's row after the event, where it has
+/// one; in other items it is `None`.
 #[derive(Drop)]
 pub struct Stored {
     pub no: u64,
@@ -49,7 +51,7 @@ pub struct Stored {
     pub after: Option<Row>,
 }
 
-/// A cut: what a buffer tells at once. `upto` is the number of the last event that it tells of.
+/// A cut: what a buffer gives at once. `upto` is the number of the last event that it tells of.
 #[derive(Drop)]
 pub enum Taken {
     /// An update's own row, or a row of the snapshot.
@@ -88,9 +90,10 @@ pub enum PushRefused {
     NoKey,
     /// An update of a COMMAND item whose command's cell has none of the texts `ADD`, `UPDATE` and `DELETE`.
     BadCommand,
-    /// The event's texts or the row that it makes weigh more than 4,096 bytes; it carries the greater weight, or 2^64 - 1 where that is less.
+    /// The event's texts or the row that it makes weigh more than [`crate::MOST_WEIGHT`]; it carries the greater
+    /// weight, or [`u64::MAX`] where that is less.
     TooLong { bytes: u64 },
-    /// A COMMAND item has 1,024 keys, and the event adds one.
+    /// A COMMAND item has [`crate::MOST_KEYS`] keys, and the event adds one.
     TooManyKeys,
     /// A growth was refused.
     NoMemory,
@@ -116,13 +119,14 @@ pub enum PublishRefused {
     NoKey,
     /// An update of a COMMAND item whose command's cell has none of the texts `ADD`, `UPDATE` and `DELETE`.
     BadCommand,
-    /// The event's texts or the row that it makes weigh more than 4,096 bytes; it carries the greater weight, or 2^64 - 1 where that is less.
+    /// The event's texts or the row that it makes weigh more than [`crate::MOST_WEIGHT`]; it carries the greater
+    /// weight, or [`u64::MAX`] where that is less.
     TooLong { bytes: u64 },
-    /// A COMMAND item has 1,024 keys, and the event adds one.
+    /// A COMMAND item has [`crate::MOST_KEYS`] keys, and the event adds one.
     TooManyKeys,
-    /// A slot lags by 64 events; it carries the least such.
+    /// A slot lags by [`crate::MOST_LAG`] events; it carries the least such.
     Backlog { slot: u32 },
-    /// The history has 2^60 events.
+    /// The history has [`ls_value::GREATEST_NUMBER`] events.
     Spent,
     /// A growth was refused.
     NoMemory,

@@ -1,9 +1,10 @@
 //! The text of an event, as it is read (this project's profile).
-ghost use Rattle.std.specs.Prelude.{◌≡◌, ◌⊎◌, [], true, false, Ok, Err, Some, None, IfOk, OnOk, IfErr, IfSome, IfNone, length, replicate};
+ghost use Rattle.std.specs.Prelude.{◌≡◌, ◌⊎◌, [], true, false, Ok, Err, Some, None, IfOk, OnOk, IfErr, IfSome, IfNone};
+ghost use Rattle.std.specs.Prelude.{length, replicate};
 ghost use Rattle.percent_encoding.specs.Percent.{percent_decode};
 ghost use Rattle.ls_value.specs.declared.row.Cell.TheVariants as cell;
-ghost use Rattle.ls_event.specs.EventText.{event_of, pairs_of, first_cause, cells_of, cell_said, is_textual, Answers};
-ghost use Rattle.ls_event.specs.EventSteps.{cells_behind};
+ghost use Rattle.ls_event.specs.EventText.{event_of, pairs_of, first_cause, cells_of, cells_behind};
+ghost use Rattle.ls_event.specs.EventText.{cell_said, is_textual, AnswersEvent};
 ghost use Rattle.ls_event.specs.Cuts.{says};
 ghost use Rattle.std.specs.Str.{is_utf8};
 
@@ -46,7 +47,7 @@ impl From<NoMemory> for EventRefused {
 /// `=`. Fields that aren't named are Same. The value `#` is null, no value or `$` is the empty text, and others are
 /// percent-decoded, where a `%` without two hexadecimal digits stands for itself; so does `+`. Names aren't decoded.
 pub fn read_event(alloc: Global, text: &[u8], fields: &Names) -> Result<Event, EventRefused>
-    ensures { Answers (event_of fields.now text.now) result }
+    ensures { AnswersEvent (event_of fields.now text.now) result }
 {
     if same_bytes(text, b"!") {
         return Ok(Event::Clear);
@@ -57,14 +58,16 @@ pub fn read_event(alloc: Global, text: &[u8], fields: &Names) -> Result<Event, E
 
 /// The cells that the pairs of a text say.
 fn read_cells(alloc: Global, text: &[u8], fields: &Names) -> Result<Vec<Cell>, EventRefused>
-    ensures ok { IfOk result (λ cells. (first_cause fields.now [] (pairs_of text.now) ≡ None) × (cells.items ≡ cells_of fields.now (pairs_of text.now))) }
-    ensures err { IfErr result (λ e. (e ≡ EventRefused.NoMemory) ⊎ (first_cause fields.now [] (pairs_of text.now) ≡ Some e)) }
+    ensures ok { IfOk result (λ cells. (first_cause fields.now [] (pairs_of text.now) ≡ None)
+        × (cells.items ≡ cells_of fields.now (pairs_of text.now))) }
+    ensures err { IfErr result (λ e. (e ≡ EventRefused.NoMemory)
+        ⊎ (first_cause fields.now [] (pairs_of text.now) ≡ Some e)) }
 {
     let mut cells = same_cells(alloc, fields.len())?;
     let mut rest = Some(text);
     let mut at: u64 = 0;
-    while let Some(left) = rest {
-        let (pair, behind) = first_piece(b'&', left);
+    while let Some(pairs) = rest {
+        let (pair, behind) = first_piece(b'&', pairs);
         at += 1;
         if let Err(refused) = set_pair(alloc, &mut cells, fields, pair, at) {
             return Err(refused);
@@ -78,14 +81,14 @@ fn read_cells(alloc: Global, text: &[u8], fields: &Names) -> Result<Vec<Cell>, E
 fn same_cells(alloc: Global, n: usize) -> Result<Vec<Cell>, NoMemory>
     ensures { IfOk result (λ cells. cells.items ≡ replicate n cell.Same) }
 {
-    let mut cells = Vec::new(alloc);
+    let mut cells = Vec::with_capacity(alloc, n)?;
     for _ in 0..n {
         cells.push(Cell::Same)?;
     }
     Ok(cells)
 }
 
-/// Sets the cell of the field that a pair names. Its place in the text is only for the answer.
+/// Sets the cell of the field that a pair names. Which pair of the text it is, is only for the answer.
 fn set_pair(
     alloc: Global,
     cells: &mut Vec<Cell>,
@@ -96,7 +99,8 @@ fn set_pair(
     requires { length cells.old.items ≡ length fields.now }
     ensures ok { OnOk result (cells_behind fields.now cells.old.items at pair.now ≡ Ok cells.new.items) }
     ensures len { OnOk result (length cells.new.items ≡ length cells.old.items) }
-    ensures err { IfErr result (λ e. (e ≡ EventRefused.NoMemory) ⊎ (cells_behind fields.now cells.old.items at pair.now ≡ Err e)) }
+    ensures err { IfErr result (λ e. (e ≡ EventRefused.NoMemory)
+        ⊎ (cells_behind fields.now cells.old.items at pair.now ≡ Err e)) }
 {
     let Some((name, value)) = split_once(b'=', pair) else {
         return Err(EventRefused::BadPair { at });

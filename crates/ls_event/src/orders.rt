@@ -1,6 +1,6 @@
 //! What an update says by itself: its order in a COMMAND item, and its own row (General Concepts, modes).
 ghost use Rattle.std.specs.Prelude.{◌≡◌, ◌<◌, IfOk, length, map};
-ghost use Rattle.ls_event.specs.Orders.{order_said, order_of};
+ghost use Rattle.ls_event.specs.Orders.{order_said, order_of, word_of};
 ghost use Rattle.ls_event.specs.Updates.{own_value, own_row};
 
 use ls_value::{Cell, Cells, NoMemory, Row, Text, Value, same_bytes};
@@ -15,6 +15,19 @@ pub enum Order {
     Update,
     /// The key is gone.
     Delete,
+}
+
+impl Order {
+    /// The word that a command's cell has for it.
+    pub fn word(self) -> &'static str
+        ensures { result.now ≡ word_of self }
+    {
+        match self {
+            Order::Add => "ADD",
+            Order::Update => "UPDATE",
+            Order::Delete => "DELETE",
+        }
+    }
 }
 
 /// Why an update of a COMMAND item has no order, in the order in which the causes are looked at.
@@ -45,11 +58,11 @@ fn order_said(word: &Text) -> Result<Order, CommandRefused>
     ensures { result ≡ order_said word.now }
 {
     let word = word.as_bytes();
-    if same_bytes(word, b"ADD") {
+    if same_bytes(word, Order::Add.word().as_bytes()) {
         Ok(Order::Add)
-    } else if same_bytes(word, b"UPDATE") {
+    } else if same_bytes(word, Order::Update.word().as_bytes()) {
         Ok(Order::Update)
-    } else if same_bytes(word, b"DELETE") {
+    } else if same_bytes(word, Order::Delete.word().as_bytes()) {
         Ok(Order::Delete)
     } else {
         Err(CommandRefused::BadCommand)
@@ -68,7 +81,7 @@ pub fn own_row(alloc: Global, cells: &Cells) -> Result<Row, NoMemory>
 fn own_values(alloc: Global, cells: &[Cell]) -> Result<Vec<Value>, NoMemory>
     ensures { IfOk result (λ values. values.items ≡ own_row cells.now) }
 {
-    let mut values = Vec::new(alloc);
+    let mut values = Vec::with_capacity(alloc, cells.len())?;
     for cell in cells {
         values.push(own_value(alloc, cell)?)?;
     }

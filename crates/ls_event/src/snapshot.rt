@@ -15,7 +15,7 @@ pub enum Snapshot {
     Command(KeyedRows),
 }
 
-/// RowList in their order.
+/// Rows in their order.
 #[derive(Drop)]
 pub struct RowList {
     rows: Vec<Row>,

@@ -17,4 +17,5 @@ or_swap false false d = refl
 -- one more pair, behind the others
 pub has_name-append : (ps : List Pair) (p : Pair) (name : List ℕ) → has_name (ps ++ p ∷ []) name ≡ bytes_eq p.name name || has_name ps name
 has_name-append [] p name = refl
-has_name-append (x ∷ ps) p name = ap (λ b. bytes_eq x.name name || b) (has_name-append ps p name) ∙ or_swap (bytes_eq x.name name) (bytes_eq p.name name) (has_name ps name)
+has_name-append (x ∷ ps) p name = ap (λ b. bytes_eq x.name name || b) (has_name-append ps p name)
+    ∙ or_swap (bytes_eq x.name name) (bytes_eq p.name name) (has_name ps name)

@@ -1,5 +1,6 @@
 -- A printed decimal is read as itself.
-use Rattle.std.proofs.Common.{◌≡◌, suc, ◌==◌, ◌<◌, ◌≤◌, ◌^◌, ℕ, ◌+◌, ◌*◌, ◌/◌, ◌%◌, List, [], ◌∷◌, ◌++◌, length, drop, Bool, true, false, nat_le, nat_lt, ◌&&◌, cond, Some, None, position, refl, ap, ◌∙◌, arith}
+use Rattle.std.proofs.Common.{◌≡◌, suc, ◌==◌, ◌<◌, ◌≤◌, ◌^◌, ℕ, ◌+◌, ◌*◌, ◌/◌, ◌%◌, List, [], ◌∷◌, ◌++◌, length, drop, Bool, true, false, nat_le, nat_lt, ◌&&◌}
+use Rattle.std.proofs.Common.{cond, Some, None, position, refl, ap, ◌∙◌, arith}
 use Rattle.std.proofs.Math.Seq.{take-append_seam}
 use Rattle.std.proofs.lemmas.Bool.Decides.{nat_tests}
 use Rattle.std.proofs.lemmas.Fmt.{length-decimal-le}
@@ -59,7 +60,8 @@ part_read n h =
     ] refl
 
 -- a text with a point
-at_point : (ds rest : List ℕ) (at whole part : ℕ) → at ≡ length ds → whole_of ds ≡ Some whole → thousandths_of rest ≡ Some part → milli_at (ds ++ 46 ∷ rest) (Some at) ≡ Some (1000 * whole + part)
+at_point : (ds rest : List ℕ) (at whole part : ℕ) → at ≡ length ds → whole_of ds ≡ Some whole → thousandths_of rest ≡ Some part
+    → milli_at (ds ++ 46 ∷ rest) (Some at) ≡ Some (1000 * whole + part)
 at_point ds rest at whole part e w p =
     let n : length ds + 1 ≡ suc (length ds) = omega arith in
     rw (e, take-append_seam ds (46 ∷ rest), n, behind ds 46 rest, w, p) refl

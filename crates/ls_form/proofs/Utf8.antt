@@ -11,4 +11,5 @@ is_text bs valid = rw (is_utf8-from_IsUtf8 bs valid) refl
 
 pub is_no_text : (bs : List ℕ) → (IsUtf8 bs → ⊥) → text_if_utf8 bs ≡ None
 is_no_text bs broken =
-    elim (is_utf8 bs) as (λ b. is_utf8 bs ≡ b → (if b then Some bs else None) ≡ None) [ true ↦ λ e. absurd (broken (IsUtf8-from_is_utf8 bs e)) | false ↦ λ e. refl ] refl
+    elim (is_utf8 bs) as (λ b. is_utf8 bs ≡ b → (if b then Some bs else None) ≡ None)
+    [ true ↦ λ e. absurd (broken (IsUtf8-from_is_utf8 bs e)) | false ↦ λ e. refl ] refl

@@ -1,5 +1,6 @@
 -- Decimals of thousandths, in which frequencies and bandwidths are written (this project's profile).
-use Rattle.std.specs.Prelude.{◌==◌, ℕ, ◌+◌, ◌*◌, ◌/◌, ◌%◌, List, [], ◌∷◌, ◌++◌, length, take, drop, Bool, ◌&&◌, nat_le, Option, Some, None, if◌then◌else◌, position, option_and_then, option_map}
+use Rattle.std.specs.Prelude.{◌==◌, ℕ, ◌+◌, ◌*◌, ◌/◌, ◌%◌, List, [], ◌∷◌, ◌++◌, length, take, drop, Bool, ◌&&◌, nat_le}
+use Rattle.std.specs.Prelude.{Option, Some, None, if◌then◌else◌, position, option_and_then, option_map}
 use Rattle.std.specs.List.{list_all}
 use Rattle.std.specs.Fmt.{decimal}
 use Rattle.ls_words.specs.Numbers.{is_digit, value_from}

@@ -1,10 +1,13 @@
--- The pairs of a form text, and why it is refused (URL Standard, section 5; the limit and the order of refusals are this project's choice).
-use Rattle.std.specs.Prelude.{ℕ, ◌+◌, List, [], ◌∷◌, ◌++◌, length, map, Bool, not, ◌&&◌, nat_lt, Option, Some, None, if◌then◌else◌}
+-- The pairs of a form text, and why it is refused (URL Standard, section 5; the limit and the order of refusals are
+-- this project's choice).
+use Rattle.std.specs.Prelude.{ℕ, ◌+◌, List, [], ◌∷◌, ◌++◌, length, map, Bool, not, ◌&&◌, nat_lt, Option, Some, None}
+use Rattle.std.specs.Prelude.{if◌then◌else◌}
 use Rattle.std.specs.List.{list_any}
 use Rattle.std.specs.Option.{option_or}
 use Rattle.std.specs.Str.{is_utf8}
 use Rattle.form_urlencoded.specs.Form.{raw_pairs, decode}
 use Rattle.std.specs.Str.{bytes_eq}
+use Rattle.ls_form.specs.declared.form.TheConstants.{LONGEST_FORM}
 use Rattle.ls_form.specs.declared.form.Pair.{Pair}
 use Rattle.ls_form.specs.declared.form.FormRefused.{FormRefused}
 use Rattle.ls_form.specs.declared.form.FormRefused.TheVariants as refused
@@ -17,6 +20,7 @@ decoded raw = record { name = decode raw.0; text = decode raw.1 }
 abbrev pub decoded_pairs : List ℕ → List Pair
 decoded_pairs bytes = map decoded (raw_pairs bytes)
 
+-- whether both of a pair are UTF-8
 abbrev pub is_utf8_pair : Pair → Bool
 is_utf8_pair p = is_utf8 p.name && is_utf8 p.text
 
@@ -43,7 +47,9 @@ first_cause before (p ∷ ps) = option_or (cause_behind before p) (first_cause (
 
 -- why a form text is refused
 abbrev pub form_cause : List ℕ → Option FormRefused
-form_cause bytes = if nat_lt 50000 (length bytes) then Some (refused.TooLong (length bytes)) else first_cause [] (decoded_pairs bytes)
+form_cause bytes =
+    if nat_lt LONGEST_FORM (length bytes) then Some (refused.TooLong (length bytes))
+    else first_cause [] (decoded_pairs bytes)
 
 -- the pairs of a form text that isn't refused
 abbrev pub form_of : List ℕ → Option (List Pair)

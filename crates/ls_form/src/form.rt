@@ -1,5 +1,6 @@
 //! Form text: names and texts (URL Standard, section 5).
-ghost use Rattle.std.specs.Prelude.{◌≡◌, ◌⊎◌, ◌||◌, ℕ, List, [], ◌∷◌, ◌++◌, not, Some, None, IfOk, OnOk, IfErr, length, map, nat_eq, slice_get, if◌then◌else◌};
+ghost use Rattle.std.specs.Prelude.{◌≡◌, ◌⊎◌, ◌||◌, ℕ, List, [], ◌∷◌, ◌++◌, not, Some, None, IfOk, OnOk, IfErr};
+ghost use Rattle.std.specs.Prelude.{length, map, nat_eq, slice_get, if◌then◌else◌};
 ghost use Rattle.std.specs.BTreeSet.{contains_text};
 ghost use Rattle.std.specs.Option.{option_copied};
 ghost use Rattle.std.specs.Str.{is_utf8};
@@ -14,10 +15,13 @@ use std::alloc::{AllocError, AllocFailed, Global};
 use std::collections::BTreeSet;
 use std::marker::Model;
 
+/// How many bytes a form text has at most (this project's profile).
+pub const LONGEST_FORM: usize = 50_000;
+
 /// Why a form text is refused, in the order in which the causes are looked at. Pairs are counted from 1.
 #[derive(Clone, Copy, Debug, PartialEq, Eq)]
 pub enum FormRefused {
-    /// It has more than 50,000 bytes.
+    /// It has more than `LONGEST_FORM` bytes.
     TooLong {
         /// The number of its bytes.
         n: usize,
@@ -122,13 +126,13 @@ fn text_of_name<'a>(pairs: &'a [Pair], name: &[u8]) -> Option<&'a Text>
 
 /// The pairs of a form text, decoded, in order (URL Standard, section 5).
 ///
-/// Pieces between `&` that are empty are skipped, and don't count as pairs; a piece without `=` is a name with an empty text.
-/// The first cause in the order of `FormRefused` is answered, where there is one.
+/// Pieces between `&` that are empty are skipped, and don't count as pairs; a piece without `=` is a name with an empty
+/// text. The first cause in the order of `FormRefused` is answered, where there is one.
 pub fn pairs(alloc: Global, bytes: &[u8]) -> Result<Params, FormRefused>
     ensures pairs { IfOk result (λ params. form_of bytes.now ≡ Some params) }
     ensures refused { IfErr result (λ e. (e ≡ FormRefused.NoMemory) ⊎ (form_cause bytes.now ≡ Some e)) }
 {
-    if bytes.len() > 50_000 {
+    if bytes.len() > LONGEST_FORM {
         return Err(FormRefused::TooLong { n: bytes.len() });
     }
     let mut pairs = Vec::new(alloc);
@@ -153,13 +157,14 @@ fn append(
     ensures pairs { OnOk result (pairs.new.items ≡ pairs.old.items ++ decoded (name.now, text.now) ∷ []) }
     ensures names { OnOk result ((q : List ℕ) → contains_text names.new q ≡ has_name pairs.new.items q) }
     ensures no_cause { OnOk result (cause_behind pairs.old.items (decoded (name.now, text.now)) ≡ None) }
-    ensures refused { IfErr result (λ e. (e ≡ FormRefused.NoMemory) ⊎ (cause_behind pairs.old.items (decoded (name.now, text.now)) ≡ Some e)) }
+    ensures refused { IfErr result (λ e. (e ≡ FormRefused.NoMemory)
+        ⊎ (cause_behind pairs.old.items (decoded (name.now, text.now)) ≡ Some e)) }
 {
     let at = pairs.len() + 1;
     let Some(pair) = pair_of(alloc, name, text)? else {
         return Err(FormRefused::NotUtf8 { at });
     };
-    if !note(alloc, names, &pair.name)? {
+    if !add_name(alloc, names, &pair.name)? {
         return Err(FormRefused::Twice { at });
     }
     push(pairs, pair)?;
@@ -168,7 +173,8 @@ fn append(
 
 /// A pair, decoded: `None` exactly where it isn't UTF-8.
 fn pair_of(alloc: Global, name: &[u8], text: &[u8]) -> Result<Option<Pair>, NoMemory>
-    ensures { IfOk result (λ p. p ≡ (let pair = decoded (name.now, text.now) in if is_utf8_pair pair then Some pair else None)) }
+    ensures { IfOk result (λ p. p ≡ (let pair = decoded (name.now, text.now) in
+        if is_utf8_pair pair then Some pair else None)) }
 {
     let Some(name) = decoded_text(alloc, name)? else {
         return Ok(None);
@@ -180,9 +186,10 @@ fn pair_of(alloc: Global, name: &[u8], text: &[u8]) -> Result<Option<Pair>, NoMe
 }
 
 /// Adds a name, and answers whether it is new.
-fn note(alloc: Global, names: &mut BTreeSet<String>, name: &Text) -> Result<bool, NoMemory>
+fn add_name(alloc: Global, names: &mut BTreeSet<String>, name: &Text) -> Result<bool, NoMemory>
     ensures new { IfOk result (λ new. new ≡ not (contains_text names.old name.now)) }
-    ensures names { OnOk result ((q : List ℕ) → contains_text names.new q ≡ bytes_eq name.now q || contains_text names.old q) }
+    ensures names { OnOk result ((q : List ℕ) → contains_text names.new q
+        ≡ bytes_eq name.now q || contains_text names.old q) }
 {
     let name = String::from_str(alloc, name.as_str())?;
     let new = names.insert(name)?;

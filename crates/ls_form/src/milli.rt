@@ -5,7 +5,8 @@ ghost use Rattle.ls_form.specs.Decimals.{whole_of, thousandths_of, joined, milli
 use ls_value::{Bytes, NoMemory};
 use std::alloc::{AllocError, Global};
 
-/// The thousandths that a decimal says: 1 to 9 digits, then optionally a point and 1 to 9 digits, of which the first three count.
+/// The thousandths that a decimal says: 1 to 9 digits, then optionally a point and 1 to 9 digits, of which the first
+/// three count.
 ///
 /// `None` exactly where it is no such text. Leading zeros are allowed. No memory is taken.
 pub fn read_milli(text: &[u8]) -> Option<u64>
@@ -77,7 +78,8 @@ fn thousandths(text: &[u8]) -> Option<u64>
     }
 }
 
-/// The decimal of so many thousandths: the whole part, a point, and one to three digits without zeros at the end beyond the first.
+/// The decimal of so many thousandths: the whole part, a point, and one to three digits without zeros at the end beyond
+/// the first.
 pub fn print_milli(alloc: Global, n: u64) -> Result<Bytes, NoMemory>
     ensures { IfOk result (λ text. text ≡ milli_text n) }
 {

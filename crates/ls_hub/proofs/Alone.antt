@@ -1,16 +1,21 @@
 -- What is asked of the only item, by the request.
-use Rattle.std.proofs.Common.{◌≡◌, ◌&&◌, ◌||◌, ℕ, ◌+◌, ◌-◌, ◌^◌, List, [], ◌∷◌, ◌++◌, length, refl, sym, ◌∙◌, ap, arith, subst, cond, Bool, true, false, Option, Some, None, Result, Ok, Err, nat_lt, nat_le, option_map}
-use Rattle.std.specs.Prelude.{is_none}
-use Rattle.std.specs.List.{list_all}
+use Rattle.std.proofs.Common.{◌≡◌, ◌&&◌, ◌||◌, ℕ, ◌+◌, ◌-◌, List, [], ◌∷◌, ◌++◌, length, refl, sym, ◌∙◌, ap, arith, subst, cond, Bool, true, false, Option}
+use Rattle.std.proofs.Common.{Some, None, map, nat_lt, nat_le, option_map}
+use Rattle.std.specs.Prelude.{is_none, is_some, unwrap_or, not}
 use Rattle.std.proofs.lemmas.Bool.{ltb-true}
 use Rattle.ls_value.specs.Values.{text_eq, place_of}
 use Rattle.ls_value.proofs.Rows.{text_eq_true, text_eq_same}
 use Rattle.ls_request.specs.declared.request.Add.{Add}
-use Rattle.ls_config.specs.Items.{are_distinct}
-use Rattle.ls_world.specs.Cutting.{Ask}
-use Rattle.ls_world.specs.World.{World, Item, Session, is_used, all_live}
-use Rattle.ls_world.specs.Acting.{placed, places_among, are_some_names, group_of, is_mode_of, is_allowed, shows_keys, ask_of, asked_more, schema_asked, subscriptions, unsent, asked_or_spent, asked_with, asked_of, add_asked}
-use Rattle.ls_hub.specs.Adding.{is_group, places_asked, AskedAlone}
+use Rattle.ls_value.specs.Values.{are_distinct}
+use Rattle.ls_world.specs.declared.TheConstants.{MOST_GROUP_ITEMS, MOST_SUBSCRIPTIONS, MOST_UNSENT}
+use Rattle.ls_event.specs.declared.limits.TheConstants.{MOST_FIELDS, MOST_SLOTS}
+use Rattle.ls_value.specs.declared.limits.TheConstants.{GREATEST_NUMBER}
+use Rattle.ls_world.specs.World.{World, Item, Session, is_used, all_live, fields_at}
+use Rattle.ls_event.specs.Joining.{is_mode_of}
+use Rattle.ls_world.specs.Cases.{first_code}
+use Rattle.ls_world.specs.Acting.{are_among, places_among, are_names, is_group, group_of, is_allowed, shows_keys, is_schema, ask_of, asks_of, subscriptions}
+use Rattle.ls_world.specs.Acting.{unsent, is_full, add_code}
+use Rattle.ls_hub.specs.Adding.{is_only, places_if, places_asked, AskedAlone}
 
 -- two names that are both the same one are no distinct names
 twice_named : (name a b : List ℕ) (names : List (List ℕ)) → text_eq name a ≡ true → text_eq name b ≡ true → are_distinct (a ∷ b ∷ names) ≡ false
@@ -24,38 +29,42 @@ and_none true y is = is
 and_none false y is = refl
 
 -- the group is the only item, or none
-group_alone : (i : Item) (names : List (List ℕ)) → group_of (i ∷ []) names ≡ cond (is_group i.definition.name names) (Some (0 ∷ [])) None
+group_alone : (i : Item) (names : List (List ℕ)) → is_group (i ∷ []) names ≡ is_only i.definition.name names
 group_alone i [] = refl
 group_alone i (x ∷ []) = by_name (text_eq i.definition.name x)
   where
-    by_name : (v : Bool) → placed (cond v (Some 0) None) (Some []) ≡ cond v (Some (0 ∷ [])) None
+    by_name : (v : Bool) → (is_some {T = ℕ} (cond v (Some 0) None) && true) ≡ v
     by_name true = refl
     by_name false = refl
 group_alone i (a ∷ b ∷ names) = by_first (text_eq i.definition.name a) refl (text_eq i.definition.name b) refl
   where
     by_first : (u : Bool) → text_eq i.definition.name a ≡ u → (v : Bool) → text_eq i.definition.name b ≡ v
-        → cond (are_some_names (a ∷ b ∷ names)) (placed (cond u (Some 0) None) (placed (cond v (Some 0) None) (places_among (i.definition.name ∷ []) names))) None ≡ None
-    by_first false x v y = by_test (are_some_names (a ∷ b ∷ names))
-      where
-        by_test : (t : Bool) → cond {A = Option (List ℕ)} t None None ≡ None
-        by_test true = refl
-        by_test false = refl
-    by_first true x false y = by_test (are_some_names (a ∷ b ∷ names))
-      where
-        by_test : (t : Bool) → cond {A = Option (List ℕ)} t None None ≡ None
-        by_test true = refl
-        by_test false = refl
+        → (are_names MOST_GROUP_ITEMS (a ∷ b ∷ names) && (is_some {T = ℕ} (cond u (Some 0) None)
+        && (is_some {T = ℕ} (cond v (Some 0) None) && are_among (i.definition.name ∷ []) names))) ≡ false
+    by_first false x v y = and_none (are_names MOST_GROUP_ITEMS (a ∷ b ∷ names)) false refl
+    by_first true x false y = and_none (are_names MOST_GROUP_ITEMS (a ∷ b ∷ names)) false refl
     by_first true x true y =
-        let none : are_some_names (a ∷ b ∷ names) ≡ false = and_none _ (are_distinct (a ∷ b ∷ names)) (twice_named i.definition.name a b names x y) in
-        ap (λ t. cond t (placed (Some 0) (placed (Some 0) (places_among (i.definition.name ∷ []) names))) None) none
+        let none : are_names MOST_GROUP_ITEMS (a ∷ b ∷ names) ≡ false = and_none _ (are_distinct (a ∷ b ∷ names))
+        (twice_named i.definition.name a b names x y) in
+        ap (λ t. t && (true && (true && are_among (i.definition.name ∷ []) names))) none
+
+group_is : (i : Item) (names : List (List ℕ)) → is_only i.definition.name names ≡ true → group_of (i ∷ []) names ≡ 0 ∷ []
+group_is i [] only = absurd (let e : false ≡ true = only in cc)
+group_is i (x ∷ []) only = ap (λ v. unwrap_or (cond v (Some 0) None) 0 ∷ []) only
+group_is i (a ∷ b ∷ names) only = absurd (let e : false ≡ true = only in cc)
+
+group_length : (name : List ℕ) (names : List (List ℕ)) → is_only name names ≡ true → length names ≡ 1
+group_length name [] only = absurd (let e : false ≡ true = only in cc)
+group_length name (x ∷ []) only = refl
+group_length name (a ∷ b ∷ names) only = absurd (let e : false ≡ true = only in cc)
 
 -- nothing stands against it where nothing was numbered and no slot is live
-few_lines : (n : ℕ) → nat_lt 512 (0 - n + 2) ≡ false
-few_lines n = by_test (nat_lt 512 (0 - n + 2)) refl
+few_lines : (n : ℕ) → nat_lt MOST_UNSENT (0 - n + 2) ≡ false
+few_lines n = by_test (nat_lt MOST_UNSENT (0 - n + 2)) refl
   where
-    by_test : (v : Bool) → nat_lt 512 (0 - n + 2) ≡ v → v ≡ false
+    by_test : (v : Bool) → nat_lt MOST_UNSENT (0 - n + 2) ≡ v → v ≡ false
     by_test false t = refl
-    by_test true t = absurd (omega (arith, ltb-true 512 (0 - n + 2) t))
+    by_test true t = absurd (omega (arith, ltb-true MOST_UNSENT (0 - n + 2) t))
 
 -- a session without slots and lines
 pub record IsEmpty (w : World) (s : Session) (i : Item) : Type 0 where
@@ -64,51 +73,83 @@ pub record IsEmpty (w : World) (s : Session) (i : Item) : Type 0 where
   pub round : s.board.round ≡ []
   pub lines : s.board.lines ≡ []
 
-spent_none : (w : World) (s : Session) (i : Item) (ask : Ask) → IsEmpty w s i → asked_or_spent w s (ask ∷ []) ≡ Ok (ask ∷ [])
-spent_none w s i ask is =
+-- the code of a table in which the session's state refuses nothing
+code_first : (used room group mode schema full spent : Bool) → used ≡ false → room ≡ false → group ≡ true
+    → first_code ((72, used) ∷ (70, room) ∷ (21, group) ∷ (24, mode) ∷ (23, schema) ∷ (71, full) ∷ (74, spent) ∷ []) ≡ Some 21
+code_first false false true mode schema full spent u r g = refl
+code_first true room group mode schema full spent u r g = absurd (let e : true ≡ false = u in cc)
+code_first false true group mode schema full spent u r g = absurd (let e : true ≡ false = r in cc)
+code_first false false false mode schema full spent u r g = absurd (let e : false ≡ true = g in cc)
+
+code_rest : (used room group mode schema full spent : Bool) → used ≡ false → room ≡ false → group ≡ false → full ≡ false → spent ≡ false
+    → first_code ((72, used) ∷ (70, room) ∷ (21, group) ∷ (24, mode) ∷ (23, schema) ∷ (71, full) ∷ (74, spent) ∷ [])
+    ≡ cond mode (Some 24) (cond schema (Some 23) None)
+code_rest false false false mode schema false false u r g f p = refl
+code_rest true room group mode schema full spent u r g f p = absurd (let e : true ≡ false = u in cc)
+code_rest false true group mode schema full spent u r g f p = absurd (let e : true ≡ false = r in cc)
+code_rest false false true mode schema full spent u r g f p = absurd (let e : true ≡ false = g in cc)
+code_rest false false false mode schema true spent u r g f p = absurd (let e : true ≡ false = f in cc)
+code_rest false false false mode schema false true u r g f p = absurd (let e : true ≡ false = p in cc)
+
+full_none : (w : World) (s : Session) (i : Item) (group : List (List ℕ)) → IsEmpty w s i → length group ≡ 1 → is_full w s group ≡ false
+full_none w s i group is one =
     let live : all_live w.sessions ≡ [] = ap all_live is.sessions ∙ ap (λ vs. vs ++ []) is.round in
-    ap (λ n. cond (nat_le 256 n || nat_lt 4096 (length (all_live w.sessions) + 1)) (Err 71) (cond (nat_lt (2 ^ 60) (length s.board.lines + 2)) (Err 74) (Ok (ask ∷ [])))) (ap subscriptions is.round)
-    ∙ ap (λ vs. cond (nat_lt 4096 (length vs + 1)) (Err 71) (cond (nat_lt (2 ^ 60) (length s.board.lines + 2)) (Err 74) (Ok (ask ∷ [])))) live
-    ∙ ap (λ ls. cond (nat_lt (2 ^ 60) (length ls + 2)) (Err 74) (Ok (ask ∷ []))) is.lines
+    ap (λ vs. nat_le MOST_SUBSCRIPTIONS (subscriptions vs) || nat_lt MOST_SLOTS (length (all_live w.sessions) + length group)) is.round
+    ∙ ap (λ vs. nat_lt MOST_SLOTS (length vs + length group)) live ∙ ap (λ n. nat_lt MOST_SLOTS (0 + n)) one
 
-by_places : (w : World) (s : Session) (i : Item) (a : Add) → IsEmpty w s i → (o : Option (List ℕ)) → AskedAlone a o (asked_with w s (asked_more a 0 o (Some [])))
-by_places w s i a is None = refl
-by_places w s i a is (Some places) = spent_none w s i (ask_of a 0 places) is
+-- the only item's mode and schema decide
+by_rest : (w : World) (s : Session) (i : Item) (a : Add) (m x y z : Bool) → add_code w s a
+    ≡ cond (not (m && true)) (Some 24) (cond (not ((x && y) && (z && true))) (Some 23) None)
+    → asks_of w.items a ≡ ask_of a 0 (places_among i.definition.fields a.schema) ∷ []
+    → AskedAlone w s a (cond ((m && x) && y) (cond z (Some (places_among i.definition.fields a.schema)) None) None)
+by_rest w s i a true true true true code asks = (code, asks)
+by_rest w s i a true true true false code asks = ap (is_none {T = ℕ}) code
+by_rest w s i a true true false z code asks = ap (is_none {T = ℕ}) code
+by_rest w s i a true false y z code asks = ap (is_none {T = ℕ}) code
+by_rest w s i a false x y z code asks = ap (is_none {T = ℕ}) code
 
-by_schema : (w : World) (s : Session) (i : Item) (a : Add) → IsEmpty w s i → (x y : Bool)
-    → AskedAlone a (cond (x && y) (places_among i.definition.fields a.schema) None) (asked_with w s (cond (x && y) (asked_more a 0 (places_among i.definition.fields a.schema) (Some [])) None))
-by_schema w s i a is true true = by_places w s i a is (places_among i.definition.fields a.schema)
-by_schema w s i a is true false = refl
-by_schema w s i a is false y = refl
+asks_alone : (w : World) (s : Session) (i : Item) (a : Add) → IsEmpty w s i → is_only i.definition.name a.group ≡ true
+    → asks_of w.items a ≡ ask_of a 0 (places_among i.definition.fields a.schema) ∷ []
+asks_alone w s i a is only =
+    ap (λ items. asks_of items a) is.items
+    ∙ ap (λ (group : List ℕ). map (λ n. ask_of a n (places_among (fields_at (i ∷ []) n) a.schema)) group) (group_is i a.group only)
 
-by_mode : (w : World) (s : Session) (i : Item) (a : Add) → IsEmpty w s i → (m : Bool) → is_mode_of a.mode i.definition.kind ≡ m
-    → AskedAlone a (cond (m && (are_some_names a.schema && shows_keys a.mode a.schema)) (places_among i.definition.fields a.schema) None)
-    (cond (m && true) (asked_with w s (cond (are_some_names a.schema && shows_keys a.mode a.schema) (asked_more a 0 (places_among i.definition.fields a.schema) (Some [])) None)) (Err 24))
-by_mode w s i a is true e = by_schema w s i a is (are_some_names a.schema) (shows_keys a.mode a.schema)
-by_mode w s i a is false e = refl
+pub asked_alone : (w : World) (s : Session) (i : Item) (a : Add) → IsEmpty w s i → AskedAlone w s a (places_asked i.definition a)
+asked_alone w s i a is = by_group (is_only i.definition.name a.group) refl
+  where
+    new : is_used a.sub s.board.round ≡ false
+    new = ap (is_used a.sub) is.round
 
-by_group : (w : World) (s : Session) (i : Item) (a : Add) → IsEmpty w s i → (g : Bool)
-    → AskedAlone a (cond (g && (is_mode_of a.mode i.definition.kind && (are_some_names a.schema && shows_keys a.mode a.schema))) (places_among i.definition.fields a.schema) None) (asked_of w s a (cond g (Some (0 ∷ [])) None))
-by_group w s i a is false = refl
-by_group w s i a is true =
-    subst (λ (items : List Item). AskedAlone a (cond (is_mode_of a.mode i.definition.kind && (are_some_names a.schema && shows_keys a.mode a.schema)) (places_among i.definition.fields a.schema) None)
-    (cond (list_all (is_allowed items a.mode) (0 ∷ [])) (asked_with w s (schema_asked items a (0 ∷ []))) (Err 24))) (sym is.items)
-    (by_mode w s i a is (is_mode_of a.mode i.definition.kind) refl)
+    few : nat_lt MOST_UNSENT (unsent s + 2) ≡ false
+    few = ap (λ ls. nat_lt MOST_UNSENT (length ls - s.sent + 2)) is.lines ∙ few_lines s.sent
 
-and_assoc : (a b c d : Bool) → (((a && b) && c) && d) ≡ (a && (b && (c && d)))
-and_assoc true true c d = refl
-and_assoc true false c d = refl
-and_assoc false b c d = refl
+    unspent : nat_lt GREATEST_NUMBER (length s.board.lines + 2) ≡ false
+    unspent = ap (λ ls. nat_lt GREATEST_NUMBER (length ls + 2)) is.lines
 
-pub asked_alone : (w : World) (s : Session) (i : Item) (a : Add) → IsEmpty w s i → AskedAlone a (places_asked i.definition a) (add_asked w s a)
-asked_alone w s i a is =
-    let new : is_used a.sub s.board.round ≡ false = ap (is_used a.sub) is.round in
-    let few : nat_lt 512 (unsent s + 2) ≡ false = ap (λ ls. nat_lt 512 (length ls - s.sent + 2)) is.lines ∙ few_lines s.sent in
-    let group : group_of w.items a.group ≡ cond (is_group i.definition.name a.group) (Some (0 ∷ [])) None = ap (λ items. group_of items a.group) is.items ∙ group_alone i a.group in
-    let asked : add_asked w s a ≡ asked_of w s a (cond (is_group i.definition.name a.group) (Some (0 ∷ [])) None) =
-    ap (λ v. cond v (Err 72) (cond (nat_lt 512 (unsent s + 2)) (Err 70) (asked_of w s a (group_of w.items a.group)))) new
-    ∙ ap (λ v. cond v (Err 70) (asked_of w s a (group_of w.items a.group))) few ∙ ap (asked_of w s a) group in
-    let order : places_asked i.definition a ≡ cond (is_group i.definition.name a.group && (is_mode_of a.mode i.definition.kind && (are_some_names a.schema && shows_keys a.mode a.schema))) (places_among i.definition.fields a.schema) None =
-    ap (λ t. cond t (places_among i.definition.fields a.schema) None) (and_assoc (is_group i.definition.name a.group) (is_mode_of a.mode i.definition.kind) (are_some_names a.schema) (shows_keys a.mode a.schema)) in
-    subst (λ (r : Result (List Ask) ℕ). AskedAlone a (places_asked i.definition a) r) (sym asked)
-    (subst (λ (o : Option (List ℕ)). AskedAlone a o (asked_of w s a (cond (is_group i.definition.name a.group) (Some (0 ∷ [])) None))) (sym order) (by_group w s i a is (is_group i.definition.name a.group)))
+    group : is_group w.items a.group ≡ is_only i.definition.name a.group
+    group = ap (λ items. is_group items a.group) is.items ∙ group_alone i a.group
+
+    by_group : (g : Bool) → is_only i.definition.name a.group ≡ g → AskedAlone w s a (places_asked i.definition a)
+    by_group false only =
+        let none : places_asked i.definition a ≡ None =
+        ap (λ g. cond (((g && is_mode_of a.mode i.definition.kind) && are_names MOST_FIELDS a.schema) && shows_keys a.mode a.schema)
+        (places_if i.definition.fields a.schema) None) only in
+        let code : add_code w s a ≡ Some 21 = code_first _ _ _ _ _ _ _ new few (ap not (group ∙ only)) in
+        subst (λ (o : Option (List ℕ)). AskedAlone w s a o) (sym none) (ap (is_none {T = ℕ}) code)
+    by_group true only =
+        let order : places_asked i.definition a ≡ cond ((is_mode_of a.mode i.definition.kind && are_names MOST_FIELDS a.schema) && shows_keys a.mode a.schema)
+        (places_if i.definition.fields a.schema) None =
+        ap (λ g. cond (((g && is_mode_of a.mode i.definition.kind) && are_names MOST_FIELDS a.schema) && shows_keys a.mode a.schema)
+        (places_if i.definition.fields a.schema) None) only in
+        let rest : add_code w s a ≡ cond (not (is_allowed w.items a.mode (group_of w.items a.group))) (Some 24)
+        (cond (not (is_schema w.items a.mode (group_of w.items a.group) a.schema)) (Some 23) None) =
+        code_rest _ _ _ _ _ _ _ new few (ap not (group ∙ only)) (full_none w s i a.group is (group_length i.definition.name a.group only)) unspent in
+        let code : add_code w s a ≡ cond (not (is_allowed (i ∷ []) a.mode (0 ∷ []))) (Some 24)
+        (cond (not (is_schema (i ∷ []) a.mode (0 ∷ []) a.schema)) (Some 23) None) =
+        rest ∙ ap (λ items. cond (not (is_allowed items a.mode (group_of items a.group))) (Some 24)
+        (cond (not (is_schema items a.mode (group_of items a.group) a.schema)) (Some 23) None)) is.items
+        ∙ ap (λ ns. cond (not (is_allowed (i ∷ []) a.mode ns)) (Some 24) (cond (not (is_schema (i ∷ []) a.mode ns a.schema)) (Some 23) None))
+        (group_is i a.group only) in
+        subst (λ (o : Option (List ℕ)). AskedAlone w s a o) (sym order)
+        (by_rest w s i a (is_mode_of a.mode i.definition.kind) (are_names MOST_FIELDS a.schema) (shows_keys a.mode a.schema)
+        (are_among i.definition.fields a.schema) code (asks_alone w s i a is only))

@@ -1,8 +1,12 @@
 -- Like steps, one after another, up to one that ends them.
-use Rattle.std.proofs.Common.{◌≡◌, ℕ, zero, suc, ◌+◌, ◌-◌, ◌<◌, ◌&&◌, List, [], ◌∷◌, ◌++◌, refl, sym, ◌∙◌, ap, arith, subst, cond, Bool, true, false, append-nil, slice_get, Option}
+use Rattle.std.proofs.Common.{◌≡◌, ℕ, zero, suc, ◌+◌, ◌-◌, ◌<◌, ◌&&◌, List, [], ◌∷◌, ◌++◌, refl, sym, ◌∙◌, ap, arith, subst, cond, Bool, true, false}
+use Rattle.std.proofs.Common.{append-nil, append_assoc, slice_get, Option}
+use Rattle.std.proofs.lemmas.Grind.{flat_map-append}
 use Rattle.ls_value.proofs.Rows.{and_left, and_right}
-use Rattle.ls_script.specs.declared.out.Out.{Out}
+use Rattle.ls_step.specs.declared.out.Out.{Out}
+use Rattle.ls_step.specs.Notes.{text_of_out}
 use Rattle.ls_world.specs.World.{World}
+use Rattle.ls_world.specs.Script.{text_of_outs}
 use Rattle.ls_world.specs.Steps.{Once, Stepped, repeated, stays}
 use Rattle.ls_hub.specs.Hub.{StandsParts, IsOf, DidOnce, DidStep}
 use Rattle.ls_hub.specs.Repeats.{nth_world, nth_outs, all_go_on, Going}
@@ -28,7 +32,8 @@ go_next f (suc n) w go more =
 abbrev behind_outs : List Out → Stepped → Stepped
 behind_outs outs s = record { after = s.after; outs = outs ++ s.outs }
 
-repeated_from : (f : World → Once) (n k : ℕ) (w : World) → all_go_on f n w ≡ true → repeated f (n + k) w ≡ behind_outs (nth_outs f n w) (repeated f k (nth_world f n w))
+repeated_from : (f : World → Once) (n k : ℕ) (w : World) → all_go_on f n w ≡ true
+    → repeated f (n + k) w ≡ behind_outs (nth_outs f n w) (repeated f k (nth_world f n w))
 repeated_from f zero k w go = ap (λ m. repeated f m w) {x = zero + k} {y = k} (omega arith)
 repeated_from f (suc n) k w go =
     let this : (f w).more ≡ true = and_left (f w).more (all_go_on f n (f w).after) go in
@@ -37,38 +42,72 @@ repeated_from f (suc n) k w go =
     ∙ ap (λ b. cond b (behind_outs ((f w).out ∷ []) (repeated f (n + k) (f w).after)) (record { after = (f w).after; outs = (f w).out ∷ [] })) this
     ∙ ap (behind_outs ((f w).out ∷ [])) (repeated_from f n k (f w).after rest)
 
+-- the texts of printed lines, one after another
+texts_more : (xs ys : List Out) (before after last : List ℕ) → after ≡ before ++ text_of_outs xs → last ≡ after ++ text_of_outs ys
+    → last ≡ before ++ text_of_outs (xs ++ ys)
+texts_more xs ys before after last is more =
+    more ∙ ap (λ t. t ++ text_of_outs ys) is ∙ append_assoc before (text_of_outs xs) (text_of_outs ys)
+    ∙ ap (λ t. before ++ t) (sym (flat_map-append text_of_out xs ys))
+
+pub text_one : (o : Out) → text_of_outs (o ∷ []) ≡ text_of_out o
+text_one o = append-nil (text_of_out o)
+
 -- before any
-pub going_start : (f : World → Once) (w : World) (connection : ℕ) (called : List ℕ) (c : Option Kept) (k : Option Holding) → StandsParts c k w → IsOf w connection called → Going f w connection called 0 [] c k
-going_start f w connection called c k st named = record { stands = st; named = named; prints = refl; goes = refl }
+pub going_start : (f : World → Once) (w : World) (connection : ℕ) (called before : List ℕ) (c : Option Kept) (k : Option Holding) → StandsParts c k w
+    → IsOf w connection called
+    → Going f w connection called 0 before before c k
+going_start f w connection called before c k st named = record { stands = st; named = named; text = sym (append-nil before); goes = refl }
 
 -- one more was done, and another one follows
-pub going_on : (f : World → Once) (w : World) (connection : ℕ) (called : List ℕ) (n : ℕ) (outs : List Out) (one : Out) (c c' : Option Kept) (k k' : Option Holding) (again : Bool)
-    → Going f w connection called n outs c k → DidOnce (nth_world f n w) (f (nth_world f n w)) one again c' k' → again ≡ true → Going f w connection called (n + 1) (outs ++ one ∷ []) c' k'
-going_on f w connection called n outs one c c' k k' again g d more =
+pub going_on : (f : World → Once) (w : World) (connection : ℕ) (called : List ℕ) (n : ℕ) (before after last : List ℕ) (c c' : Option Kept)
+    (k k' : Option Holding) (again : Bool)
+    → Going f w connection called n before after c k → DidOnce (nth_world f n w) (f (nth_world f n w)) again after last c' k' → again ≡ true
+    → Going f w connection called (n + 1) before last c' k'
+going_on f w connection called n before after last c c' k k' again g d more =
     let e : n + 1 ≡ suc n = omega arith in
-    subst (λ (m : ℕ). Going f w connection called m (outs ++ one ∷ []) c' k') (sym e)
+    let one : List Out = (f (nth_world f n w)).out ∷ [] in
+    subst (λ (m : ℕ). Going f w connection called m before last c' k') (sym e)
     (record {
       stands = subst (λ (v : World). StandsParts c' k' v) (sym (world_next f n w)) d.stands;
       named = subst (λ (v : World). IsOf v connection called) (sym (world_next f n w))
-          (record { value = g.named.value; found = ap (λ cs. slice_get cs connection) d.connections ∙ g.named.found; name = g.named.name; session = g.named.session });
-      prints = ap (λ os. os ++ one ∷ []) g.prints ∙ ap (λ o. nth_outs f n w ++ o ∷ []) (sym d.out) ∙ sym (outs_next f n w);
+          (record {
+            value = g.named.value;
+            found = ap (λ cs. slice_get cs connection) d.connections ∙ g.named.found;
+            name = g.named.name;
+            session =
+                g.named.session;
+          });
+      text = texts_more (nth_outs f n w) one before after last g.text (d.text ∙ ap (λ t. after ++ t) (sym (text_one (f (nth_world f n w)).out)))
+          ∙ ap (λ os. before ++ text_of_outs os) (sym (outs_next f n w));
       goes = go_next f n w g.goes (d.more ∙ more);
     })
 
 -- all were done
-pub going_all : (f : World → Once) (w : World) (connection : ℕ) (called : List ℕ) (n times : ℕ) (outs : List Out) (c : Option Kept) (k : Option Holding) → n ≡ times → Going f w connection called n outs c k → DidStep (repeated f times w) outs c k
-going_all f w connection called n times outs c k all g =
-    let e : repeated f times w ≡ behind_outs (nth_outs f n w) (stays (nth_world f n w) []) = ap (λ m. repeated f m w) {x = times} {y = n + zero} (omega (arith, all)) ∙ repeated_from f n zero w g.goes in
-    subst (λ (s : Stepped). DidStep s outs c k) (sym e) (record { prints = g.prints ∙ sym (append-nil (nth_outs f n w)); stands = g.stands })
+pub going_all : (f : World → Once) (w : World) (connection : ℕ) (called : List ℕ) (n times : ℕ) (before after : List ℕ) (c : Option Kept) (k : Option Holding)
+    → n ≡ times
+    → Going f w connection called n before after c k → DidStep (repeated f times w) before after c k
+going_all f w connection called n times before after c k all g =
+    let e : repeated f times w ≡ behind_outs (nth_outs f n w) (stays (nth_world f n w) []) =
+    ap (λ m. repeated f m w) {x = times} {y = n + zero} (omega (arith, all)) ∙ repeated_from f n zero w g.goes in
+    subst (λ (s : Stepped). DidStep s before after c k) (sym e)
+    (record { text = g.text ∙ ap (λ os. before ++ text_of_outs os) (sym (append-nil (nth_outs f n w))); stands = g.stands })
 
 -- one more was done, which ends them
-pub going_ended : (f : World → Once) (w : World) (connection : ℕ) (called : List ℕ) (n times : ℕ) (outs : List Out) (one : Out) (c c' : Option Kept) (k k' : Option Holding) (again : Bool)
-    → n < times → Going f w connection called n outs c k → DidOnce (nth_world f n w) (f (nth_world f n w)) one again c' k' → again ≡ false → DidStep (repeated f times w) (outs ++ one ∷ []) c' k'
-going_ended f w connection called n times outs one c c' k k' again low g d ends =
+pub going_ended : (f : World → Once) (w : World) (connection : ℕ) (called : List ℕ) (n times : ℕ) (before after last : List ℕ) (c c' : Option Kept)
+    (k k' : Option Holding) (again : Bool)
+    → n < times → Going f w connection called n before after c k → DidOnce (nth_world f n w) (f (nth_world f n w)) again after last c' k' → again ≡ false
+    → DidStep (repeated f times w) before last c' k'
+going_ended f w connection called n times before after last c c' k k' again low g d ends =
+    let one : List Out = (f (nth_world f n w)).out ∷ [] in
     let stop : (f (nth_world f n w)).more ≡ false = d.more ∙ ends in
-    let last : repeated f (suc (times - n - 1)) (nth_world f n w) ≡ record { after = (f (nth_world f n w)).after; outs = (f (nth_world f n w)).out ∷ [] } =
-    ap (λ b. cond b (behind_outs ((f (nth_world f n w)).out ∷ []) (repeated f (times - n - 1) (f (nth_world f n w)).after)) (record { after = (f (nth_world f n w)).after; outs = (f (nth_world f n w)).out ∷ [] })) stop in
+    let rest : repeated f (suc (times - n - 1)) (nth_world f n w) ≡ record { after = (f (nth_world f n w)).after; outs = (f (nth_world f n w)).out ∷ [] } =
+    ap (λ b. cond b (behind_outs ((f (nth_world f n w)).out ∷ []) (repeated f (times - n - 1) (f (nth_world f n w)).after))
+    (record { after = (f (nth_world f n w)).after; outs = (f (nth_world f n w)).out ∷ [] })) stop in
     let e : repeated f times w ≡ behind_outs (nth_outs f n w) (record { after = (f (nth_world f n w)).after; outs = (f (nth_world f n w)).out ∷ [] }) =
-    ap (λ m. repeated f m w) {x = times} {y = n + suc (times - n - 1)} (omega (arith, low)) ∙ repeated_from f n (suc (times - n - 1)) w g.goes ∙ ap (behind_outs (nth_outs f n w)) last in
-    subst (λ (s : Stepped). DidStep s (outs ++ one ∷ []) c' k') (sym e)
-    (record { prints = ap (λ os. os ++ one ∷ []) g.prints ∙ ap (λ o. nth_outs f n w ++ o ∷ []) (sym d.out); stands = d.stands })
+    ap (λ m. repeated f m w) {x = times} {y = n + suc (times - n - 1)} (omega (arith, low)) ∙ repeated_from f n (suc (times - n - 1)) w g.goes
+    ∙ ap (behind_outs (nth_outs f n w)) rest in
+    subst (λ (s : Stepped). DidStep s before last c' k') (sym e)
+    (record {
+      text = texts_more (nth_outs f n w) one before after last g.text (d.text ∙ ap (λ t. after ++ t) (sym (text_one (f (nth_world f n w)).out)));
+      stands = d.stands;
+    })

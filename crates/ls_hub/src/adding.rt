@@ -1,18 +1,17 @@
 //! What a request for a new subscription asks of an item (TLCP 2.1, control with LS_op add).
-ghost use Rattle.std.specs.Prelude.{◌≡◌, ◌≤◌, IfOk, IfSome, Option, length, true, false, is_none};
-ghost use Rattle.ls_event.specs.Joining.{buffer_size, asked_or};
-ghost use Rattle.ls_value.specs.Values.{place_of};
-ghost use Rattle.ls_config.specs.Items.{are_distinct};
-ghost use Rattle.ls_world.specs.Acting.{places_among, are_some_names, is_mode_of, shows_keys};
-ghost use Rattle.ls_hub.specs.Adding.{places_asked, is_group};
+ghost use Rattle.std.specs.Prelude.{◌≡◌, ◌≤◌, IfOk, IfSome, Option, length, true, false};
+ghost use Rattle.ls_event.specs.Joining.{buffer_size, size_or};
+ghost use Rattle.ls_event.specs.Joining.{is_mode_of};
+ghost use Rattle.ls_world.specs.Acting.{are_among, places_among, are_names, shows_keys};
+ghost use Rattle.ls_hub.specs.Adding.{places_asked, places_if, is_only};
 
-use ls_event::{Kind, Mode};
+use ls_event::{Kind, MOST_BUFFER_SIZE, MOST_FIELDS, Mode};
 use ls_request::Add;
 use ls_value::{Names, NoMemory, Places, Text, same_bytes};
 use std::alloc::Global;
 
-/// The places of the schema in an item which is the whole group: `None` where it isn't, or the mode is not allowed on it, or the
-/// schema isn't one of 1 to 64 of its distinct fields, among them in mode COMMAND the key and the command.
+/// The places of the schema in an item which is the whole group: `None` where it isn't, or the mode is not allowed on
+/// it, or the schema isn't one of its distinct fields, among them in mode COMMAND the key and the command.
 pub fn places_asked(
     alloc: Global,
     name: &Text,
@@ -20,13 +19,14 @@ pub fn places_asked(
     fields: &Names,
     add: &Add,
 ) -> Result<Option<Places>, NoMemory>
-    ensures places { IfOk result (λ places. places ≡ places_asked (record { name = name.now; kind = kind; fields = fields.now }) add.now) }
+    ensures places { IfOk result (λ places.
+        places ≡ places_asked (record { name = name.now; kind = kind; fields = fields.now }) add.now) }
     ensures mode { IfOk result (λ places. IfSome places (λ p. is_mode_of add.now.mode kind ≡ true)) }
-    ensures few { IfOk result (λ places. IfSome places (λ p. length p ≤ 64)) }
+    ensures few { IfOk result (λ places. IfSome places (λ p. length p ≤ MOST_FIELDS)) }
 {
-    if is_group(name, &add.group)
+    if is_only(name, &add.group)
         && is_mode_of(add.mode, kind)
-        && are_some_names(&add.schema)
+        && are_names(&add.schema)
         && shows_keys(add.mode, &add.schema)
     {
         let places = places_among(alloc, fields, add.schema.as_slice())?;
@@ -37,8 +37,8 @@ pub fn places_asked(
 }
 
 /// Whether a group is the item of this name alone.
-fn is_group(name: &Text, group: &Names) -> bool
-    ensures { result ≡ is_group name.now group.now }
+fn is_only(name: &Text, group: &Names) -> bool
+    ensures { result ≡ is_only name.now group.now }
 {
     match group.as_slice() {
         [only] => same_bytes(name.as_bytes(), only.as_bytes()),
@@ -59,35 +59,11 @@ fn is_mode_of(mode: Mode, kind: Kind) -> bool
     }
 }
 
-/// Whether there are 1 to 64 names, of which none stands twice.
-fn are_some_names(names: &Names) -> bool
-    ensures { result ≡ are_some_names names.now }
+/// Whether texts are distinct names, as many as an item may have fields.
+fn are_names(names: &Names) -> bool
+    ensures { result ≡ are_names MOST_FIELDS names.now }
 {
-    1 <= names.len() && names.len() <= 64 && are_distinct(names.as_slice())
-}
-
-/// Whether no name stands twice. The callers have at most 64.
-fn are_distinct(names: &[Text]) -> bool
-    ensures { result ≡ are_distinct names.now }
-{
-    for i in 0..names.len() {
-        if !is_free(&names[i + 1..], &names[i]) {
-            return false;
-        }
-    }
-    true
-}
-
-/// Whether a name isn't among others.
-fn is_free(names: &[Text], name: &Text) -> bool
-    ensures { result ≡ is_none (place_of names.now name.now) }
-{
-    for other in names {
-        if same_bytes(other.as_bytes(), name.as_bytes()) {
-            return false;
-        }
-    }
-    true
+    1 <= names.len() && names.len() <= MOST_FIELDS && names.are_distinct()
 }
 
 /// In mode COMMAND a schema shows the key and the command.
@@ -102,7 +78,7 @@ fn shows_keys(mode: Mode, schema: &Names) -> bool
 
 /// The places of names among others, where each is there.
 fn places_among(alloc: Global, names: &Names, others: &[Text]) -> Result<Option<Places>, NoMemory>
-    ensures places { IfOk result (λ places. places ≡ places_among names.now others.now) }
+    ensures places { IfOk result (λ places. places ≡ places_if names.now others.now) }
     ensures as_many { IfOk result (λ places. IfSome places (λ p. length p ≡ length others.now)) }
 {
     let mut places = Vec::new(alloc);
@@ -115,23 +91,23 @@ fn places_among(alloc: Global, names: &Names, others: &[Text]) -> Result<Option<
     Ok(Some(Places::of(places)))
 }
 
-/// The size of a buffer: the one that is asked for, at most 256, or the mode's own.
+/// The size of a buffer: the one that is asked for, at most `MOST_BUFFER_SIZE`, or the mode's own.
 pub fn buffer_size(mode: Mode, asked: Option<u32>) -> u32
     ensures { result ≡ buffer_size mode asked }
 {
     match mode {
         Mode::Merge => asked_or(1, asked),
-        Mode::Distinct => asked_or(256, asked),
+        Mode::Distinct => asked_or(MOST_BUFFER_SIZE as u32, asked),
         Mode::Raw | Mode::Command => 1,
     }
 }
 
-/// The size that is asked for, at most 256, or another one.
+/// The size that is asked for, at most `MOST_BUFFER_SIZE`, or another one.
 fn asked_or(size: u32, asked: Option<u32>) -> u32
-    ensures { result ≡ asked_or size asked }
+    ensures { result ≡ size_or size asked }
 {
     match asked {
         None => size,
-        Some(asked) => asked.min(256),
+        Some(asked) => asked.min(MOST_BUFFER_SIZE as u32),
     }
 }

@@ -2,12 +2,11 @@
 ghost use Rattle.std.specs.Prelude.{◌≡◌, ◌++◌, codes, IfOk};
 ghost use Rattle.std.specs.Fmt.{decimal};
 ghost use Rattle.ls_line.specs.declared.line.Line.TheVariants as line;
-ghost use Rattle.ls_line.specs.Lines.{text_of};
+ghost use Rattle.ls_line.specs.Lines.{text_of_line};
 ghost use Rattle.ls_world.specs.World.{opening_lines};
 ghost use Rattle.ls_world.specs.Acting.{message_of};
 
 use ls_line::{Line, text};
-use ls_subs::lines::plain;
 use ls_value::{Bytes, NoMemory, Text};
 use std::alloc::Global;
 
@@ -25,7 +24,7 @@ pub fn opening(alloc: Global, number: u64, keepalive: u32) -> Result<Vec<Bytes>,
 
 /// The line `CONOK` of a session of this number.
 fn session_text(alloc: Global, number: u64, keepalive: u32) -> Result<Bytes, NoMemory>
-    ensures { IfOk result (λ t. t ≡ text_of (line.ConOk (codes "S" ++ decimal number) keepalive)) }
+    ensures { IfOk result (λ t. t ≡ text_of_line (line.ConOk (codes "S" ++ decimal number) keepalive)) }
 {
     let name = format!(in alloc; "S{number}")?;
     text(
@@ -39,22 +38,22 @@ fn session_text(alloc: Global, number: u64, keepalive: u32) -> Result<Bytes, NoM
 
 /// The line `CONS,unlimited`.
 fn unlimited_text(alloc: Global) -> Result<Bytes, NoMemory>
-    ensures { IfOk result (λ t. t ≡ text_of (line.Cons (codes "unlimited"))) }
+    ensures { IfOk result (λ t. t ≡ text_of_line (line.Cons (codes "unlimited"))) }
 {
-    let bandwidth = plain(alloc, "unlimited")?;
+    let bandwidth = Text::from_str(alloc, "unlimited")?;
     text(alloc, &Line::Cons { bandwidth })
 }
 
 /// The line `REQOK,<reqId>`: the request of this name was accepted.
 pub fn accepted_text(alloc: Global, request: Text) -> Result<Bytes, NoMemory>
-    ensures { IfOk result (λ t. t ≡ text_of (line.ReqOk request)) }
+    ensures { IfOk result (λ t. t ≡ text_of_line (line.ReqOk request)) }
 {
     text(alloc, &Line::ReqOk { request })
 }
 
 /// The line `REQERR,<reqId>,65,<message>`: the request of this name is malformed.
 pub fn malformed_text(alloc: Global, request: Text) -> Result<Bytes, NoMemory>
-    ensures { IfOk result (λ t. t ≡ text_of (line.ReqErr request 65 (message_of 65))) }
+    ensures { IfOk result (λ t. t ≡ text_of_line (line.ReqErr request 65 (message_of 65))) }
 {
     let message = malformed(alloc)?;
     text(
@@ -69,7 +68,7 @@ pub fn malformed_text(alloc: Global, request: Text) -> Result<Bytes, NoMemory>
 
 /// The line `ERROR,65,<message>`: a request whose name can't be told is malformed.
 pub fn error_text(alloc: Global) -> Result<Bytes, NoMemory>
-    ensures { IfOk result (λ t. t ≡ text_of (line.Error 65 (message_of 65))) }
+    ensures { IfOk result (λ t. t ≡ text_of_line (line.Error 65 (message_of 65))) }
 {
     let message = malformed(alloc)?;
     text(alloc, &Line::Error { code: 65, message })
@@ -77,7 +76,7 @@ pub fn error_text(alloc: Global) -> Result<Bytes, NoMemory>
 
 /// The line `CONERR,65,<message>`: a request for a session or a stream is malformed.
 pub fn opening_error_text(alloc: Global) -> Result<Bytes, NoMemory>
-    ensures { IfOk result (λ t. t ≡ text_of (line.ConErr 65 (message_of 65))) }
+    ensures { IfOk result (λ t. t ≡ text_of_line (line.ConErr 65 (message_of 65))) }
 {
     let message = malformed(alloc)?;
     text(alloc, &Line::ConErr { code: 65, message })
@@ -85,7 +84,7 @@ pub fn opening_error_text(alloc: Global) -> Result<Bytes, NoMemory>
 
 /// The line `WSOK`: the WebSocket works.
 pub fn wsok_text(alloc: Global) -> Result<Bytes, NoMemory>
-    ensures { IfOk result (λ t. t ≡ text_of line.WsOk) }
+    ensures { IfOk result (λ t. t ≡ text_of_line line.WsOk) }
 {
     text(alloc, &Line::WsOk)
 }
@@ -94,5 +93,5 @@ pub fn wsok_text(alloc: Global) -> Result<Bytes, NoMemory>
 fn malformed(alloc: Global) -> Result<Text, NoMemory>
     ensures { IfOk result (λ made. made ≡ message_of 65) }
 {
-    plain(alloc, "Malformed request")
+    Text::from_str(alloc, "Malformed request")
 }

@@ -1,18 +1,23 @@
 //! The hub: the steps of the world, over its one item and its one session.
-ghost use Rattle.std.specs.Prelude.{◌≡◌, ◌<◌, ◌≤◌, ℕ, List, [], ◌∷◌, Some, None, Ok, Err, IfOk, OnOk, Option, Result, true, false};
+ghost use Rattle.std.specs.Prelude.{◌≡◌, ◌<◌, ◌≤◌, ◌++◌, ℕ, List, [], ◌∷◌, Some, None, Ok, Err, IfOk, OnOk, Option};
+ghost use Rattle.std.specs.Prelude.{Result, true, false};
+ghost use Rattle.ls_event.specs.declared.limits.TheConstants.{MOST_ADAPTERS};
 ghost use Rattle.ls_event.specs.Shapes.{shape_of, IsShape};
 ghost use Rattle.ls_event.specs.Slots.{Slot};
 ghost use Rattle.ls_world.specs.World.{World, Item as AnItem};
-ghost use Rattle.ls_world.specs.Steps.{take_once as one_turn, enqueue_once as one_enqueue, repeated, publishes, is_whole as is_whole_event};
+ghost use Rattle.ls_world.specs.Steps.{take_once as one_turn, enqueue_once as one_enqueue, repeated, publishes};
+ghost use Rattle.ls_world.specs.Steps.{is_whole as is_whole_event};
+ghost use Rattle.ls_world.specs.Script.{text_of_outs};
 ghost use Rattle.ls_session.specs.declared.session.Session.{Session as Holding};
 ghost use Rattle.ls_session.specs.Session.{StandsItem, IsItem};
-ghost use Rattle.ls_hub.specs.Hub.{StandsParts, IsOf, DidOnce, DidStep, out_given, is_line, is_slot, DidEnqueue, out_enqueued, has_moved, outs_published};
+ghost use Rattle.ls_hub.specs.Hub.{StandsParts, IsOf, DidOnce, DidStep, turn_ended, is_line, is_slot, DidEnqueue};
+ghost use Rattle.ls_hub.specs.Hub.{out_enqueued, has_moved, outs_published};
 
 use ls_cell::{Enqueued, ItemCell};
 use ls_event::{Event, ItemDef, PublishRefused};
 use ls_request::LinkKind;
-use ls_script::Out;
-use ls_session::{Given, Item, Session, turn};
+use ls_session::{Item, Outcome, Session, turn};
+use ls_step::{Out, append};
 use ls_subs::SLOT;
 use ls_value::{NoMemory, Text};
 use std::alloc::Global;
@@ -37,7 +42,7 @@ impl From<NoMemory> for StepRefused {
     }
 }
 
-/// A connection: its name, what it goes over, and the place of its session, from 0, if it ever had one.
+/// A connection: its name, what it goes over, and the rank of its session, from 0, if it ever had one.
 #[derive(Drop)]
 pub struct Connection {
     pub name: Text,
@@ -45,8 +50,8 @@ pub struct Connection {
     pub session: Option<u32>,
 }
 
-/// The adapter set's name, the connections in the order in which they came, the item and the session. It keeps the allocator that
-/// its constructor took.
+/// The adapter set's name, the connections in the order in which they came, the item and the session. It keeps the
+/// allocator that its constructor took.
 #[derive(Drop)]
 pub struct Hub {
     pub(crate) alloc: Global,
@@ -56,142 +61,147 @@ pub struct Hub {
     pub session: Option<Session>,
 }
 
-/// What one of several like steps prints, and whether another one follows.
-#[derive(Drop)]
-pub struct Once {
-    pub out: Out,
-    pub more: bool,
-}
-
 /// Turns of the session on a connection of this name: at most so many, up to the first that gives no line.
-pub fn takes(
-    alloc: Global,
+pub(crate) fn takes(
     item: &mut Option<Item>,
     session: &mut Option<Session>,
-    name: &Text,
+    name: &[u8],
     times: u32,
-) -> Result<Vec<Out>, NoMemory>
-    ensures did { IfOk result (λ outs. (w : World) (connection : ℕ) → StandsParts item.old session.old w → IsOf w connection name.now
-        → DidStep (repeated (one_turn connection) times w) outs.items item.new session.new) }
+    text: &mut Vec<u8>,
+) -> Result<(), NoMemory>
+    ensures did { OnOk result ((w : World) (connection : ℕ) → StandsParts item.old session.old w
+        → IsOf w connection name.now
+        → DidStep (repeated (one_turn connection) times w) text.old.items text.new.items item.new session.new) }
 {
-    let mut outs = Vec::new(alloc);
     for _ in 0..times {
-        let Once { out, more } = take_once(alloc, item, session, name)?;
-        outs.push(out)?;
+        let more = take_once(item, session, name, text)?;
         if !more {
-            return Ok(outs);
+            return Ok(());
         }
     }
-    Ok(outs)
+    Ok(())
 }
 
-/// A turn of the session on a connection of this name.
+/// A turn of the session on a connection of this name; whether another one follows.
 fn take_once(
-    alloc: Global,
     item: &mut Option<Item>,
     session: &mut Option<Session>,
-    name: &Text,
-) -> Result<Once, NoMemory>
-    ensures did { IfOk result (λ once. (w : World) (connection : ℕ) → StandsParts item.old session.old w → IsOf w connection name.now
-        → DidOnce w (one_turn connection w) once.out once.more item.new session.new) }
+    name: &[u8],
+    text: &mut Vec<u8>,
+) -> Result<bool, NoMemory>
+    ensures did { IfOk result (λ more. (w : World) (connection : ℕ) → StandsParts item.old session.old w
+        → IsOf w connection name.now
+        → DidOnce w (one_turn connection w) more text.old.items text.new.items item.new session.new) }
 {
     match session {
-        None => Ok(Once {
-            out: Out::NoSession,
-            more: false,
-        }),
+        None => {
+            append(text, &Out::NoSession)?;
+            Ok(false)
+        }
         Some(session) => {
-            let given = turn(item, session)?;
-            let once = once_given(alloc, name, given)?;
-            Ok(once)
+            let start = text.len();
+            begin_line(text, name)?;
+            let outcome = turn(item, session, text)?;
+            let more = end_turn(text, start, outcome)?;
+            Ok(more)
         }
     }
 }
 
-/// What a turn prints.
-fn once_given(alloc: Global, name: &Text, given: Given) -> Result<Once, NoMemory>
-    ensures out { IfOk result (λ once. once.out ≡ out_given name.now given) }
-    ensures more { IfOk result (λ once. once.more ≡ is_line given) }
+/// Begins a line on a connection of this name.
+fn begin_line(text: &mut Vec<u8>, name: &[u8]) -> Result<(), NoMemory>
+    ensures { OnOk result (text.new.items ≡ (text.old.items ++ name.now) ++ 58 ∷ []) }
 {
-    match given {
-        Given::Line(text) => Ok(Once {
-            out: Out::Line {
-                connection: name.copy(alloc)?,
-                text,
-            },
-            more: true,
-        }),
-        Given::Idle => Ok(Once {
-            out: Out::Idle,
-            more: false,
-        }),
-        Given::Spent => Ok(Once {
-            out: Out::Spent,
-            more: false,
-        }),
+    text.extend_from_slice(name)?;
+    text.push(b':')?;
+    Ok(())
+}
+
+/// Ends what a turn prints: its line, or the note that stands in its place; whether another turn follows.
+fn end_turn(text: &mut Vec<u8>, start: usize, outcome: Outcome) -> Result<bool, NoMemory>
+    ensures text { OnOk result (text.new.items ≡ turn_ended start outcome text.old.items) }
+    ensures more { IfOk result (λ more. more ≡ is_line outcome) }
+{
+    match outcome {
+        Outcome::Line => {
+            text.push(b'\n')?;
+            Ok(true)
+        }
+        Outcome::Idle => {
+            text.truncate(start);
+            append(text, &Out::Idle)?;
+            Ok(false)
+        }
+        Outcome::Spent => {
+            text.truncate(start);
+            append(text, &Out::Spent)?;
+            Ok(false)
+        }
     }
 }
 
-/// Enqueues into the slot of a place in a subscription of the session: at most so many, up to the first that doesn't move.
-pub fn enqueues(
-    alloc: Global,
+/// Enqueues into the slot of a rank in a subscription of the session: at most so many, up to the first that doesn't
+/// move.
+pub(crate) fn enqueues(
     item: &mut Option<Item>,
     session: &Option<Session>,
     sub: u64,
-    place: u64,
+    rank: u64,
     times: u32,
-) -> Result<Vec<Out>, NoMemory>
-    ensures did { IfOk result (λ outs. (w : World) (connection : ℕ) (called : List ℕ) → StandsParts item.old session.now w → IsOf w connection called
-        → DidStep (repeated (one_enqueue connection sub place) times w) outs.items item.new session.now) }
+    text: &mut Vec<u8>,
+) -> Result<(), NoMemory>
+    ensures did { OnOk result ((w : World) (connection : ℕ) (called : List ℕ) → StandsParts item.old session.now w
+        → IsOf w connection called
+        → DidStep (repeated (one_enqueue connection sub rank) times w) text.old.items text.new.items item.new
+        session.now) }
 {
-    let mut outs = Vec::new(alloc);
     for _ in 0..times {
-        let Once { out, more } = enqueue_once(alloc, item, session, sub, place)?;
-        outs.push(out)?;
+        let more = enqueue_once(item, session, sub, rank, text)?;
         if !more {
-            return Ok(outs);
+            return Ok(());
         }
     }
-    Ok(outs)
+    Ok(())
 }
 
-/// An enqueue into the slot of a place in a subscription of the session.
+/// An enqueue into the slot of a rank in a subscription of the session; whether another one follows.
 fn enqueue_once(
-    alloc: Global,
     item: &mut Option<Item>,
     session: &Option<Session>,
     sub: u64,
-    place: u64,
-) -> Result<Once, NoMemory>
-    ensures did { IfOk result (λ once. (w : World) (connection : ℕ) (called : List ℕ) → StandsParts item.old session.now w → IsOf w connection called
-        → DidOnce w (one_enqueue connection sub place w) once.out once.more item.new session.now) }
+    rank: u64,
+    text: &mut Vec<u8>,
+) -> Result<bool, NoMemory>
+    ensures did { IfOk result (λ more. (w : World) (connection : ℕ) (called : List ℕ)
+        → StandsParts item.old session.now w → IsOf w connection called
+        → DidOnce w (one_enqueue connection sub rank w) more text.old.items text.new.items item.new session.now) }
 {
-    if !has_slot(session, sub, place) {
-        return Ok(Once {
-            out: Out::NoSlot,
-            more: false,
-        });
+    if !has_slot(session, sub, rank) {
+        append(text, &Out::NoSlot)?;
+        return Ok(false);
     }
     let answer = enqueue_slot(item)?;
-    Ok(once_enqueued(answer))
+    append(text, &out_enqueued(answer))?;
+    Ok(has_moved(answer))
 }
 
-/// Whether the slot is of this place in this subscription.
-fn has_slot(session: &Option<Session>, sub: u64, place: u64) -> bool
-    ensures { result ≡ is_slot session.now sub place }
+/// Whether the slot is of this rank in this subscription.
+fn has_slot(session: &Option<Session>, sub: u64, rank: u64) -> bool
+    ensures { result ≡ is_slot session.now sub rank }
 {
     match session {
         None => false,
         Some(session) => match &session.subscription {
             None => false,
-            Some(subscription) => sub == u64::from(subscription.sub()) && place == 1,
+            Some(subscription) => sub == u64::from(subscription.sub()) && rank == 1,
         },
     }
 }
 
 /// An enqueue into the item's slot, if there is one.
 fn enqueue_slot(item: &mut Option<Item>) -> Result<Option<Enqueued>, NoMemory>
-    ensures did { IfOk result (λ answer. (items : List AnItem) (s : Slot) → StandsItem item.old (Some s ∷ []) items → DidEnqueue s items answer item.new) }
+    ensures did { IfOk result (λ answer. (items : List AnItem) (s : Slot) → StandsItem item.old (Some s ∷ []) items
+        → DidEnqueue s items answer item.new) }
 {
     match item {
         None => Ok(None),
@@ -206,51 +216,53 @@ fn enqueue_slot(item: &mut Option<Item>) -> Result<Option<Enqueued>, NoMemory>
 }
 
 /// What an enqueue prints.
-fn once_enqueued(answer: Option<Enqueued>) -> Once
-    ensures out { result.out ≡ out_enqueued answer }
-    ensures more { result.more ≡ has_moved answer }
+fn out_enqueued(answer: Option<Enqueued>) -> Out
+    ensures { result ≡ out_enqueued answer }
 {
     match answer {
-        Some(Enqueued::Moved { no }) => Once {
-            out: Out::Moved { no },
-            more: true,
-        },
-        Some(Enqueued::UpToDate) => Once {
-            out: Out::UpToDate,
-            more: false,
-        },
-        None => Once {
-            out: Out::NoSlot,
-            more: false,
-        },
+        Some(Enqueued::Moved { no }) => Out::Moved { no },
+        Some(Enqueued::UpToDate) => Out::UpToDate,
+        None => Out::NoSlot,
+    }
+}
+
+/// Whether the slot took an event.
+fn has_moved(answer: Option<Enqueued>) -> bool
+    ensures { result ≡ has_moved answer }
+{
+    match answer {
+        Some(Enqueued::Moved { no: _ }) => true,
+        Some(Enqueued::UpToDate) => false,
+        None => false,
     }
 }
 
 /// A publish on the item of a place. An update of another number of fields than the item's is none.
-pub fn publish(
-    alloc: Global,
+pub(crate) fn publish(
     item: &mut Option<Item>,
     place: u32,
     adapter: u8,
     seq: u64,
     event: Event,
-) -> Result<Vec<Out>, NoMemory>
-    requires { adapter ≤ 64 }
-    ensures did { IfOk result (λ outs. (w : World) (k : Option Holding) → StandsParts item.old k w
-        → DidStep (publishes w place (record { adapter = adapter; seq = seq; event = event })) outs.items item.new k) }
+    text: &mut Vec<u8>,
+) -> Result<(), NoMemory>
+    requires { adapter ≤ MOST_ADAPTERS }
+    ensures did { OnOk result ((w : World) (k : Option Holding) → StandsParts item.old k w
+        → DidStep (publishes w place (record { adapter = adapter; seq = seq; event = event })) text.old.items
+        text.new.items item.new k) }
 {
     if place != 0 {
-        return Ok(Vec::new(alloc));
+        return Ok(());
     }
     match item {
-        None => Ok(Vec::new(alloc)),
+        None => Ok(()),
         Some(item) => {
             if !is_whole(item.cell.fields(), &event) {
-                return Ok(Vec::new(alloc));
+                return Ok(());
             }
             let answer = item.cell.publish(adapter, seq, event);
-            let outs = outs_published(alloc, answer)?;
-            Ok(outs)
+            append_published(text, answer)?;
+            Ok(())
         }
     }
 }
@@ -265,10 +277,10 @@ fn is_whole(fields: usize, event: &Event) -> bool
     }
 }
 
-/// What a publish prints; want of memory is handed on.
-fn outs_published(alloc: Global, answer: Result<u64, PublishRefused>) -> Result<Vec<Out>, NoMemory>
+/// Appends what a publish prints; want of memory is handed on.
+fn append_published(text: &mut Vec<u8>, answer: Result<u64, PublishRefused>) -> Result<(), NoMemory>
     ensures some { OnOk result (answer ≡ Err PublishRefused.NoMemory → ⊥) }
-    ensures outs { IfOk result (λ outs. outs.items ≡ outs_published answer) }
+    ensures text { OnOk result (text.new.items ≡ text.old.items ++ text_of_outs (outs_published answer)) }
 {
     let out = match answer {
         Ok(no) => Out::Published { no },
@@ -281,13 +293,22 @@ fn outs_published(alloc: Global, answer: Result<u64, PublishRefused>) -> Result<
         Err(PublishRefused::Spent) => Out::Spent,
         Err(PublishRefused::NoMemory) => return Err(NoMemory),
     };
-    let mut outs = Vec::new(alloc);
-    outs.push(out)?;
-    Ok(outs)
+    append(text, &out)?;
+    Ok(())
+}
+
+/// Appends what is printed.
+pub(crate) fn append_all(text: &mut Vec<u8>, outs: &[Out]) -> Result<(), NoMemory>
+    ensures { OnOk result (text.new.items ≡ text.old.items ++ text_of_outs outs.now) }
+{
+    for out in outs {
+        append(text, out)?;
+    }
+    Ok(())
 }
 
 /// An item that was declared, without events.
-pub fn declare(alloc: Global, definition: ItemDef) -> Result<Item, NoMemory>
+pub(crate) fn declare(alloc: Global, definition: ItemDef) -> Result<Item, NoMemory>
     requires { IsShape (shape_of definition) }
     ensures did { IfOk result (λ item. IsItem item [] (record { definition = definition; history = [] })) }
 {

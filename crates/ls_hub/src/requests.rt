@@ -1,46 +1,52 @@
 //! Requests on a connection: what is done on each, and its answer (TLCP 2.1, requests).
-ghost use Rattle.std.specs.Prelude.{◌≡◌, ◌<◌, ◌≤◌, ◌∷◌, [], List, Some, None, Option, IfOk, IfSome, OnOk, IsErrOf, true, false, length, map, is_some, unwrap_or};
+ghost use Rattle.std.specs.Prelude.{◌≡◌, ◌<◌, ◌≤◌, ◌∷◌, [], List, Some, None, Option, IfOk, IfSome, OnOk, IsErrOf};
+ghost use Rattle.std.specs.Prelude.{true, false, length, map, is_some, unwrap_or};
 ghost use Rattle.ls_value.specs.Values.{place_of};
 ghost use Rattle.ls_event.specs.declared.event.Entry.{Entry};
 ghost use Rattle.ls_request.specs.Ranges.{AddFits, OpFits, RequestFits};
-ghost use Rattle.ls_script.specs.declared.out.Out.TheVariants as out;
+ghost use Rattle.ls_step.specs.declared.out.Out.TheVariants as out;
 ghost use Rattle.ls_cell.specs.Cell.{StandsCell};
-ghost use Rattle.ls_cell.specs.Table.{live_slots};
-ghost use Rattle.ls_world.specs.Tables.{place_in};
+ghost use Rattle.ls_cell.specs.Numbered.{live_slots};
+ghost use Rattle.ls_world.specs.Tables.{place_of_field};
 ghost use Rattle.ls_world.specs.World.{World, change, is_filtered};
-ghost use Rattle.ls_world.specs.Acting.{is_set_of, is_mode_of};
-ghost use Rattle.ls_world.specs.Steps.{requests, malformed, acts, creates, created, controls, connects, is_opening};
+ghost use Rattle.ls_event.specs.Joining.{is_mode_of};
+ghost use Rattle.ls_world.specs.Acting.{is_set_of};
+ghost use Rattle.ls_world.specs.Steps.{requests, malformed, acts, creates, created, connects, is_opening};
 ghost use Rattle.ls_world.specs.Built.{are_built, is_built_request, is_built_control, lacks};
 ghost use Rattle.ls_hub.specs.Hub.{StandsHub, StandsParts, DidHub, DidSubscribe, seen};
-ghost use Rattle.ls_hub.specs.Requests.{session_at, name_at, link_at, is_first_session, keys_shown_in, malformed_line, Joined, Adds};
-ghost use Rattle.ls_subs.specs.Subscription.{keys_of};
+ghost use Rattle.ls_hub.specs.Requests.{session_at, name_at, link_at, is_first_session, keys_shown_in, malformed_line};
+ghost use Rattle.ls_hub.specs.Requests.{Joined, Adds};
 
 use crate::adding::{buffer_size, places_asked};
 use crate::answers::{
     accepted_text, error_text, malformed_text, opening, opening_error_text, wsok_text,
 };
 use crate::hub::{Connection, Hub, StepRefused};
-use ls_event::Mode;
+use ls_event::{MOST_FIELDS, Mode};
 use ls_form::Params;
+use ls_mirror::KeyPlaces;
 use ls_request::{Add, Control, Create, LinkKind, Op, Request, RequestRefused, read_pairs};
 use ls_script::Out;
 use ls_session::{Item, Session};
-use ls_subs::lines::{begin_text, configure_text};
-use ls_subs::{KeyPlaces, Subscription};
+use ls_subs::{Subscription, begin_text, configure_text};
 use ls_value::{Bytes, Names, NoMemory, Places, Text, same_bytes};
 use std::alloc::Global;
 use std::collections::VecDeque;
 
 impl Hub {
-    /// A request by its name and its parameters, which are none where they are no form: it is done, or refused in reading.
+    /// A request by its name and its parameters, which are none where they are no form: it is done, or refused in
+    /// reading.
     pub fn request(
         &mut self,
         connection: u32,
         name: &[u8],
         params: Option<Params>,
     ) -> Result<Vec<Out>, StepRefused>
-        ensures ok { IfOk result (λ outs. (w : World) → StandsHub self.old w → (are_built w connection name.now params ≡ true) × DidHub (requests w connection name.now params) outs.items self.new) }
-        ensures refused { IsErrOf result StepRefused.NotBuilt → (w : World) → StandsHub self.old w → are_built w connection name.now params ≡ false }
+        ensures ok { IfOk result (λ outs. (w : World) → StandsHub self.old w
+            → (are_built w connection name.now params ≡ true)
+            × DidHub (requests w connection name.now params) outs.items self.new) }
+        ensures refused { IsErrOf result StepRefused.NotBuilt → (w : World) → StandsHub self.old w
+            → are_built w connection name.now params ≡ false }
     {
         let Some(params) = params else {
             let outs = self.malformed(connection, name, None)?;
@@ -64,8 +70,11 @@ impl Hub {
         request: Request,
     ) -> Result<Vec<Out>, StepRefused>
         requires { RequestFits request }
-        ensures ok { IfOk result (λ outs. (w : World) → StandsHub self.old w → (is_built_request w connection params.now request ≡ true) × DidHub (acts w connection request) outs.items self.new) }
-        ensures refused { IsErrOf result StepRefused.NotBuilt → (w : World) → StandsHub self.old w → is_built_request w connection params.now request ≡ false }
+        ensures ok { IfOk result (λ outs. (w : World) → StandsHub self.old w
+            → (is_built_request w connection params.now request ≡ true)
+            × DidHub (acts w connection request) outs.items self.new) }
+        ensures refused { IsErrOf result StepRefused.NotBuilt → (w : World) → StandsHub self.old w
+            → is_built_request w connection params.now request ≡ false }
     {
         match request {
             Request::Create(create) => self.create(connection, params, create),
@@ -86,8 +95,11 @@ impl Hub {
         params: &Params,
         create: Create,
     ) -> Result<Vec<Out>, StepRefused>
-        ensures ok { IfOk result (λ outs. (w : World) → StandsHub self.old w → (is_built_request w connection params.now (Request.Create create) ≡ true) × DidHub (creates w connection create) outs.items self.new) }
-        ensures refused { IsErrOf result StepRefused.NotBuilt → (w : World) → StandsHub self.old w → is_built_request w connection params.now (Request.Create create) ≡ false }
+        ensures ok { IfOk result (λ outs. (w : World) → StandsHub self.old w
+            → (is_built_request w connection params.now (Request.Create create) ≡ true)
+            × DidHub (creates w connection create) outs.items self.new) }
+        ensures refused { IsErrOf result StepRefused.NotBuilt → (w : World) → StandsHub self.old w
+            → is_built_request w connection params.now (Request.Create create) ≡ false }
     {
         if self.session.is_some()
             || !lacks(params, b"LS_requested_max_bandwidth")
@@ -101,7 +113,8 @@ impl Hub {
 
     /// Opens the session, which is the connection's.
     pub fn open(&mut self, connection: usize, keepalive: u32) -> Result<(), NoMemory>
-        ensures { OnOk result ((w : World) → StandsHub self.old w → w.sessions ≡ [] → StandsHub self.new (created w connection keepalive)) }
+        ensures { OnOk result ((w : World) → StandsHub self.old w → w.sessions ≡ []
+            → StandsHub self.new (created w connection keepalive)) }
     {
         let owed = opening(self.alloc, 1, keepalive)?;
         self.session = Some(Session {
@@ -132,8 +145,11 @@ impl Hub {
         control: Control,
     ) -> Result<Vec<Out>, StepRefused>
         requires { OpFits control.op }
-        ensures ok { IfOk result (λ outs. (w : World) → StandsHub self.old w → (is_built_control w connection params.now control ≡ true) × DidHub (controls w connection control) outs.items self.new) }
-        ensures refused { IsErrOf result StepRefused.NotBuilt → (w : World) → StandsHub self.old w → is_built_control w connection params.now control ≡ false }
+        ensures ok { IfOk result (λ outs. (w : World) → StandsHub self.old w
+            → (is_built_control w connection params.now control ≡ true)
+            × DidHub (acts w connection (Request.Control control)) outs.items self.new) }
+        ensures refused { IsErrOf result StepRefused.NotBuilt → (w : World) → StandsHub self.old w
+            → is_built_control w connection params.now control ≡ false }
     {
         let Control { req, session, op } = control;
         let Op::Add(add) = op else {
@@ -153,7 +169,8 @@ impl Hub {
         Ok(outs)
     }
 
-    /// Whether a control request on a connection is one of the session's: by the session's number, 1, or by the connection.
+    /// Whether a control request on a connection is one of the session's: by the session's number, 1, or by the
+    /// connection.
     fn is_named(&self, connection: u32, session: Option<u64>) -> bool
         ensures { result ≡ is_first_session session (is_some (session_at self.now.connections.items connection)) }
     {
@@ -170,7 +187,8 @@ impl Hub {
         name: &[u8],
         req: Option<Text>,
     ) -> Result<Vec<Out>, NoMemory>
-        ensures { IfOk result (λ outs. (w : World) → StandsHub self.now w → DidHub (malformed w connection name.now req) outs.items self.now) }
+        ensures { IfOk result (λ outs. (w : World) → StandsHub self.now w
+            → DidHub (malformed w connection name.now req) outs.items self.now) }
     {
         let text = malformed_line(self.alloc, name, req)?;
         let outs = self.line(connection, text)?;
@@ -179,7 +197,8 @@ impl Hub {
 
     /// A line on a connection.
     fn line(&self, connection: u32, text: Bytes) -> Result<Vec<Out>, NoMemory>
-        ensures { IfOk result (λ outs. outs.items ≡ out.Line (name_at self.now.connections.items connection) text ∷ []) }
+        ensures { IfOk result (λ outs.
+            outs.items ≡ out.Line (name_at self.now.connections.items connection) text ∷ []) }
     {
         let mut outs = Vec::new(self.alloc);
         outs.push(Out::Line {
@@ -259,7 +278,8 @@ fn is_opening(name: &[u8]) -> bool
 
 /// Gives a connection the session.
 fn give_session(connections: &mut Vec<Connection>, connection: usize)
-    ensures { map seen connections.new.items ≡ change connection (λ c. record c { session = Some 0 }) (map seen connections.old.items) }
+    ensures { map seen connections.new.items ≡ change connection (λ c. record c { session = Some 0 })
+        (map seen connections.old.items) }
 {
     if let Some(connection) = connections.get_mut(connection) {
         connection.session = Some(0);
@@ -274,7 +294,8 @@ fn subscribe(
     add: &Add,
 ) -> Result<bool, NoMemory>
     requires { AddFits add.now }
-    ensures did { IfOk result (λ added. (w : World) → StandsParts item.old session.old w → DidSubscribe added w add.now item.new session.new) }
+    ensures did { IfOk result (λ added. (w : World) → StandsParts item.old session.old w
+        → DidSubscribe added w add.now item.new session.new) }
 {
     match session {
         None => Ok(false),
@@ -301,7 +322,8 @@ fn subscribe_to(
     add: &Add,
 ) -> Result<bool, NoMemory>
     requires { AddFits add.now }
-    ensures did { IfOk result (λ added. (h : List Entry) → StandsCell item.old.cell [] h → Adds added h add.now item.old item.new session.old session.new) }
+    ensures did { IfOk result (λ added. (h : List Entry) → StandsCell item.old.cell [] h
+        → Adds added h add.now item.old item.new session.old session.new) }
 {
     if item.cell.slots() > 0 {
         return Ok(false);
@@ -325,9 +347,10 @@ fn join(
 ) -> Result<(), NoMemory>
     requires size { AddFits add.now }
     requires mode { is_mode_of add.now.mode item.old.cell.item.shape.kind ≡ true }
-    requires few { length places ≤ 64 }
+    requires few { length places ≤ MOST_FIELDS }
     requires none { live_slots item.old.cell.slots ≡ 0 }
-    ensures did { OnOk result ((h : List Entry) → StandsCell item.old.cell [] h → Joined h add.now places item.old item.new session.old session.new) }
+    ensures did { OnOk result ((h : List Entry) → StandsCell item.old.cell [] h
+        → Joined h add.now places item.old item.new session.old session.new) }
 {
     let keys = keys_shown(add.mode, &item.fields, &places);
     let begins = begin_text(alloc, add.sub, 1, places.len() as u32, keys)?;
@@ -343,7 +366,7 @@ fn join(
 
 /// The places of the key and the command in a schema, in mode COMMAND.
 fn keys_shown(mode: Mode, fields: &Names, places: &Places) -> Option<KeyPlaces>
-    ensures shown { keys_of result ≡ keys_shown_in mode fields.now places.now }
+    ensures shown { result ≡ keys_shown_in mode fields.now places.now }
     ensures few { IfSome result (λ k. (k.key ≤ length places.now) × (k.command ≤ length places.now)) }
 {
     match mode {
@@ -367,7 +390,7 @@ fn field_at(fields: &Names, name: &[u8]) -> usize
 
 /// The first place of a field in a schema, and the number of its fields where it isn't there.
 fn place_in(field: usize, places: &[usize]) -> usize
-    ensures at { result ≡ place_in field places.now }
+    ensures at { result ≡ place_of_field field places.now }
     ensures few { result ≤ length places.now }
 {
     let mut place = 0;

@@ -8,7 +8,7 @@ use Rattle.ls_item.specs.declared.command.Change.{Change}
 use Rattle.ls_item.specs.declared.command.Change.TheVariants as change
 use Rattle.ls_item.specs.Keys.{IsAt, IsGap}
 
--- an update deletes a key or not, and its key stands at a place or is new
+-- an update deletes a key or not, and its key stands at an index or is new
 abbrev pub IsChange : Shape → List KeyedRow → List Cell → Change → Type 0
 IsChange p ks cells change.Nothing = (deletes p cells ≡ true) × (row_at (key_of p cells) ks ≡ None)
 IsChange p ks cells (change.Remove i) = (deletes p cells ≡ true) × IsAt (key_of p cells) ks i

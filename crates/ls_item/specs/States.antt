@@ -1,4 +1,5 @@
--- The state of an item with its shape, and what holds of it (General Concepts, items and modes; this project's profile for the limits).
+-- The state of an item with its shape, and what holds of it (General Concepts, items and modes; this project's profile
+-- for the limits).
 use Rattle.std.specs.Prelude.{◌≡◌, ℕ, ◌<◌, ◌≤◌, List, length, All, Option, None, Some, Result, Ok, Err}
 use Rattle.ls_value.specs.declared.row.Value.{Value}
 use Rattle.ls_event.specs.declared.event.PushRefused.{PushRefused}
@@ -7,6 +8,7 @@ use Rattle.ls_event.specs.declared.item.Kind.TheVariants as kind
 use Rattle.ls_event.specs.declared.snapshot.KeyedRow.{KeyedRow}
 use Rattle.ls_event.specs.declared.snapshot.Snapshot.{Snapshot}
 use Rattle.ls_event.specs.declared.snapshot.Snapshot.TheVariants as state
+use Rattle.ls_event.specs.declared.limits.TheConstants.{MOST_KEYS, MOST_SNAPSHOT_ROWS}
 use Rattle.ls_event.specs.Shapes.{Shape}
 use Rattle.ls_item.specs.Keys.{IsOrdered}
 
@@ -21,7 +23,7 @@ pub record Recent : Type 0 where
   pub rows : List (List Value)
 
 -- the keys of a COMMAND item of so many fields, with the places of its key and its command
-pub record Table : Type 0 where
+pub record KeyTable : Type 0 where
   pub fields : ℕ
   pub key : ℕ
   pub command : ℕ
@@ -35,30 +37,37 @@ keyless k fields = record { kind = k; fields = fields; key = 0; command = 0 }
 abbrev pub keyed_shape : ℕ → ℕ → ℕ → Shape
 keyed_shape fields key command = record { kind = kind.Command; fields = fields; key = key; command = command }
 
-abbrev pub shape_in : Table → Shape
+-- the shape of the item whose keys these are
+abbrev pub shape_in : KeyTable → Shape
 shape_in t = keyed_shape t.fields t.key t.command
 
 -- each row has so many values
 abbrev pub AllWide : ℕ → List (List Value) → Type 0
 AllWide fields rows = All (λ row. length row ≡ fields) rows
 
+-- each key's row has so many values
 abbrev pub AllKeyedWide : ℕ → List KeyedRow → Type 0
 AllKeyedWide fields ks = All (λ k. length k.row ≡ fields) ks
 
 -- what holds of the keys of a COMMAND item of a shape
-pub record IsTable (p : Shape) (ks : List KeyedRow) : Type 0 where
+pub record IsKeyTable (p : Shape) (ks : List KeyedRow) : Type 0 where
   pub key : p.key < p.fields
   pub command : p.command < p.fields
   pub wide : AllKeyedWide p.fields ks
-  pub few : length ks ≤ 1024
+  pub few : length ks ≤ MOST_KEYS
   pub ordered : IsOrdered ks
 
--- what holds of the state of an item of a shape: it is of the shape's kind, each row has a value for each field, a DISTINCT item has at most
--- 32 rows, and a COMMAND item at most 1,024 keys, each once and in the order of their bytes
+-- what holds of the state of an item of a shape: it is of the shape's kind, each row has a value for each field, a
+-- DISTINCT
+-- item has no more rows than are kept for snapshots, and a COMMAND item no more keys than there may be, each once and
+-- in
+-- the order of their bytes
 abbrev pub IsStateOf : Shape → Snapshot → Type 0
 IsStateOf p (state.Merge row) = (p.kind ≡ kind.Merge) × (length row ≡ p.fields)
-IsStateOf p (state.Distinct rows) = (p.kind ≡ kind.Distinct) × (AllWide p.fields rows × (length rows ≤ 32))
-IsStateOf p (state.Command ks) = (p.kind ≡ kind.Command) × (AllKeyedWide p.fields ks × ((length ks ≤ 1024) × IsOrdered ks))
+IsStateOf p (state.Distinct rows) = (p.kind ≡ kind.Distinct) ×
+    (AllWide p.fields rows × (length rows ≤ MOST_SNAPSHOT_ROWS))
+IsStateOf p (state.Command ks) = (p.kind ≡ kind.Command) × (AllKeyedWide p.fields ks
+    × ((length ks ≤ MOST_KEYS) × IsOrdered ks))
 
 -- the answer of a check: the cause, where there is one
 abbrev pub checked : Option PushRefused → Result (Unit {0}) PushRefused

@@ -1,7 +1,7 @@
-//! The place of a key among keys in the order of their bytes.
+//! Where a key stands among keys in the order of their bytes.
 ghost use Rattle.std.specs.Prelude.{◌≡◌, ◌≤◌, IfOk, IfErr, length};
 ghost use Rattle.ls_event.specs.Keyed.{is_before};
-ghost use Rattle.ls_item.specs.Keys.{IsOrdered, IsAt, IsGap, place_in, has_key};
+ghost use Rattle.ls_item.specs.Keys.{IsOrdered, IsAt, IsGap, index_in, has_key};
 
 use ls_event::KeyedRow;
 use ls_value::same_bytes;
@@ -12,7 +12,7 @@ pub fn find(rows: &[KeyedRow], key: &[u8]) -> Result<usize, usize>
     ensures found { IfOk result (IsAt key.now rows.now) }
     ensures absent { IfErr result (IsGap key.now rows.now) }
 {
-    let at = place_of(rows, key);
+    let at = index_of(rows, key);
     match rows.get(at) {
         Some(row) => {
             if same_bytes(row.key.as_bytes(), key) {
@@ -26,9 +26,9 @@ pub fn find(rows: &[KeyedRow], key: &[u8]) -> Result<usize, usize>
 }
 
 /// The number of keys before this one.
-fn place_of(rows: &[KeyedRow], key: &[u8]) -> usize
+fn index_of(rows: &[KeyedRow], key: &[u8]) -> usize
     requires { IsOrdered rows.now }
-    ensures place { result ≡ place_in key.now rows.now }
+    ensures index { result ≡ index_in key.now rows.now }
     ensures within { result ≤ length rows.now }
 {
     rows.partition_point(|row| is_before(row.key.as_bytes(), key))

@@ -7,17 +7,21 @@ ghost use Rattle.ls_event.specs.History.{HasFields, row_after};
 ghost use Rattle.ls_event.specs.States.{push_refusal, weight_made, PushAnswers};
 ghost use Rattle.ls_item.specs.States.{keyless, checked, IsStateOf};
 
-use crate::weights::{applied_weight, cells_weight, limit};
+use crate::weights::{applied_weight, cells_weight, check_weight};
 use ls_event::{Event, PushRefused, Snapshot};
-use ls_value::{NoMemory, Row, apply};
+use ls_value::{NoMemory, Row};
 use std::alloc::Global;
 use std::marker::Model;
+use std::mem::swap;
 
-/// The state of a MERGE item: each field's last value since the last Clear (General Concepts, mode MERGE). It is seen as that row.
+/// The state of a MERGE item: each field's last value since the last Clear (General Concepts, mode MERGE). It is seen
+/// as that row. The next row is made in the room of the one before the last, so an update takes memory only where a
+/// text finds no room there.
 #[derive(Drop)]
 pub struct MergeState {
     alloc: Global,
     row: Row,
+    spare: Row,
 }
 
 impl Model for MergeState {
@@ -30,12 +34,14 @@ impl Model for MergeState {
 }
 
 impl MergeState {
-    /// The state of an item of so many fields without events: all null. It keeps the allocator, by which its later calls take memory.
+    /// The state of an item of so many fields without events: all null. It keeps the allocator, by which its later
+    /// calls take memory.
     pub fn new(alloc: Global, fields: usize) -> Result<MergeState, NoMemory>
         ensures { IfOk result (λ s. s ≡ nulls fields) }
     {
         let row = Row::nulls(alloc, fields)?;
-        Ok(MergeState { alloc, row })
+        let spare = Row::of(Vec::new(alloc));
+        Ok(MergeState { alloc, row, spare })
     }
 
     /// The number of fields.
@@ -45,31 +51,49 @@ impl MergeState {
         self.row.len()
     }
 
-    /// The refusal that `push` would give, want of memory aside. It takes no memory.
+    /// The first cause that stands against an event, as `push` answers it. It takes no memory.
     #[tactic(auto, using(crate::proofs::Causes::or_none))]
     pub fn check(&self, event: &Event) -> Result<(), PushRefused>
         requires { HasFields (length self.now) event.now }
-        ensures { result ≡ checked (push_refusal (keyless kind.Merge (length self.now)) (state.Merge self.now) event.now) }
+        ensures { result ≡ checked (push_refusal (keyless kind.Merge (length self.now))
+            (state.Merge self.now) event.now) }
     {
-        limit(weight_after(&self.row, event))
+        check_weight(weight_after(&self.row, event))
     }
 
+    /// Adds an event. After `NoMemory` the state is as before.
     #[tactic(auto, using(ls_event::proofs::Merged::row_after_length))]
-    /// Adds an event, and answers `None`: a MERGE item has no keys. It is refused where the event's texts or the row that it makes
-    /// weigh more than 4,096 bytes. After a refusal the state is as before.
+    pub fn add(&mut self, event: &Event) -> Result<(), NoMemory>
+        requires { HasFields (length self.old) event.now }
+        ensures ok { OnOk result (self.new ≡ row_after self.old event.now) }
+        ensures fields { length self.new ≡ length self.old }
+        ensures err { OnErr result (self.new ≡ self.old) }
+    {
+        match event {
+            Event::Update(cells) => {
+                self.spare.set_applied(self.alloc, &self.row, cells)?;
+                swap(&mut self.row, &mut self.spare);
+            }
+            Event::Clear => self.row = Row::nulls(self.alloc, self.row.len())?,
+        }
+        Ok(())
+    }
+
+    /// Adds an event, and answers `None`: a MERGE item has no keys. It is refused where the event's texts, or those of
+    /// the row that it makes, weigh more than [`MOST_WEIGHT`](ls_event::MOST_WEIGHT). After a refusal the state is as
+    /// before.
     pub fn push(&mut self, event: &Event) -> Result<Option<Row>, PushRefused>
         requires { HasFields (length self.old) event.now }
-        ensures answer { PushAnswers (push_refusal (keyless kind.Merge (length self.old)) (state.Merge self.old) event.now) result }
+        ensures answer { PushAnswers (push_refusal (keyless kind.Merge (length self.old))
+            (state.Merge self.old) event.now)
+            result }
         ensures ok { OnOk result (self.new ≡ row_after self.old event.now) }
         ensures fields { length self.new ≡ length self.old }
         ensures row { IfOk result (λ row. row ≡ None) }
         ensures err { OnErr result (self.new ≡ self.old) }
     {
         self.check(event)?;
-        match event {
-            Event::Update(cells) => apply(self.alloc, &mut self.row, cells)?,
-            Event::Clear => self.row = Row::nulls(self.alloc, self.row.len())?,
-        }
+        self.add(event)?;
         Ok(None)
     }
 

@@ -5,14 +5,14 @@ ghost use Rattle.ls_value.specs.Values.{applied, kept_or_taken, weight_of, weigh
 ghost use Rattle.ls_event.specs.States.{weight_refusal};
 ghost use Rattle.ls_item.specs.States.{checked};
 
-use ls_event::PushRefused;
+use ls_event::{MOST_WEIGHT, PushRefused};
 use ls_value::{Cell, Value};
 
-/// Refuses what weighs more than 4,096 bytes.
-pub fn limit(bytes: u64) -> Result<(), PushRefused>
+/// Refuses what weighs more than [`MOST_WEIGHT`].
+pub fn check_weight(bytes: u64) -> Result<(), PushRefused>
     ensures { result ≡ checked (weight_refusal bytes) }
 {
-    if bytes > 4096 {
+    if bytes > MOST_WEIGHT {
         Err(PushRefused::TooLong { bytes })
     } else {
         Ok(())

@@ -10,7 +10,7 @@ use Rattle.ls_event.specs.declared.event.Event.{Event}
 use Rattle.ls_event.specs.declared.event.Event.TheVariants.{Update, Clear}
 use Rattle.ls_event.specs.declared.event.Entry.{Entry}
 use Rattle.ls_event.specs.History.{row_after, row_after_all}
-use Rattle.ls_event.specs.Cuts.{touched_cells, touched_after, touched_after_all, told_cells, says, told}
+use Rattle.ls_event.specs.Cuts.{touched_cells, touched_after, touched_after_all, flagged_cells, says, cell_saying}
 
 -- the rows have a value for each flag, and are equal where it isn't set
 abbrev pub Agrees : List Bool → List Value → List Value → Type 0
@@ -36,18 +36,18 @@ agrees_all (suc n) (a ∷ as') [] l m = absurd (omega (arith, m))
 agrees_all (suc n) (a ∷ as') (b ∷ bs) l m = ((λ h. cc), agrees_all n as' bs (omega (arith, l)) (omega (arith, m)))
 
 -- the client gets the row
-kept_told : (t : Bool) (a b : Value) → (t ≡ false → a ≡ b) → kept_or_taken a (cond t (told b) cell.Same) ≡ b
-kept_told true a value.Null h = refl
-kept_told true a (value.Text x) h = refl
-kept_told false a b h = h refl
+kept_flagged : (t : Bool) (a b : Value) → (t ≡ false → a ≡ b) → kept_or_taken a (cond t (cell_saying b) cell.Same) ≡ b
+kept_flagged true a value.Null h = refl
+kept_flagged true a (value.Text x) h = refl
+kept_flagged false a b h = h refl
 
-pub applied-told : (ts : List Bool) (a b : List Value) → Agrees ts a b → applied a (told_cells ts b) ≡ b
-applied-told [] [] [] h = refl
-applied-told [] [] (b ∷ bs) h = absurd h
-applied-told [] (a ∷ as') bs h = absurd h
-applied-told (t ∷ ts) [] bs h = absurd h
-applied-told (t ∷ ts) (a ∷ as') [] h = absurd h
-applied-told (t ∷ ts) (a ∷ as') (b ∷ bs) h = rw (kept_told t a b h.0) (ap (λ r. b ∷ r) (applied-told ts as' bs h.1))
+pub applied-flagged : (ts : List Bool) (a b : List Value) → Agrees ts a b → applied a (flagged_cells ts b) ≡ b
+applied-flagged [] [] [] h = refl
+applied-flagged [] [] (b ∷ bs) h = absurd h
+applied-flagged [] (a ∷ as') bs h = absurd h
+applied-flagged (t ∷ ts) [] bs h = absurd h
+applied-flagged (t ∷ ts) (a ∷ as') [] h = absurd h
+applied-flagged (t ∷ ts) (a ∷ as') (b ∷ bs) h = rw (kept_flagged t a b h.0) (ap (λ r. b ∷ r) (applied-flagged ts as' bs h.1))
 
 -- after cells
 kept_same : (t : Bool) (a b : Value) (c : Cell) → (t ≡ false → a ≡ b) → (t || says c) ≡ false → a ≡ kept_or_taken b c

@@ -22,9 +22,11 @@ use Rattle.ls_world.specs.Came.{whats}
 use Rattle.ls_world.specs.Tables.{projected_row}
 use Rattle.ls_world.specs.Lines.{came, texts}
 use Rattle.ls_world.specs.World.{World, Session, Live, history_of, shape_at}
-use Rattle.ls_world.specs.CommandMode.{noted_at, RowAgrees, LawfulCommand, IsToKnow}
-use Rattle.ls_world.specs.ClientKeys.{KeysAgree, KeysOf, ToldKeys}
-use Rattle.ls_world.specs.Lawful.{AreRead, Decodes, DecodesLive, Decoded, Lawful, LawfulLive, LawfulOf, LawfulSession}
+use Rattle.ls_event.specs.Slots.{Slot}
+use Rattle.ls_world.specs.Cutting.{Wanted}
+use Rattle.ls_world.specs.CommandMode.{cursor_of_key, RowAgrees, LawfulCommand, IsToKnow}
+use Rattle.ls_world.specs.ClientKeys.{KeysAgree, KeysOf, SubcmdKeys}
+use Rattle.ls_world.specs.Lawful.{AreRead, Decodes, ClientDecodes, ClientsDecode, Lawful, LawfulLive, LawfulOf, LawfulSession}
 use Rattle.ls_laws.specs.ClientTables.{HasTable}
 use Rattle.ls_world.proofs.Each.{each_contains}
 use Rattle.ls_laws.proofs.CommandSettled.{slot_settled}
@@ -42,43 +44,52 @@ same_lines (text ∷ all) (l ∷ ls) [] a b = absurd b
 same_lines (text ∷ all) (l ∷ ls) (m ∷ ms) a b = ap (λ x. x ∷ ls) (same_line text l m a.0.1 b.0.1) ∙ ap (λ xs. m ∷ xs) (same_lines all ls ms a.1 b.1)
 
 -- the rows by key of a client's table are those of what it decodes
-table_keys : (h : List Entry) (v : Live) (all : List (List ℕ)) (ws : List What) (t : Table) (d : Decodes h v all ws) → HasTable all v.sub v.place t → t.keys ≡ key_table d.came.subscription.keyed ws
+table_keys : (h : List Entry) (v : Live) (all : List (List ℕ)) (ws : List What) (t : Table) (d : Decodes h v all ws) → HasTable all v.sub v.rank t
+    → t.keys ≡ key_table d.came.subscription.keyed ws
 table_keys h v all ws t d x =
-    let mine : IsTableOf v.sub v.place d.lines t = subst (λ (ls : List WireLine). IsTableOf v.sub v.place ls t) (same_lines all x.lines d.lines x.read d.read) x.is in
+    let mine : IsTableOf v.sub v.rank d.lines t = subst (λ (ls : List WireLine). IsTableOf v.sub v.rank ls t) (same_lines all x.lines d.lines x.read d.read)
+    x.is in
     let same : t ≡ table_of d.came.subscription.keyed ws
-    = one_table v.sub v.place d.lines (table_of d.came.subscription.keyed ws) t (record { whats = ws; come = d.came; is = refl }) (omega (arith, d.schema, d.most)) mine in
+    = one_table v.sub v.rank d.lines (table_of d.came.subscription.keyed ws) t (record { whats = ws; come = d.came; is = refl })
+    (omega (arith, d.schema, d.most)) mine in
     ap (λ (u : Table). u.keys) same
 
-decoded_at : (w : World) (s : Session) (v : Live) → Lawful w → Contains w.sessions s → Contains s.board.round v → DecodesLive w.items s.board.lines v
+decoded_at : (w : World) (s : Session) (v : Live) → Lawful w → Contains w.sessions s → Contains s.board.round v → ClientDecodes w.items s.board.lines v
 decoded_at w s v l in_world in_round =
-    each_contains (DecodesLive w.items s.board.lines) v s.board.round
-    (each_contains (Decoded w.items) s w.sessions l.clients in_world) in_round
+    each_contains (ClientDecodes w.items s.board.lines) v s.board.round
+    (each_contains (ClientsDecode w.items) s w.sessions l.clients in_world) in_round
 
-pub keys_told : (w : World) (s : Session) (v : Live) (t : Table) → Lawful w → Contains w.sessions s → Contains s.board.round v → v.slot.plan.mode ≡ mode.Command → HasTable (texts s.board.lines) v.sub v.place t
+pub keys_told : (w : World) (s : Session) (v : Live) (t : Table) → Lawful w → Contains w.sessions s → Contains s.board.round v → v.slot.plan.mode ≡ mode.Command
+    → HasTable (texts s.board.lines) v.sub v.rank t
     → KeysAgree (history_of w.items v.item) v.wanted v.slot t.keys
 keys_told w s v t l in_world in_round command x =
-    let d : DecodesLive w.items s.board.lines v = decoded_at w s v l in_world in_round in
+    let d : ClientDecodes w.items s.board.lines v = decoded_at w s v l in_world in_round in
     subst (λ (keys : KeyTable). KeysAgree (history_of w.items v.item) v.wanted v.slot keys)
-    (sym (table_keys (history_of w.items v.item) v (texts s.board.lines) (whats (came v.sub v.place s.board.lines)) t d x)) (of_command d).rows
+    (sym (table_keys (history_of w.items v.item) v (texts s.board.lines) (whats (came v.sub v.rank s.board.lines)) t d x)) (of_command d).rows
   where
-    of_command : (d : DecodesLive w.items s.board.lines v) → ToldKeys (history_of w.items v.item) v.wanted v.slot d.came.subscription.keyed (whats (came v.sub v.place s.board.lines))
+    of_command : (d : ClientDecodes w.items s.board.lines v) → SubcmdKeys (history_of w.items v.item) v.wanted v.slot d.came.subscription.keyed
+        (whats (came v.sub v.rank s.board.lines))
     of_command d =
-        subst (λ (m : Mode). KeysOf m (history_of w.items v.item) v.wanted v.slot d.came.subscription.keyed (whats (came v.sub v.place s.board.lines))) command d.keys
+        subst (λ (m : Mode). KeysOf m (history_of w.items v.item) v.wanted v.slot d.came.subscription.keyed (whats (came v.sub v.rank s.board.lines))) command
+        d.keys
 
--- two rows that agree with the item's at the place of their key are equal
-same_row : (p : Shape) (h : List Entry) (schema : List ℕ) (place last : ℕ) (k : List ℕ) (a b : Option (List Value)) (o : Option ℕ) → RowAgrees p h schema place last k a o → RowAgrees p h schema place last k b o → a ≡ b
-same_row p h schema place last k a b None x y = x ∙ sym y
-same_row p h schema place last k a b (Some q) x y = x.2 ∙ sym y.2
+-- two rows that agree with the item's at the cursor of their key are equal
+same_row : (h : List Entry) (w : Wanted) (s : Slot) (k : List ℕ) (a b : Option (List Value)) (o : Option ℕ) → RowAgrees h w s k a o → RowAgrees h w s k b o
+    → a ≡ b
+same_row h w s k a b None x y = x ∙ sym y
+same_row h w s k a b (Some q) x y = x.2 ∙ sym y.2
 
 -- once the slot has no cut, they are the item's after the last event that was enqueued
-pub keys_settled : (w : World) (s : Session) (v : Live) (t : Table) → Lawful w → Contains w.sessions s → Contains s.board.round v → v.slot.plan.mode ≡ mode.Command → HasTable (texts s.board.lines) v.sub v.place t
+pub keys_settled : (w : World) (s : Session) (v : Live) (t : Table) → Lawful w → Contains w.sessions s → Contains s.board.round v
+    → v.slot.plan.mode ≡ mode.Command → HasTable (texts s.board.lines) v.sub v.rank t
     → cut (history_of w.items v.item) v.slot ≡ None → (k : List ℕ) → IsToKnow (history_of w.items v.item) v.wanted v.slot k
     → finite.get t.keys k ≡ projected_row v.wanted.places (row_at k (keyed (shape_at w.items v.item) (history_of w.items v.item) v.slot.last))
 keys_settled w s v t l in_world in_round command x none k know =
     let b : LawfulSession w.items s = each_contains (LawfulSession w.items) s w.sessions l.records.sessions in_world in
     let m : LawfulLive w.items s.board.lines v = each_contains (LawfulLive w.items s.board.lines) v s.board.round b.board.slots in_round in
-    let c : LawfulCommand (history_of w.items v.item) v.wanted v.slot (came v.sub v.place s.board.lines)
-    = subst (λ (y : Mode). LawfulOf y (history_of w.items v.item) v.wanted v.slot (came v.sub v.place s.board.lines)) command m.told in
-    same_row v.slot.plan.shape (history_of w.items v.item) v.wanted.places v.slot.place v.slot.last k (finite.get t.keys k) _ (noted_at k v.slot.noted) (keys_told w s v t l in_world in_round command x k) (c.agrees k)
-    ∙ slot_settled (history_of w.items v.item) v.wanted v.slot (came v.sub v.place s.board.lines) m.told command none k know
+    let c : LawfulCommand (history_of w.items v.item) v.wanted v.slot (came v.sub v.rank s.board.lines)
+    = subst (λ (y : Mode). LawfulOf y (history_of w.items v.item) v.wanted v.slot (came v.sub v.rank s.board.lines)) command m.came in
+    same_row (history_of w.items v.item) v.wanted v.slot k (finite.get t.keys k) _ (cursor_of_key k v.slot.key_cursors)
+    (keys_told w s v t l in_world in_round command x k) (c.agrees k)
+    ∙ slot_settled (history_of w.items v.item) v.wanted v.slot (came v.sub v.rank s.board.lines) m.came command none k know
     ∙ ap (λ (p : Shape). projected_row v.wanted.places (row_at k (keyed p (history_of w.items v.item) v.slot.last))) m.shape

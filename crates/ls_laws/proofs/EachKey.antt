@@ -22,7 +22,8 @@ pub each_with : (P : List ℕ → List Value → Type 0) (k : List ℕ) (r : Lis
 each_with P k r [] i e = (i, tt)
 each_with P k r (x ∷ ks) i e = by_tests (text_eq x.key k) (is_before k x.key) (each_with P k r ks i e.1)
   where
-    by_tests : (a b : Bool) → EachKey P (with_row k r ks) → EachKey P (cond a (record { key = k; row = r } ∷ ks) (cond b (record { key = k; row = r } ∷ x ∷ ks) (x ∷ with_row k r ks)))
+    by_tests : (a b : Bool) → EachKey P (with_row k r ks)
+        → EachKey P (cond a (record { key = k; row = r } ∷ ks) (cond b (record { key = k; row = r } ∷ x ∷ ks) (x ∷ with_row k r ks)))
     by_tests true b more = (i, e.1)
     by_tests false true more = (i, e)
     by_tests false false more = (e.0, more)

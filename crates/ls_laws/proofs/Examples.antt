@@ -1,5 +1,5 @@
 -- Short scripts, run in the definitions alone: the steps that their lines ask for, and what is printed for them.
-use Rattle.std.proofs.Common.{◌≡◌, ℕ, ◌^◌, List, [], ◌∷◌, ◌++◌, ◌+◌, length, replicate, refl, codes, Bool, true, false, Option, None, Some, Err, nat_le, nat_lt}
+use Rattle.std.proofs.Common.{◌≡◌, ℕ, List, [], ◌∷◌, ◌++◌, ◌+◌, length, replicate, refl, codes, Bool, true, false, Option, None, Some, nat_lt}
 use Rattle.std.specs.Fmt.{digits}
 use Rattle.ls_value.specs.declared.row.Cell.{Cell}
 use Rattle.ls_value.specs.declared.row.Cell.TheVariants as cell
@@ -16,17 +16,20 @@ use Rattle.ls_event.specs.Slots.{Slot, passed}
 use Rattle.ls_form.specs.declared.form.Pair.{Pair}
 use Rattle.ls_mirror.specs.Client.{Row, Lost}
 use Rattle.ls_request.specs.declared.request.LinkKind.TheVariants as link
-use Rattle.ls_script.specs.declared.step.AddWords.{AddWords}
-use Rattle.ls_script.specs.declared.step.Step.TheVariants as step
-use Rattle.ls_script.specs.Adding.{are_utf8, all_pairs, parameter}
+use Rattle.ls_step.specs.declared.step.AddWords.{AddWords}
+use Rattle.ls_step.specs.declared.step.Step.TheVariants as step
+use Rattle.ls_step.specs.Adding.{are_utf8, all_pairs, parameter}
 use Rattle.ls_world.specs.declared.Refused.TheVariants.{BadScript, NotBuilt}
-use Rattle.ls_world.specs.Cutting.{Ask, Wanted, turn}
+use Rattle.ls_world.specs.Cutting.{Wanted, turn}
 use Rattle.ls_world.specs.Lines.{Ends}
-use Rattle.ls_world.specs.World.{World, Live, Session, all_live, empty, opened}
-use Rattle.ls_world.specs.Acting.{subscriptions, asked_or_spent}
+use Rattle.ls_world.specs.World.{World, Live, Session, is_used, empty, opened}
+use Rattle.ls_request.specs.declared.request.Add.{Add}
+use Rattle.ls_value.specs.declared.limits.TheConstants.{GREATEST_NUMBER}
+use Rattle.ls_world.specs.declared.TheConstants.{MOST_UNSENT}
+use Rattle.ls_world.specs.Acting.{is_group, group_of, is_allowed, is_schema, is_full, unsent, add_code}
 use Rattle.ls_world.specs.Steps.{Stepped, requests, does}
 use Rattle.ls_world.specs.Built.{are_built}
-use Rattle.ls_world.specs.Script.{counted, lines_of, text_of, text_of_outs, done, first_refused}
+use Rattle.ls_world.specs.Script.{counted, lines_of, output_of, text_of_outs, done, first_refused}
 
 -- one line after another, each counted, and what is printed for them
 abbrev printed_from : World → List (World → Stepped) → List ℕ
@@ -60,7 +63,8 @@ add_line w words h = rw h refl
 
 -- `add c 1 q FIELDS MODE snapshot=.. buffer=..`
 abbrev add : Mode → List ℕ → Option (List ℕ) → Option (List ℕ) → World → Stepped
-add m fields snapshot buffer w = asks (record { sub = codes "1"; items = codes "q"; fields = fields; mode = m; snapshot = snapshot; buffer = buffer; frequency = None }) w
+add m fields snapshot buffer w =
+    asks (record { sub = codes "1"; items = codes "q"; fields = fields; mode = m; snapshot = snapshot; buffer = buffer; frequency = None }) w
 
 -- `pub 1 SEQ q ..`, `clear 1 SEQ q`, `enq c 1 1 TIMES` and `take c TIMES`
 abbrev publish : ℕ → List Cell → World → Stepped
@@ -89,25 +93,32 @@ opening = codes "c:CONOK,S1,50000,5000,*\nc:SERVNAME,tlcpd\nc:CONS,unlimited\n"
 -- mode MERGE
 
 -- a quote of two fields, published after the subscription, and told
-pub quote : printed (item kind.Merge (codes "last" ∷ codes "time" ∷ []) ∷ opens ∷ add mode.Merge (codes "last,time") None None ∷ publish 1 (text (codes "3.04") ∷ text (codes "20:00:33") ∷ []) ∷ enqueue 1 ∷ take 9 ∷ [])
+pub quote : printed (item kind.Merge (codes "last" ∷ codes "time" ∷ []) ∷ opens ∷ add mode.Merge (codes "last,time") None None
+    ∷ publish 1 (text (codes "3.04") ∷ text (codes "20:00:33") ∷ []) ∷ enqueue 1 ∷ take 9 ∷ [])
     ≡ codes "c:REQOK,3\n-no 1\n-moved 1\n" ++ opening ++ codes "c:SUBOK,1,1,2\nc:CONF,1,unlimited,filtered\nc:U,1,1,3.04|20:00:33\n-idle\n"
 unfolding digits
 quote = refl
 
 -- a value that goes and comes back within one cut makes no line
-pub unchanged : printed (item kind.Merge (codes "x" ∷ []) ∷ opens ∷ add mode.Merge (codes "x") None None ∷ publish 1 (text (codes "A") ∷ []) ∷ enqueue 1 ∷ take 9 ∷ publish 2 (text (codes "B") ∷ []) ∷ publish 3 (text (codes "A") ∷ []) ∷ enqueue 2 ∷ take 1 ∷ [])
-    ≡ codes "c:REQOK,3\n-no 1\n-moved 1\n" ++ opening ++ codes "c:SUBOK,1,1,1\nc:CONF,1,unlimited,filtered\nc:U,1,1,A\n-idle\n-no 2\n-no 3\n-moved 2\n-moved 3\n-idle\n"
+pub unchanged : printed (item kind.Merge (codes "x" ∷ []) ∷ opens ∷ add mode.Merge (codes "x") None None ∷ publish 1 (text (codes "A") ∷ []) ∷ enqueue 1
+    ∷ take 9 ∷ publish 2 (text (codes "B") ∷ []) ∷ publish 3 (text (codes "A") ∷ []) ∷ enqueue 2 ∷ take 1 ∷ [])
+    ≡ codes "c:REQOK,3\n-no 1\n-moved 1\n" ++ opening ++ codes "c:SUBOK,1,1,1\nc:CONF,1,unlimited,filtered\nc:U,1,1,A\n-idle\n-no 2\n-no 3\n-moved 2\n-moved"
+    ++ codes " 3\n-idle\n"
 unfolding digits
 unchanged = refl
 
 -- a seq that comes again, a slot that is up to date, and a field that was never set
-pub notes : printed (item kind.Merge (codes "x" ∷ codes "y" ∷ []) ∷ opens ∷ add mode.Merge (codes "y,x") None None ∷ publish 5 (text (codes "1") ∷ cell.Same ∷ []) ∷ publish 5 (text (codes "1") ∷ cell.Same ∷ []) ∷ enqueue 5 ∷ (λ w. does w (step.Enqueue 0 1 2) 1) ∷ take 9 ∷ [])
-    ≡ codes "c:REQOK,3\n-no 1\n-repeated 5\n-moved 1\n-uptodate\n-noslot\n" ++ opening ++ codes "c:SUBOK,1,1,2\nc:CONF,1,unlimited,filtered\nc:U,1,1,#|1\n-idle\n"
+pub notes : printed (item kind.Merge (codes "x" ∷ codes "y" ∷ []) ∷ opens ∷ add mode.Merge (codes "y,x") None None
+    ∷ publish 5 (text (codes "1") ∷ cell.Same ∷ []) ∷ publish 5 (text (codes "1") ∷ cell.Same ∷ []) ∷ enqueue 5 ∷ (λ w. does w (step.Enqueue 0 1 2) 1) ∷ take 9
+    ∷ [])
+    ≡ codes "c:REQOK,3\n-no 1\n-repeated 5\n-moved 1\n-uptodate\n-noslot\n" ++ opening
+    ++ codes "c:SUBOK,1,1,2\nc:CONF,1,unlimited,filtered\nc:U,1,1,#|1\n-idle\n"
 unfolding digits
 notes = refl
 
 -- a value that the text form of a line escapes, published before the subscription and after it
-pub escaped : printed (item kind.Merge (codes "x" ∷ []) ∷ publish 1 (text (codes "A") ∷ []) ∷ opens ∷ add mode.Merge (codes "x") None None ∷ enqueue 1 ∷ publish 2 (text (codes "#") ∷ []) ∷ enqueue 1 ∷ take 9 ∷ [])
+pub escaped : printed (item kind.Merge (codes "x" ∷ []) ∷ publish 1 (text (codes "A") ∷ []) ∷ opens ∷ add mode.Merge (codes "x") None None ∷ enqueue 1
+    ∷ publish 2 (text (codes "#") ∷ []) ∷ enqueue 1 ∷ take 9 ∷ [])
     ≡ codes "-no 1\nc:REQOK,4\n-uptodate\n-no 2\n-moved 2\n" ++ opening ++ codes "c:SUBOK,1,1,1\nc:CONF,1,unlimited,filtered\nc:U,1,1,%23\n-idle\n"
 unfolding digits
 escaped = refl
@@ -116,14 +127,17 @@ escaped = refl
 abbrev fields_abc : List (List ℕ)
 fields_abc = codes "a" ∷ codes "b" ∷ codes "c" ∷ []
 
-pub merge_of_two : printed (item kind.Merge fields_abc ∷ opens ∷ add mode.Merge (codes "a,b,c") None (Some (codes "2")) ∷ publish 1 (text (codes "1") ∷ cell.Same ∷ cell.Same ∷ []) ∷ publish 2 (cell.Same ∷ text (codes "2") ∷ cell.Same ∷ [])
+pub merge_of_two : printed (item kind.Merge fields_abc ∷ opens ∷ add mode.Merge (codes "a,b,c") None (Some (codes "2"))
+    ∷ publish 1 (text (codes "1") ∷ cell.Same ∷ cell.Same ∷ []) ∷ publish 2 (cell.Same ∷ text (codes "2") ∷ cell.Same ∷ [])
     ∷ publish 3 (cell.Same ∷ cell.Same ∷ text (codes "3") ∷ []) ∷ enqueue 3 ∷ take 9 ∷ [])
-    ≡ codes "c:REQOK,3\n-no 1\n-no 2\n-no 3\n-moved 1\n-moved 2\n-moved 3\n" ++ opening ++ codes "c:SUBOK,1,1,3\nc:CONF,1,unlimited,filtered\nc:U,1,1,1|2|#\nc:U,1,1,||3\n-idle\n"
+    ≡ codes "c:REQOK,3\n-no 1\n-no 2\n-no 3\n-moved 1\n-moved 2\n-moved 3\n" ++ opening
+    ++ codes "c:SUBOK,1,1,3\nc:CONF,1,unlimited,filtered\nc:U,1,1,1|2|#\nc:U,1,1,||3\n-idle\n"
 unfolding digits
 merge_of_two = refl
 
 -- a snapshot behind a Clear, and one of an item without events
-pub merge_cleared : printed (item kind.Merge (codes "x" ∷ []) ∷ publish 1 (text (codes "1") ∷ []) ∷ clear 2 ∷ opens ∷ add mode.Merge (codes "x") (Some (codes "true")) None ∷ take 9 ∷ [])
+pub merge_cleared : printed (item kind.Merge (codes "x" ∷ []) ∷ publish 1 (text (codes "1") ∷ []) ∷ clear 2 ∷ opens
+    ∷ add mode.Merge (codes "x") (Some (codes "true")) None ∷ take 9 ∷ [])
     ≡ codes "-no 1\n-no 2\nc:REQOK,5\n" ++ opening ++ codes "c:SUBOK,1,1,1\nc:CONF,1,unlimited,filtered\nc:U,1,1,#\n-idle\n"
 unfolding digits
 merge_cleared = refl
@@ -134,7 +148,8 @@ unfolding digits
 merge_no_events = refl
 
 -- mode RAW tells each update, an equal row in an empty list of fields
-pub raw_twice : printed (item kind.Merge (codes "x" ∷ []) ∷ opens ∷ add mode.Raw (codes "x") None None ∷ publish 1 (text (codes "1") ∷ []) ∷ publish 2 (text (codes "1") ∷ []) ∷ enqueue 2 ∷ take 9 ∷ [])
+pub raw_twice : printed (item kind.Merge (codes "x" ∷ []) ∷ opens ∷ add mode.Raw (codes "x") None None ∷ publish 1 (text (codes "1") ∷ [])
+    ∷ publish 2 (text (codes "1") ∷ []) ∷ enqueue 2 ∷ take 9 ∷ [])
     ≡ codes "c:REQOK,3\n-no 1\n-no 2\n-moved 1\n-moved 2\n" ++ opening ++ codes "c:SUBOK,1,1,1\nc:CONF,1,unlimited,unfiltered\nc:U,1,1,1\nc:U,1,1,\n-idle\n"
 unfolding digits
 raw_twice = refl
@@ -149,24 +164,29 @@ one_field = record { places = 0 ∷ []; snapshot = None }
 abbrev raw_behind : Slot
 raw_behind = record (joined (plan_of (record { kind = kind.Merge; fields = 1; key = 0; command = 0 }) [] mode.Raw 1) [] None) { last = 300 }
 
-pub raw_lost : (turn (replicate 300 update) one_field raw_behind []).told ≡ Some (record { what = Lost 44; before = 0; upto = 44; at = 300 })
+pub raw_lost : (turn (replicate 300 update) one_field raw_behind []).came ≡ Some (record { what = Lost 44; before = 0; upto = 44; at = 300 })
 raw_lost = refl
 
-pub raw_next : (turn (replicate 300 update) one_field (passed raw_behind (taken.Lost 44 44)) []).told ≡ Some (record { what = Row (value.Text (codes "A") ∷ []); before = 44; upto = 45; at = 300 })
+pub raw_next : (turn (replicate 300 update) one_field (passed raw_behind (taken.Lost 44 44)) []).came
+    ≡ Some (record { what = Row (value.Text (codes "A") ∷ []); before = 44; upto = 45; at = 300 })
 raw_next = refl
 
 -- mode DISTINCT: a buffer of size 2 keeps the last two of five
 abbrev message : ℕ → List ℕ → World → Stepped
 message seq t = publish seq (text t ∷ [])
 
-pub distinct_of_two : printed (item kind.Distinct (codes "m" ∷ []) ∷ opens ∷ add mode.Distinct (codes "m") None (Some (codes "2")) ∷ message 1 (codes "1") ∷ message 2 (codes "2") ∷ message 3 (codes "3") ∷ message 4 (codes "4") ∷ message 5 (codes "5") ∷ enqueue 5 ∷ take 9 ∷ [])
-    ≡ codes "c:REQOK,3\n-no 1\n-no 2\n-no 3\n-no 4\n-no 5\n-moved 1\n-moved 2\n-moved 3\n-moved 4\n-moved 5\n" ++ opening ++ codes "c:SUBOK,1,1,1\nc:CONF,1,unlimited,filtered\nc:U,1,1,4\nc:U,1,1,5\n-idle\n"
+pub distinct_of_two : printed (item kind.Distinct (codes "m" ∷ []) ∷ opens ∷ add mode.Distinct (codes "m") None (Some (codes "2")) ∷ message 1 (codes "1")
+    ∷ message 2 (codes "2") ∷ message 3 (codes "3") ∷ message 4 (codes "4") ∷ message 5 (codes "5") ∷ enqueue 5 ∷ take 9 ∷ [])
+    ≡ codes "c:REQOK,3\n-no 1\n-no 2\n-no 3\n-no 4\n-no 5\n-moved 1\n-moved 2\n-moved 3\n-moved 4\n-moved 5\n" ++ opening
+    ++ codes "c:SUBOK,1,1,1\nc:CONF,1,unlimited,filtered\nc:U,1,1,4\nc:U,1,1,5\n-idle\n"
 unfolding digits
 distinct_of_two = refl
 
 -- a snapshot of one row, its end, and a Clear
-pub distinct_snapshot : printed (item kind.Distinct (codes "m" ∷ []) ∷ message 1 (codes "1") ∷ message 2 (codes "2") ∷ opens ∷ add mode.Distinct (codes "m") (Some (codes "1")) None ∷ clear 3 ∷ message 4 (codes "4") ∷ take 7 ∷ enqueue 2 ∷ take 9 ∷ [])
-    ≡ codes "-no 1\n-no 2\nc:REQOK,5\n-no 3\n-no 4\n" ++ opening ++ codes "c:SUBOK,1,1,1\nc:CONF,1,unlimited,filtered\nc:U,1,1,2\nc:EOS,1,1\n-moved 3\n-moved 4\nc:CS,1,1\nc:U,1,1,4\n-idle\n"
+pub distinct_snapshot : printed (item kind.Distinct (codes "m" ∷ []) ∷ message 1 (codes "1") ∷ message 2 (codes "2") ∷ opens
+    ∷ add mode.Distinct (codes "m") (Some (codes "1")) None ∷ clear 3 ∷ message 4 (codes "4") ∷ take 7 ∷ enqueue 2 ∷ take 9 ∷ [])
+    ≡ codes "-no 1\n-no 2\nc:REQOK,5\n-no 3\n-no 4\n" ++ opening ++ codes "c:SUBOK,1,1,1\nc:CONF,1,unlimited,filtered\nc:U,1,1,2\nc:EOS,1,1\n-moved 3\n-moved"
+    ++ codes " 4\nc:CS,1,1\nc:U,1,1,4\n-idle\n"
 unfolding digits
 distinct_snapshot = refl
 
@@ -181,33 +201,44 @@ abbrev subscribe : Option (List ℕ) → World → Stepped
 subscribe snapshot = add mode.Command (codes "key,command,qty,px") snapshot None
 
 -- without a snapshot a key that was there before is added at its first touch, and then changed and deleted
-pub command_rows : printed (table ∷ opens ∷ order 1 (codes "a") (codes "ADD") (text (codes "1")) (text (codes "9")) ∷ subscribe None ∷ order 2 (codes "a") (codes "UPDATE") (text (codes "3")) cell.Same ∷ enqueue 1 ∷ take 6
-    ∷ order 3 (codes "a") (codes "UPDATE") (text (codes "4")) cell.Same ∷ enqueue 1 ∷ take 1 ∷ order 4 (codes "a") (codes "DELETE") cell.Same cell.Same ∷ enqueue 1 ∷ take 9 ∷ [])
-    ≡ codes "-no 1\nc:REQOK,4\n-no 2\n-moved 2\n" ++ opening ++ codes "c:SUBCMD,1,1,4,1,2\nc:CONF,1,unlimited,filtered\nc:U,1,1,a|ADD|3|9\n-no 3\n-moved 3\nc:U,1,1,|UPDATE|4|\n-no 4\n-moved 4\nc:U,1,1,|DELETE|#|#\n-idle\n"
+pub command_rows : printed (table ∷ opens ∷ order 1 (codes "a") (codes "ADD") (text (codes "1")) (text (codes "9")) ∷ subscribe None
+    ∷ order 2 (codes "a") (codes "UPDATE") (text (codes "3")) cell.Same ∷ enqueue 1 ∷ take 6
+    ∷ order 3 (codes "a") (codes "UPDATE") (text (codes "4")) cell.Same ∷ enqueue 1 ∷ take 1 ∷ order 4 (codes "a") (codes "DELETE") cell.Same cell.Same
+    ∷ enqueue 1 ∷ take 9 ∷ [])
+    ≡ codes "-no 1\nc:REQOK,4\n-no 2\n-moved 2\n" ++ opening ++ codes "c:SUBCMD,1,1,4,1,2\nc:CONF,1,unlimited,filtered\nc:U,1,1,a|ADD|3|9\n-no 3\n-moved"
+    ++ codes " 3\nc:U,1,1,|UPDATE|4|\n-no 4\n-moved 4\nc:U,1,1,|DELETE|#|#\n-idle\n"
 unfolding digits
 command_rows = refl
 
 -- a key that comes and goes between two turns makes no line
-pub command_silent : printed (table ∷ opens ∷ subscribe None ∷ order 1 (codes "k") (codes "ADD") (text (codes "5")) cell.Same ∷ order 2 (codes "k") (codes "DELETE") cell.Same cell.Same ∷ enqueue 2 ∷ take 9
+pub command_silent : printed (table ∷ opens ∷ subscribe None ∷ order 1 (codes "k") (codes "ADD") (text (codes "5")) cell.Same
+    ∷ order 2 (codes "k") (codes "DELETE") cell.Same cell.Same ∷ enqueue 2 ∷ take 9
     ∷ order 3 (codes "k") (codes "ADD") (text (codes "7")) cell.Same ∷ enqueue 1 ∷ take 9 ∷ [])
-    ≡ codes "c:REQOK,3\n-no 1\n-no 2\n-moved 1\n-moved 2\n" ++ opening ++ codes "c:SUBCMD,1,1,4,1,2\nc:CONF,1,unlimited,filtered\n-idle\n-no 3\n-moved 3\nc:U,1,1,k|ADD|7|#\n-idle\n"
+    ≡ codes "c:REQOK,3\n-no 1\n-no 2\n-moved 1\n-moved 2\n" ++ opening ++ codes "c:SUBCMD,1,1,4,1,2\nc:CONF,1,unlimited,filtered\n-idle\n-no 3\n-moved"
+    ++ codes " 3\nc:U,1,1,k|ADD|7|#\n-idle\n"
 unfolding digits
 command_silent = refl
 
 -- a Clear drops a snapshot, whose keys else come in the order of their bytes
-pub command_cleared : printed (table ∷ opens ∷ order 1 (codes "a") (codes "ADD") cell.Same cell.Same ∷ order 2 (codes "b") (codes "ADD") cell.Same cell.Same ∷ subscribe (Some (codes "true")) ∷ clear 3
+pub command_cleared : printed (table ∷ opens ∷ order 1 (codes "a") (codes "ADD") cell.Same cell.Same ∷ order 2 (codes "b") (codes "ADD") cell.Same cell.Same
+    ∷ subscribe (Some (codes "true")) ∷ clear 3
     ∷ order 4 (codes "b") (codes "ADD") (text (codes "9")) cell.Same ∷ enqueue 2 ∷ take 9 ∷ [])
-    ≡ codes "-no 1\n-no 2\nc:REQOK,5\n-no 3\n-no 4\n-moved 3\n-moved 4\n" ++ opening ++ codes "c:SUBCMD,1,1,4,1,2\nc:CONF,1,unlimited,filtered\nc:EOS,1,1\nc:CS,1,1\nc:U,1,1,b|ADD|9|#\n-idle\n"
+    ≡ codes "-no 1\n-no 2\nc:REQOK,5\n-no 3\n-no 4\n-moved 3\n-moved 4\n" ++ opening
+    ++ codes "c:SUBCMD,1,1,4,1,2\nc:CONF,1,unlimited,filtered\nc:EOS,1,1\nc:CS,1,1\nc:U,1,1,b|ADD|9|#\n-idle\n"
 unfolding digits
 command_cleared = refl
 
-pub command_snapshot : printed (table ∷ opens ∷ order 1 (codes "b") (codes "ADD") cell.Same cell.Same ∷ order 2 (codes "a") (codes "ADD") cell.Same cell.Same ∷ subscribe (Some (codes "true")) ∷ take 9 ∷ [])
-    ≡ codes "-no 1\n-no 2\nc:REQOK,5\n" ++ opening ++ codes "c:SUBCMD,1,1,4,1,2\nc:CONF,1,unlimited,filtered\nc:U,1,1,a|ADD|#|#\nc:U,1,1,b|^3\nc:EOS,1,1\n-idle\n"
+pub command_snapshot : printed (table ∷ opens ∷ order 1 (codes "b") (codes "ADD") cell.Same cell.Same ∷ order 2 (codes "a") (codes "ADD") cell.Same cell.Same
+    ∷ subscribe (Some (codes "true")) ∷ take 9 ∷ [])
+    ≡ codes "-no 1\n-no 2\nc:REQOK,5\n" ++ opening
+    ++ codes "c:SUBCMD,1,1,4,1,2\nc:CONF,1,unlimited,filtered\nc:U,1,1,a|ADD|#|#\nc:U,1,1,b|^3\nc:EOS,1,1\n-idle\n"
 unfolding digits
 command_snapshot = refl
 
 -- why an update of a table is refused
-pub command_refusals : printed (table ∷ publish 9 (cell.Same ∷ text (codes "ADD") ∷ cell.Same ∷ cell.Same ∷ []) ∷ order 9 (codes "k") (codes "GO") cell.Same cell.Same ∷ order 9 (codes "k") (codes "UPDATE") cell.Same cell.Same ∷ order 9 (codes "k") (codes "UPDATE") cell.Same cell.Same ∷ [])
+pub command_refusals : printed (table ∷ publish 9 (cell.Same ∷ text (codes "ADD") ∷ cell.Same ∷ cell.Same ∷ [])
+    ∷ order 9 (codes "k") (codes "GO") cell.Same cell.Same ∷ order 9 (codes "k") (codes "UPDATE") cell.Same cell.Same
+    ∷ order 9 (codes "k") (codes "UPDATE") cell.Same cell.Same ∷ [])
     ≡ codes "-nokey\n-badcommand\n-no 1\n-repeated 9\n"
 unfolding digits
 command_refusals = refl
@@ -221,15 +252,20 @@ says name t = parameter name t
 abbrev create : List Pair → World → Stepped
 create ps = request (codes "create_session") ps
 
-pub by_requests : printed ((λ w. does w (step.Set (codes "A")) 1) ∷ item kind.Merge (codes "x" ∷ codes "y" ∷ []) ∷ conn ∷ create (says (codes "LS_adapter_set") (codes "B") ∷ []) ∷ create (says (codes "LS_adapter_set") (codes "A") ∷ says (codes "LS_keepalive_millis") (codes "900") ∷ [])
-    ∷ request (codes "control") (says (codes "LS_reqId") (codes "r") ∷ says (codes "LS_session") (codes "S1") ∷ says (codes "LS_op") (codes "add") ∷ says (codes "LS_subId") (codes "4") ∷ says (codes "LS_mode") (codes "MERGE")
+pub by_requests : printed ((λ w. does w (step.Set (codes "A")) 1) ∷ item kind.Merge (codes "x" ∷ codes "y" ∷ []) ∷ conn
+    ∷ create (says (codes "LS_adapter_set") (codes "B") ∷ []) ∷ create (says (codes "LS_adapter_set") (codes "A")
+    ∷ says (codes "LS_keepalive_millis") (codes "900") ∷ [])
+    ∷ request (codes "control") (says (codes "LS_reqId") (codes "r") ∷ says (codes "LS_session") (codes "S1") ∷ says (codes "LS_op") (codes "add")
+    ∷ says (codes "LS_subId") (codes "4") ∷ says (codes "LS_mode") (codes "MERGE")
     ∷ says (codes "LS_group") (codes "q") ∷ says (codes "LS_schema") (codes "y x") ∷ says (codes "LS_snapshot") (codes "true") ∷ []) ∷ take 9 ∷ [])
-    ≡ codes "c:CONERR,2,Unknown adapter set\nc:REQOK,r\nc:CONOK,S1,50000,1000,*\nc:SERVNAME,tlcpd\nc:CONS,unlimited\nc:SUBOK,4,1,2\nc:CONF,4,unlimited,filtered\n-idle\n"
+    ≡ codes "c:CONERR,2,Unknown adapter"
+    ++ codes " set\nc:REQOK,r\nc:CONOK,S1,50000,1000,*\nc:SERVNAME,tlcpd\nc:CONS,unlimited\nc:SUBOK,4,1,2\nc:CONF,4,unlimited,filtered\n-idle\n"
 unfolding digits
 by_requests = refl
 
 -- requests that are malformed, by their names
-pub malformed : printed (conn ∷ request (codes "nonsense") [] ∷ request (codes "wsok") [] ∷ request (codes "control") (says (codes "LS_reqId") (codes "7") ∷ []) ∷ create (says (codes "LS_polling") (codes "true") ∷ []) ∷ take 1 ∷ enqueue 1 ∷ [])
+pub malformed : printed (conn ∷ request (codes "nonsense") [] ∷ request (codes "wsok") [] ∷ request (codes "control") (says (codes "LS_reqId") (codes "7") ∷ [])
+    ∷ create (says (codes "LS_polling") (codes "true") ∷ []) ∷ take 1 ∷ enqueue 1 ∷ [])
     ≡ codes "c:ERROR,65,Malformed request\nc:WSOK\nc:REQERR,7,65,Malformed request\nc:CONERR,65,Malformed request\n-none\n-noslot\n"
 unfolding digits
 malformed = refl
@@ -238,9 +274,11 @@ malformed = refl
 abbrev add_of : List ℕ → List ℕ → Mode → World → Stepped
 add_of items fields m w = asks (record { sub = codes "1"; items = items; fields = fields; mode = m; snapshot = None; buffer = None; frequency = None }) w
 
-pub refusals : printed (item kind.Merge (codes "x" ∷ []) ∷ conn ∷ add_of (codes "q") (codes "x") mode.Merge ∷ create [] ∷ add_of (codes "ghost") (codes "x") mode.Merge ∷ add_of (codes "q") (codes "z") mode.Merge ∷ add_of (codes "q") (codes "x") mode.Distinct
+pub refusals : printed (item kind.Merge (codes "x" ∷ []) ∷ conn ∷ add_of (codes "q") (codes "x") mode.Merge ∷ create []
+    ∷ add_of (codes "ghost") (codes "x") mode.Merge ∷ add_of (codes "q") (codes "z") mode.Merge ∷ add_of (codes "q") (codes "x") mode.Distinct
     ∷ add_of (codes "q") (codes "x") mode.Merge ∷ add_of (codes "q") (codes "x") mode.Merge ∷ [])
-    ≡ codes "c:REQERR,3,20,Unknown session\nc:REQERR,5,21,Bad group\nc:REQERR,6,23,Bad schema\nc:REQERR,7,24,Mode not allowed\nc:REQOK,8\nc:REQERR,9,72,Subscription id in use\n"
+    ≡ codes "c:REQERR,3,20,Unknown session\nc:REQERR,5,21,Bad group\nc:REQERR,6,23,Bad schema\nc:REQERR,7,24,Mode not"
+    ++ codes " allowed\nc:REQOK,8\nc:REQERR,9,72,Subscription id in use\n"
 unfolding digits
 refusals = refl
 
@@ -262,18 +300,22 @@ too_many_lines = refl
 
 -- and too many subscriptions
 abbrev slot_of : ℕ → Live
-slot_of sub = record { sub = sub; place = 1; item = 0; number = 1; wanted = one_field; slot = raw_behind }
+slot_of sub = record { sub = sub; rank = 1; item = 0; number = 1; wanted = one_field; slot = raw_behind }
 
 abbrev subscribed : Session → Session
 subscribed s = record s { board = record { lines = []; round = replicate 256 (slot_of 9) } }
 
-pub too_many_subscriptions : printed_from (with_session subscribed) (add_of (codes "q") (codes "x") mode.Merge ∷ []) ≡ codes "c:REQERR,3,71,Too many subscriptions\n"
+pub too_many_subscriptions : printed_from (with_session subscribed) (add_of (codes "q") (codes "x") mode.Merge ∷ [])
+    ≡ codes "c:REQERR,3,71,Too many subscriptions\n"
 unfolding digits
 too_many_subscriptions = refl
 
 -- and a session whose numbered lines are spent
-pub spent : (w : World) (s : Session) (asks : List Ask) → nat_le 256 (subscriptions s.board.round) ≡ false → nat_lt 4096 (length (all_live w.sessions) + length asks) ≡ false → nat_lt (2 ^ 60) (length s.board.lines + 2) ≡ true → asked_or_spent w s asks ≡ Err 74
-spent w s asks few room full = rw (few, room, full) refl
+pub spent : (w : World) (s : Session) (a : Add) → is_used a.sub s.board.round ≡ false → nat_lt MOST_UNSENT (unsent s + 2) ≡ false
+    → is_group w.items a.group ≡ true
+    → is_allowed w.items a.mode (group_of w.items a.group) ≡ true → is_schema w.items a.mode (group_of w.items a.group) a.schema ≡ true
+    → is_full w s a.group ≡ false → nat_lt GREATEST_NUMBER (length s.board.lines + 2) ≡ true → add_code w s a ≡ Some 74
+spent w s a new room group allowed schema few full = rw (new, room, group, allowed, schema, few, full) refl
 
 -- lines outside the grammar
 
@@ -310,7 +352,8 @@ a_loss = refl
 abbrev is_built_add : List (World → Stepped) → List ℕ → Mode → Bool
 is_built_add lines fields m =
     let w = after empty lines in
-    are_built w 0 (codes "control") (Some (all_pairs w.line (record { sub = codes "1"; items = codes "q"; fields = fields; mode = m; snapshot = None; buffer = None; frequency = None })))
+    are_built w 0 (codes "control")
+    (Some (all_pairs w.line (record { sub = codes "1"; items = codes "q"; fields = fields; mode = m; snapshot = None; buffer = None; frequency = None })))
 
 pub first_subscription : is_built_add (item kind.Merge (codes "x" ∷ []) ∷ opens ∷ []) (codes "x") mode.Merge ≡ true
 unfolding digits
@@ -324,14 +367,16 @@ pub second_subscription : is_built_add (item kind.Merge (codes "x" ∷ []) ∷ o
 unfolding digits
 second_subscription = refl
 
-pub a_bandwidth : are_built (after empty (conn ∷ [])) 0 (codes "create_session") (Some (says (codes "LS_requested_max_bandwidth") (codes "unlimited") ∷ [])) ≡ false
+pub a_bandwidth : are_built (after empty (conn ∷ [])) 0 (codes "create_session") (Some (says (codes "LS_requested_max_bandwidth") (codes "unlimited") ∷ []))
+    ≡ false
 a_bandwidth = refl
 
 -- lines without a step of their own compute as bytes
 
-pub plain_lines : text_of empty (lines_of true (codes "item q MERGE x\nclear 1 1 q\nclear 1 1 q\nopen c\nenq c 1 1\ntake c 9\n")) ≡ codes "-no 1\n-repeated 1\n-noslot\n" ++ opening ++ codes "-idle\n"
+pub plain_lines : output_of empty (lines_of true (codes "item q MERGE x\nclear 1 1 q\nclear 1 1 q\nopen c\nenq c 1 1\ntake c 9\n"))
+    ≡ codes "-no 1\n-repeated 1\n-noslot\n" ++ opening ++ codes "-idle\n"
 unfolding digits
 plain_lines = refl
 
-pub no_lines : text_of empty (lines_of true []) ≡ []
+pub no_lines : output_of empty (lines_of true []) ≡ []
 no_lines = refl

@@ -1,5 +1,6 @@
 -- What a client decodes by the lines of a session.
-use Rattle.std.proofs.Common.{◌≡◌, ◌==◌, ℕ, ◌<◌, ◌≤◌, ◌^◌, List, [], ◌∷◌, length, refl, sym, ◌∙◌, ap, subst, cond, Bool, true, false, ◌&&◌, Option, None, Some, All}
+use Rattle.std.proofs.Common.{◌≡◌, ◌==◌, ℕ, ◌<◌, ◌≤◌, ◌^◌, List, [], ◌∷◌, length, refl, sym, ◌∙◌, ap, subst, cond, Bool, true, false, ◌&&◌, Option, None, Some}
+use Rattle.std.proofs.Common.{All}
 use Rattle.std.proofs.lemmas.Bool.{eqb-true}
 use Rattle.std.proofs.lemmas.List.Elements.{All-nil, All-cons}
 use Rattle.ls_value.proofs.Rows.{and_left, and_right}
@@ -10,7 +11,8 @@ use Rattle.ls_update.proofs.ReadBack.{read_back}
 use Rattle.ls_line.specs.declared.line.Line.{Line as WireLine}
 use Rattle.ls_line.specs.Lines.{is_of_message, IsWritable}
 use Rattle.ls_line.proofs.Rows.{read_again}
-use Rattle.ls_mirror.specs.Client.{Begun, begun, begun_after, Heard, Coded, Missed, Emptied, Ended, heard, heard_of, heard_after, What, Row, Lost, Cleared, End, last_row as last_row_of, Decoded, HasCome}
+use Rattle.ls_mirror.specs.Client.{Begun, begun, begun_after, Heard, Coded, Missed, Emptied, Ended, heard, heard_of, heard_after, What, Row, Lost, Cleared, End}
+use Rattle.ls_mirror.specs.Client.{last_row as last_row_of, AreDecoded, HasCome}
 use Rattle.ls_world.specs.Came.{Came, whats}
 use Rattle.ls_world.specs.Lines.{Line, Begins, Ends, Configures, Tells, came, last_row, tells_line, wire, texts}
 use Rattle.ls_world.specs.Lawful.{Each, AreRead}
@@ -31,35 +33,40 @@ abbrev coded : List What → List Heard
 coded [] = []
 coded (w ∷ ws) = coded_of (last_row_of ws) w ∷ coded ws
 
-tells_heard : (prev : Option (List Value)) (sub place s p : ℕ) (w : What) (before : List Heard) → heard_after sub place (tells_line prev s p w) before ≡ heard_of ((s == sub) && (p == place)) (coded_of prev w) before
-tells_heard prev sub place s p (Row r) before = refl
-tells_heard prev sub place s p (Lost k) before = refl
-tells_heard prev sub place s p Cleared before = refl
-tells_heard prev sub place s p End before = refl
+tells_heard : (prev : Option (List Value)) (sub rank s p : ℕ) (w : What) (before : List Heard)
+    → heard_after sub rank (tells_line prev s p w) before ≡ heard_of ((s == sub) && (p == rank)) (coded_of prev w) before
+tells_heard prev sub rank s p (Row r) before = refl
+tells_heard prev sub rank s p (Lost k) before = refl
+tells_heard prev sub rank s p Cleared before = refl
+tells_heard prev sub rank s p End before = refl
 
 started : (b : Bool) (hs : List Heard) (cs : List Came) → hs ≡ coded (whats cs) → cond b [] hs ≡ coded (whats (cond b [] cs))
 started true hs cs e = refl
 started false hs cs e = e
 
-here_or_not : (sub place s p : ℕ) (lines : List Line) (c : Came) (hs : List Heard) (b : Bool) → ((s == sub) && (p == place)) ≡ b → hs ≡ coded (whats (came sub place lines))
-    → heard_of b (coded_of (last_row (came s p lines)) c.what) hs ≡ coded (whats (cond b (c ∷ came sub place lines) (came sub place lines)))
-here_or_not sub place s p lines c hs false t e = e
-here_or_not sub place s p lines c hs true t e =
-    let of_sub : s ≡ sub = eqb-true s sub (and_left (s == sub) (p == place) t) in
-    let at_place : p ≡ place = eqb-true p place (and_right (s == sub) (p == place) t) in
-    subst (λ (n : ℕ). coded_of (last_row (came n p lines)) c.what ∷ hs ≡ coded_of (last_row (came sub place lines)) c.what ∷ coded (whats (came sub place lines))) (sym of_sub)
-    (subst (λ (n : ℕ). coded_of (last_row (came sub n lines)) c.what ∷ hs ≡ coded_of (last_row (came sub place lines)) c.what ∷ coded (whats (came sub place lines))) (sym at_place)
-    (ap (λ (rest : List Heard). coded_of (last_row (came sub place lines)) c.what ∷ rest) e))
+here_or_not : (sub rank s p : ℕ) (lines : List Line) (c : Came) (hs : List Heard) (b : Bool) → ((s == sub) && (p == rank)) ≡ b
+    → hs ≡ coded (whats (came sub rank lines))
+    → heard_of b (coded_of (last_row (came s p lines)) c.what) hs ≡ coded (whats (cond b (c ∷ came sub rank lines) (came sub rank lines)))
+here_or_not sub rank s p lines c hs false t e = e
+here_or_not sub rank s p lines c hs true t e =
+    let of_sub : s ≡ sub = eqb-true s sub (and_left (s == sub) (p == rank) t) in
+    let at_place : p ≡ rank = eqb-true p rank (and_right (s == sub) (p == rank) t) in
+    subst (λ (n : ℕ). coded_of (last_row (came n p lines)) c.what ∷ hs ≡ coded_of (last_row (came sub rank lines)) c.what ∷ coded (whats (came sub rank lines)))
+    (sym of_sub)
+    (subst (λ (n : ℕ). coded_of (last_row (came sub n lines)) c.what ∷ hs ≡ coded_of (last_row (came sub rank lines)) c.what
+    ∷ coded (whats (came sub rank lines))) (sym at_place)
+    (ap (λ (rest : List Heard). coded_of (last_row (came sub rank lines)) c.what ∷ rest) e))
 
-pub heard_wires : (sub place : ℕ) (lines : List Line) → heard sub place (wires lines) ≡ coded (whats (came sub place lines))
-heard_wires sub place [] = refl
-heard_wires sub place (Begins s items fields None ∷ lines) = started (s == sub) (heard sub place (wires lines)) (came sub place lines) (heard_wires sub place lines)
-heard_wires sub place (Begins s items fields (Some at) ∷ lines) = started (s == sub) (heard sub place (wires lines)) (came sub place lines) (heard_wires sub place lines)
-heard_wires sub place (Ends s ∷ lines) = started (s == sub) (heard sub place (wires lines)) (came sub place lines) (heard_wires sub place lines)
-heard_wires sub place (Configures s filtered ∷ lines) = heard_wires sub place lines
-heard_wires sub place (Tells s p c ∷ lines) =
-    tells_heard (last_row (came s p lines)) sub place s p c.what (heard sub place (wires lines))
-    ∙ here_or_not sub place s p lines c (heard sub place (wires lines)) ((s == sub) && (p == place)) refl (heard_wires sub place lines)
+pub heard_wires : (sub rank : ℕ) (lines : List Line) → heard sub rank (wires lines) ≡ coded (whats (came sub rank lines))
+heard_wires sub rank [] = refl
+heard_wires sub rank (Begins s items fields None ∷ lines) = started (s == sub) (heard sub rank (wires lines)) (came sub rank lines) (heard_wires sub rank lines)
+heard_wires sub rank (Begins s items fields (Some at) ∷ lines) = started (s == sub) (heard sub rank (wires lines)) (came sub rank lines)
+    (heard_wires sub rank lines)
+heard_wires sub rank (Ends s ∷ lines) = started (s == sub) (heard sub rank (wires lines)) (came sub rank lines) (heard_wires sub rank lines)
+heard_wires sub rank (Configures s filtered ∷ lines) = heard_wires sub rank lines
+heard_wires sub rank (Tells s p c ∷ lines) =
+    tells_heard (last_row (came s p lines)) sub rank s p c.what (heard sub rank (wires lines))
+    ∙ here_or_not sub rank s p lines c (heard sub rank (wires lines)) ((s == sub) && (p == rank)) refl (heard_wires sub rank lines)
 
 -- a line that tells leaves what has begun
 pub tells_begun : (prev : Option (List Value)) (sub s p : ℕ) (w : What) (before : Option Begun) → begun_after sub (tells_line prev s p w) before ≡ before
@@ -86,7 +93,7 @@ last_fits n (Lost k ∷ ws) e = last_fits n ws e.1
 last_fits n (Cleared ∷ ws) e = last_fits n ws e.1
 last_fits n (End ∷ ws) e = last_fits n ws e.1
 
-pub decoded_coded : (n : ℕ) (ws : List What) → 1 ≤ n → n < 2 ^ 64 → Each (RowFits n) ws → Decoded n (coded ws) ws
+pub decoded_coded : (n : ℕ) (ws : List What) → 1 ≤ n → n < 2 ^ 64 → Each (RowFits n) ws → AreDecoded n (coded ws) ws
 decoded_coded n [] some most e = tt
 decoded_coded n (Row r ∷ ws) some most e = (
   subst (λ (k : ℕ). Reads (row_before k (last_row_of ws)) (tokens_of (spelled (last_row_of ws) r)) r) e.0.0
@@ -103,15 +110,17 @@ decoded_coded n (Cleared ∷ ws) some most e = decoded_coded n ws some most e.1
 decoded_coded n (End ∷ ws) some most e = decoded_coded n ws some most e.1
 
 -- what came by the lines of a session is what its client decodes
-abbrev pub has_come : (lines : List Line) (sub place : ℕ) (b : Begun) → begun sub (wires lines) ≡ Some b → 1 ≤ place → place ≤ b.items → 1 ≤ b.fields → b.fields < 2 ^ 64 → Each (RowFits b.fields) (whats (came sub place lines))
-    → HasCome sub place (wires lines) (whats (came sub place lines))
-has_come lines sub place b is first last some most fits =
+abbrev pub has_come : (lines : List Line) (sub rank : ℕ) (b : Begun) → begun sub (wires lines) ≡ Some b → 1 ≤ rank → rank ≤ b.items → 1 ≤ b.fields
+    → b.fields < 2 ^ 64 → Each (RowFits b.fields) (whats (came sub rank lines))
+    → HasCome sub rank (wires lines) (whats (came sub rank lines))
+has_come lines sub rank b is first last some most fits =
     record {
       subscription = b;
       is_live = is;
       first = first;
       last = last;
-      decoded = subst (λ (hs : List Heard). Decoded b.fields hs (whats (came sub place lines))) (sym (heard_wires sub place lines)) (decoded_coded b.fields (whats (came sub place lines)) some most fits);
+      decoded = subst (λ (hs : List Heard). AreDecoded b.fields hs (whats (came sub rank lines))) (sym (heard_wires sub rank lines))
+          (decoded_coded b.fields (whats (came sub rank lines)) some most fits);
     }
 
 -- the texts of lines that can be written are read as these lines

@@ -1,15 +1,14 @@
 -- Each step keeps a world's records lawful.
-use Rattle.std.proofs.Common.{◌≡◌, ℕ, zero, suc, ◌+◌, ◌<◌, List, [], ◌∷◌, ◌++◌, length, arith, refl, sym, ◌∙◌, true, Option, Some, None, IfSome, Result, Ok, Err, codes, nat_lt, slice_get}
+use Rattle.std.proofs.Common.{◌≡◌, ℕ, zero, suc, ◌+◌, ◌<◌, List, [], ◌∷◌, ◌++◌, length, arith, sym, ◌∙◌, true, subst, Option, Some, None, IfSome, codes}
+use Rattle.std.proofs.Common.{nat_lt, slice_get}
 use Rattle.std.specs.Prelude.{option_and_then}
 use Rattle.std.proofs.lemmas.Bool.{eqb-true}
 use Rattle.ls_event.specs.declared.event.Entry.{Entry}
 use Rattle.ls_event.specs.declared.event.Event.{Event}
 use Rattle.ls_event.specs.declared.event.Event.TheVariants.{Update, Clear}
 use Rattle.ls_event.specs.declared.event.Mode.TheVariants as mode
-use Rattle.ls_event.specs.declared.event.PublishRefused.{PublishRefused}
 use Rattle.ls_event.specs.Shapes.{shape_of, IsShape}
 use Rattle.ls_event.specs.History.{HasFields}
-use Rattle.ls_event.specs.Publishes.{refusal}
 use Rattle.ls_event.specs.Joining.{plan_of}
 use Rattle.ls_event.proofs.Histories.{history_grown}
 use Rattle.ls_form.specs.declared.form.Pair.{Pair}
@@ -22,26 +21,31 @@ use Rattle.ls_request.specs.declared.request.Op.TheVariants as op
 use Rattle.ls_request.specs.declared.request.Request.{Request}
 use Rattle.ls_request.specs.declared.request.Request.TheVariants as request
 use Rattle.ls_request.specs.Requests.{req_behind}
-use Rattle.ls_script.specs.declared.step.Step.{Step}
-use Rattle.ls_script.specs.declared.step.Step.TheVariants as step
-use Rattle.ls_script.specs.declared.step.Repeat.{Repeat}
-use Rattle.ls_script.specs.Adding.{add_pairs}
+use Rattle.ls_step.specs.declared.step.Step.{Step}
+use Rattle.ls_step.specs.declared.step.Step.TheVariants as step
+use Rattle.ls_step.specs.declared.step.Repeat.{Repeat}
+use Rattle.ls_step.specs.Adding.{add_pairs}
 use Rattle.ls_world.specs.Cutting.{Ask}
 use Rattle.ls_world.specs.CommandMode.{IsKeyed}
-use Rattle.ls_world.specs.World.{World, Item, Live, Session, empty, history_of, shape_at, change, live_at, added, enqueued_in, least_far, free_number, on_board, opened}
-use Rattle.ls_world.specs.Acting.{add_asked, create_code}
-use Rattle.ls_world.specs.Steps.{Stepped, Once, session_of, grown, is_whole, published_by, published, publishes, creates_by, adds_by, operates, session_named, acts, is_opening, malformed_control, malformed, request_on, requests_by, requests, connects, plain_create, enqueued_by, enqueue_once, Answer, Gave, Idle, Spent, turned, took_by, take_once, does, does_all}
+use Rattle.ls_world.specs.World.{World, Item, Live, Session, empty, history_of, shape_at, change, live_at, added, enqueued_in, least_far, free_number, on_board}
+use Rattle.ls_world.specs.World.{opened}
+use Rattle.ls_world.specs.Acting.{asks_of, subscribed, add_code, create_code}
+use Rattle.ls_world.specs.Steps.{Stepped, Once, session_of, grown, is_whole, cause_to_refuse, publishes, creates, operates, session_named, acts, is_opening}
+use Rattle.ls_world.specs.Steps.{malformed, request_on, requests, connects, plain_create, enqueue_once, TurnGives, Gave, Idle, Spent, session_turn, took}
+use Rattle.ls_world.specs.Steps.{take_once, does, does_all}
+use Rattle.ls_world.proofs.Parts.{enqueued_by}
 use Rattle.ls_world.specs.Ranges.{StepInRange, HasDistinctFields, InRange}
 use Rattle.ls_world.specs.Lawful.{Each, IsSound, LawfulSession, LawfulRecords}
 use Rattle.ls_laws.proofs.Asked.{IsAsk, IsAsked, asked_is, size_some}
 use Rattle.ls_laws.proofs.Requested.{IsAdd, IsOp, IsRequest, request_on_is}
-use Rattle.ls_world.proofs.Rules.{session_rule, cond_rule, repeated_keeps}
+use Rattle.ls_world.proofs.Rules.{found_rule, session_rule, cond_rule, repeated_keeps}
 use Rattle.ls_world.proofs.Each.{each_map, each_changed, each_append, each_at}
 use Rattle.ls_laws.proofs.Frame.{later_grown, later_declared, enqueue_keeps, MayJoin, add_keeps}
-use Rattle.ls_laws.proofs.Sessions.{session_later, opened_lawful, on_board_keeps, turned_keeps}
+use Rattle.ls_laws.proofs.Sessions.{session_later, opened_lawful, on_board_keeps, session_keeps}
 
 -- a change of one session
-pub one_changed : (w : World) (n : ℕ) (s : Session) (f : Session → Session) → slice_get w.sessions n ≡ Some s → (LawfulSession w.items s → LawfulSession w.items (f s)) → LawfulRecords w → LawfulRecords (record w { sessions = change n f w.sessions })
+pub one_changed : (w : World) (n : ℕ) (s : Session) (f : Session → Session) → slice_get w.sessions n ≡ Some s
+    → (LawfulSession w.items s → LawfulSession w.items (f s)) → LawfulRecords w → LawfulRecords (record w { sessions = change n f w.sessions })
 one_changed w n s f is keep l = record { items = l.items; sessions = each_changed (LawfulSession w.items) n f s w.sessions is keep l.sessions }
 
 -- what an add that is accepted asks for may join
@@ -58,57 +62,62 @@ may_join items a ask sound add is =
       keys = λ command. keyed command (sound_at items ask.item is.declared sound);
     }
   where
-    keyed : ask.mode ≡ mode.Command → IsShape (shape_at items ask.item) → IsKeyed (plan_of (shape_at items ask.item) (history_of items ask.item) ask.mode ask.size) ask.wanted.places
+    keyed : ask.mode ≡ mode.Command → IsShape (shape_at items ask.item) → IsKeyed
+        (plan_of (shape_at items ask.item) (history_of items ask.item) ask.mode ask.size) ask.wanted.places
     keyed command shape =
         let k = is.keys (sym is.mode ∙ command) in
         record { key = shape.key; command = shape.command; apart = shape.apart k.kind; key_shown = k.key; command_shown = k.command }
 
-lawful_adds : (w : World) (connection : ℕ) (req : List ℕ) (a : Add) (n : ℕ) (s : Session) (o : Result (List Ask) ℕ) → slice_get w.sessions n ≡ Some s → IsAdd a → add_asked w s a ≡ o → LawfulRecords w → LawfulRecords (adds_by w connection req a n o).after
-lawful_adds w connection req a n s (Err code) is add asked l = l
-lawful_adds w connection req a n s (Ok asks) is add asked l =
-    let k : IsAsked w s a asks = asked_is w s a asks asked in
-    one_changed w n s (on_board (added w.items (free_number w.sessions) a.sub (length a.schema) asks)) is
-    (on_board_keeps w.items (added w.items (free_number w.sessions) a.sub (length a.schema) asks) s
-    (add_keeps w.items (free_number w.sessions) a.sub (length a.schema) asks s.board k.new (each_map (IsAsk w.items a) (MayJoin w.items) asks (λ ask x. may_join w.items a ask l.items add x) k.each)) (omega arith)) l
+lawful_adds : (w : World) (a : Add) (n : ℕ) (s : Session) → slice_get w.sessions n ≡ Some s → IsAdd a → add_code w s a ≡ None → LawfulRecords w
+    → LawfulRecords
+    (record w { sessions = change n (subscribed w a) w.sessions })
+lawful_adds w a n s is add none l =
+    let k : IsAsked w s a = asked_is w s a none in
+    one_changed w n s (subscribed w a) is
+    (on_board_keeps w.items (added w.items (free_number w.sessions) a.sub (length a.schema) (asks_of w.items a)) s
+    (add_keeps w.items (free_number w.sessions) a.sub (length a.schema) (asks_of w.items a) s.board k.new
+    (each_map (IsAsk w.items a) (MayJoin w.items) (asks_of w.items a) (λ ask x. may_join w.items a ask l.items add x) k.each)) (omega arith)) l
 
 -- requests
-lawful_operates : (w : World) (connection : ℕ) (req : List ℕ) (o : Op) (n : ℕ) (s : Session) → slice_get w.sessions n ≡ Some s → IsOp o → LawfulRecords w → LawfulRecords (operates w connection req o n s).after
-lawful_operates w connection req (op.Add a) n s is k l = lawful_adds w connection req a n s (add_asked w s a) is k refl l
+lawful_operates : (w : World) (connection : ℕ) (req : List ℕ) (o : Op) (n : ℕ) (s : Session) → slice_get w.sessions n ≡ Some s → IsOp o → LawfulRecords w
+    → LawfulRecords (operates w connection req o n s).after
+lawful_operates w connection req (op.Add a) n s is k l =
+    found_rule (λ (r : Stepped). LawfulRecords r.after) (add_code w s a) _ _ (λ none. lawful_adds w a n s is k none l) (λ code x. l)
 lawful_operates w connection req (op.Delete sub) n s is k l = l
 lawful_operates w connection req (op.Reconf sub frequency) n s is k l = l
 lawful_operates w connection req (op.Constrain bandwidth) n s is k l = l
 lawful_operates w connection req op.ForceRebind n s is k l = l
 lawful_operates w connection req op.Destroy n s is k l = l
 
-lawful_created : (w : World) (connection : ℕ) (c : Create) (o : Option ℕ) → LawfulRecords w → LawfulRecords (creates_by w connection c o).after
-lawful_created w connection c None l =
-    record {
+lawful_creates : (w : World) (connection : ℕ) (c : Create) → LawfulRecords w → LawfulRecords (creates w connection c).after
+lawful_creates w connection c l =
+    found_rule (λ (r : Stepped). LawfulRecords r.after) (create_code w c) _ _
+    (λ none. record {
       items = l.items;
-      sessions = each_append (LawfulSession w.items) w.sessions (opened (length w.sessions + 1) c.keepalive ∷ []) l.sessions (opened_lawful w.items (length w.sessions + 1) c.keepalive, tt);
-    }
-lawful_created w connection c (Some code) l = l
+      sessions = each_append (LawfulSession w.items) w.sessions (opened (length w.sessions + 1) c.keepalive ∷ []) l.sessions
+          (opened_lawful w.items (length w.sessions + 1) c.keepalive, tt);
+    })
+    (λ code x. l)
 
 lawful_acts : (w : World) (connection : ℕ) (r : Request) → IsRequest r → LawfulRecords w → LawfulRecords (acts w connection r).after
-lawful_acts w connection (request.Create c) k l = lawful_created w connection c (create_code w c) l
+lawful_acts w connection (request.Create c) k l = lawful_creates w connection c l
 lawful_acts w connection (request.Bind b) k l = l
 lawful_acts w connection (request.Control c) k l =
     session_rule (λ (r : Stepped). LawfulRecords r.after) w.sessions (session_named w connection c.session) _ (operates w connection c.req c.op) l
     (λ n s is. lawful_operates w connection c.req c.op n s is k l)
 lawful_acts w connection request.Wsok k l = l
 
-lawful_malformed : (w : World) (connection : ℕ) (name : List ℕ) (req : Option (List ℕ)) → LawfulRecords w → LawfulRecords (malformed w connection name req).after
-lawful_malformed w connection name req l = cond_rule (λ (r : Stepped). LawfulRecords r.after) (is_opening name) _ _ (λ t. l) (λ t. by_req req)
-  where
-    by_req : (o : Option (List ℕ)) → LawfulRecords (malformed_control w connection o).after
-    by_req None = l
-    by_req (Some req) = l
+lawful_malformed : (w : World) (connection : ℕ) (name : List ℕ) (req : Option (List ℕ)) → LawfulRecords w
+    → LawfulRecords (malformed w connection name req).after
+lawful_malformed w connection name req l =
+    cond_rule (λ (r : Stepped). LawfulRecords r.after) (is_opening name) _ _ (λ t. l)
+    (λ t. found_rule (λ (r : Stepped). LawfulRecords r.after) req _ _ (λ x. l) (λ r x. l))
 
 lawful_requests : (w : World) (connection : ℕ) (name : List ℕ) (ps : Option (List Pair)) → LawfulRecords w → LawfulRecords (requests w connection name ps).after
-lawful_requests w connection name ps l = by_request (request_on w connection name ps) (request_on_is w connection name ps)
-  where
-    by_request : (o : Option Request) → IfSome o IsRequest → LawfulRecords (requests_by w connection name (option_and_then (req_behind name) ps) o).after
-    by_request None k = lawful_malformed w connection name (option_and_then (req_behind name) ps) l
-    by_request (Some r) k = lawful_acts w connection r k l
+lawful_requests w connection name ps l =
+    found_rule (λ (r : Stepped). LawfulRecords r.after) (request_on w connection name ps) _ (acts w connection)
+    (λ none. lawful_malformed w connection name (option_and_then (req_behind name) ps) l)
+    (λ r is. lawful_acts w connection r (subst (λ (o : Option Request). IfSome o IsRequest) is (request_on_is w connection name ps)) l)
 
 -- a publish
 whole_fields : (fields : ℕ) (event : Event) → is_whole fields event ≡ true → HasFields fields event
@@ -116,33 +125,39 @@ whole_fields fields (Update cells) t = eqb-true (length cells) fields t
 whole_fields fields Clear t = tt
 
 lawful_publishes : (w : World) (item : ℕ) (e : Entry) → LawfulRecords w → LawfulRecords (publishes w item e).after
-lawful_publishes w item e l = by_item (slice_get w.items item) refl
+lawful_publishes w item e l =
+    found_rule (λ (r : Stepped). LawfulRecords r.after) (slice_get w.items item) _ _ (λ none. l)
+    (λ i is. cond_rule (λ (r : Stepped). LawfulRecords r.after) (is_whole (length i.definition.fields) e.event) _ _
+    (λ t. found_rule (λ (r : Stepped). LawfulRecords r.after) (cause_to_refuse w item e i) _ _
+    (grows i is (whole_fields (length i.definition.fields) e.event t)) (λ cause x. l))
+    (λ t. l))
   where
-    by_cause : (i : Item) (o : Option PublishRefused) → slice_get w.items item ≡ Some i → HasFields (length i.definition.fields) e.event
-        → refusal (shape_of i.definition) i.history (least_far item (length i.history) w.sessions) e.adapter e.seq e.event ≡ o → LawfulRecords (published_by w item e (length i.history + 1) o).after
-    by_cause i None is fits none =
+    grows : (i : Item) → slice_get w.items item ≡ Some i → HasFields (length i.definition.fields) e.event → cause_to_refuse w item e i ≡ None
+        → LawfulRecords (record w { items = change item (grown e) w.items })
+    grows i is fits none =
         record {
           items = each_changed IsSound item (grown e) i w.items is
-              (λ k. record { shape = k.shape; distinct = k.distinct; history = history_grown (shape_of i.definition) i.history (least_far item (length i.history) w.sessions) e k.history fits none }) l.items;
-          sessions = each_map (LawfulSession w.items) (LawfulSession (change item (grown e) w.items)) w.sessions (session_later w.items (change item (grown e) w.items) (later_grown w.items item e)) l.sessions;
+              (λ k. record {
+                shape = k.shape;
+                distinct = k.distinct;
+                history = history_grown (shape_of i.definition) i.history
+                    (least_far item (length i.history) w.sessions) e k.history fits none;
+              }) l.items;
+          sessions = each_map (LawfulSession w.items) (LawfulSession (change item (grown e) w.items)) w.sessions
+              (session_later w.items (change item (grown e) w.items) (later_grown w.items item e)) l.sessions;
         }
-    by_cause i (Some cause) is fits none = l
 
-    by_item : (o : Option Item) → slice_get w.items item ≡ o → LawfulRecords (published w item e o).after
-    by_item None is = l
-    by_item (Some i) is =
-        cond_rule (λ (r : Stepped). LawfulRecords r.after) (is_whole (length i.definition.fields) e.event) _ _
-        (λ t. by_cause i (refusal (shape_of i.definition) i.history (least_far item (length i.history) w.sessions) e.adapter e.seq e.event) is (whole_fields (length i.definition.fields) e.event t) refl)
-        (λ t. l)
-
-pub lawful_enqueued : (w : World) (n sub place : ℕ) (s : Session) (o : Option Live) → slice_get w.sessions n ≡ Some s → LawfulRecords w → LawfulRecords (enqueued_by w n sub place o).after
-lawful_enqueued w n sub place s None is l = l
-lawful_enqueued w n sub place s (Some v) is l =
+pub lawful_enqueued : (w : World) (n sub rank : ℕ) (s : Session) (o : Option Live) → slice_get w.sessions n ≡ Some s → LawfulRecords w
+    → LawfulRecords (enqueued_by w n sub rank o).after
+lawful_enqueued w n sub rank s None is l = l
+lawful_enqueued w n sub rank s (Some v) is l =
     cond_rule (λ (r : Once). LawfulRecords r.after) (nat_lt v.slot.last (length (history_of w.items v.item))) _ _
-    (λ t. one_changed w n s (on_board (enqueued_in w.items sub place)) is (on_board_keeps w.items (enqueued_in w.items sub place) s (enqueue_keeps w.items sub place s.board) (omega arith)) l)
+    (λ t. one_changed w n s (on_board (enqueued_in w.items sub rank)) is (on_board_keeps w.items (enqueued_in w.items sub rank) s
+    (enqueue_keeps w.items sub rank s.board) (omega arith)) l)
     (λ t. l)
 
-pub lawful_took : (w : World) (connection n : ℕ) (old new : Session) (a : Answer) → slice_get w.sessions n ≡ Some old → LawfulSession w.items new → LawfulRecords w → LawfulRecords (took_by w connection n new a).after
+pub lawful_took : (w : World) (connection n : ℕ) (old new : Session) (g : TurnGives) → slice_get w.sessions n ≡ Some old → LawfulSession w.items new
+    → LawfulRecords w → LawfulRecords (took w connection n new g).after
 lawful_took w connection n old new (Gave text) is k l = one_changed w n old (λ x. new) is (λ x. k) l
 lawful_took w connection n old new Idle is k l = one_changed w n old (λ x. new) is (λ x. k) l
 lawful_took w connection n old new Spent is k l = l
@@ -153,25 +168,33 @@ lawful_does w (step.Set name) times range distinct l = record { items = l.items;
 lawful_does w (step.Item name k fields) times range distinct l =
     let i : Item = record { definition = record { name = name; kind = k; fields = fields }; history = [] } in
     record {
-      items = each_append IsSound w.items (i ∷ []) l.items (record { shape = range; distinct = distinct; history = record { few = omega arith; each = tt } }, tt);
-      sessions = each_map (LawfulSession w.items) (LawfulSession (w.items ++ i ∷ [])) w.sessions (session_later w.items (w.items ++ i ∷ []) (later_declared w.items i)) l.sessions;
+      items = each_append IsSound w.items (i ∷ []) l.items (
+        record { shape = range; distinct = distinct; history = record { few = omega arith; each = tt } },
+        tt,
+      );
+      sessions = each_map (LawfulSession w.items) (LawfulSession (w.items ++ i ∷ [])) w.sessions
+          (session_later w.items (w.items ++ i ∷ []) (later_declared w.items i)) l.sessions;
     }
 lawful_does w (step.Tick ms) times range distinct l = record { items = l.items; sessions = l.sessions }
 lawful_does w (step.Conn name k) times range distinct l = record { items = l.items; sessions = l.sessions }
 lawful_does w (step.Open name) times range distinct l =
-    lawful_created (connects w name link.Ws) (length w.connections) plain_create (create_code (connects w name link.Ws) plain_create) (record { items = l.items; sessions = l.sessions })
+    lawful_creates (connects w name link.Ws) (length w.connections) plain_create (record { items = l.items; sessions = l.sessions })
 lawful_does w (step.Add connection words) times range distinct l = lawful_requests w connection (codes "control") (add_pairs w.line words) l
 lawful_does w (step.Request connection name parameters) times range distinct l = lawful_requests w connection name (form_of parameters) l
-lawful_does w (step.Publish adapter seq item cells) times range distinct l = lawful_publishes w item (record { adapter = adapter; seq = seq; event = Update cells }) l
+lawful_does w (step.Publish adapter seq item cells) times range distinct l = lawful_publishes w item
+    (record { adapter = adapter; seq = seq; event = Update cells }) l
 lawful_does w (step.Clear adapter seq item) times range distinct l = lawful_publishes w item (record { adapter = adapter; seq = seq; event = Clear }) l
-lawful_does w (step.Enqueue connection sub place) times range distinct l =
-    repeated_keeps LawfulRecords (enqueue_once connection sub place) times w
-    (λ v k. session_rule (λ (r : Once). LawfulRecords r.after) v.sessions (session_of v connection) _ (λ n s. enqueued_by v n sub place (live_at sub place s.board.round)) k
-    (λ n s is. lawful_enqueued v n sub place s (live_at sub place s.board.round) is k)) l
+lawful_does w (step.Enqueue connection sub rank) times range distinct l =
+    repeated_keeps LawfulRecords (enqueue_once connection sub rank) times w
+    (λ v k. session_rule (λ (r : Once). LawfulRecords r.after) v.sessions (session_of v connection) _
+    (λ n s. enqueued_by v n sub rank (live_at sub rank s.board.round)) k
+    (λ n s is. lawful_enqueued v n sub rank s (live_at sub rank s.board.round) is k)) l
 lawful_does w (step.Take connection) times range distinct l =
     repeated_keeps LawfulRecords (take_once connection) times w
-    (λ v k. session_rule (λ (r : Once). LawfulRecords r.after) v.sessions (session_of v connection) _ (λ n s. took_by v connection n (turned v.items s).session (turned v.items s).answer) k
-    (λ n s is. lawful_took v connection n s (turned v.items s).session (turned v.items s).answer is (turned_keeps v.items s (each_at (LawfulSession v.items) n s v.sessions is k.sessions)) k)) l
+    (λ v k. session_rule (λ (r : Once). LawfulRecords r.after) v.sessions (session_of v connection) _
+    (λ n s. took v connection n (session_turn v.items s).session (session_turn v.items s).gives) k
+    (λ n s is. lawful_took v connection n s (session_turn v.items s).session (session_turn v.items s).gives is
+    (session_keeps v.items s (each_at (LawfulSession v.items) n s v.sessions is k.sessions)) k)) l
 lawful_does w (step.Lose connection) times range distinct l = l
 
 -- and steps one after another

@@ -1,5 +1,6 @@
 -- Each step whose parts are in their ranges keeps a world legible: a client decodes what its lines tell.
-use Rattle.std.proofs.Common.{◌≡◌, ◌==◌, ℕ, zero, suc, ◌+◌, ◌<◌, ◌≤◌, ◌^◌, List, [], ◌∷◌, ◌++◌, length, refl, sym, ◌∙◌, ap, arith, subst, cond, Bool, true, false, ◌&&◌, Option, Some, None, Result, Ok, Err, IfSome, nat_lt, nat_le, slice_get, codes, option_map, inl, inr}
+use Rattle.std.proofs.Common.{◌≡◌, ◌==◌, ℕ, zero, suc, ◌+◌, ◌<◌, ◌≤◌, ◌^◌, List, [], ◌∷◌, ◌++◌, length, refl, sym, ◌∙◌, ap, arith, subst, cond, Bool, true}
+use Rattle.std.proofs.Common.{false, ◌&&◌, Option, Some, None, IfSome, nat_lt, nat_le, slice_get, codes, option_map, inl, inr}
 use Rattle.std.specs.Prelude.{option_and_then}
 use Rattle.std.proofs.lemmas.Bool.{eq-eqb, eqb-true}
 use Rattle.ls_value.specs.declared.row.Value.{Value}
@@ -8,11 +9,10 @@ use Rattle.ls_event.specs.declared.event.Entry.{Entry}
 use Rattle.ls_event.specs.declared.event.Event.TheVariants.{Update, Clear}
 use Rattle.ls_event.specs.declared.event.Mode.{Mode}
 use Rattle.ls_event.specs.declared.event.Mode.TheVariants as mode
-use Rattle.ls_event.specs.declared.event.PublishRefused.{PublishRefused}
-use Rattle.ls_event.specs.Shapes.{Shape, shape_of}
+use Rattle.ls_event.specs.Shapes.{Shape}
 use Rattle.ls_event.specs.declared.item.Kind.TheVariants as kind
 use Rattle.ls_event.specs.Joining.{plan_of}
-use Rattle.ls_event.specs.Publishes.{refusal, IsHistory}
+use Rattle.ls_event.specs.Publishes.{IsHistory}
 use Rattle.ls_event.specs.Updates.{updates_between}
 use Rattle.ls_event.specs.Slots.{Plan, Slot, enqueued}
 use Rattle.ls_form.specs.declared.form.Pair.{Pair}
@@ -25,25 +25,32 @@ use Rattle.ls_request.specs.declared.request.Op.TheVariants as op
 use Rattle.ls_request.specs.declared.request.Request.{Request}
 use Rattle.ls_request.specs.declared.request.Request.TheVariants as request
 use Rattle.ls_request.specs.Requests.{req_behind}
-use Rattle.ls_script.specs.declared.step.Step.{Step}
-use Rattle.ls_script.specs.declared.step.Step.TheVariants as step
-use Rattle.ls_script.specs.declared.step.Repeat.{Repeat}
-use Rattle.ls_script.specs.Adding.{add_pairs}
+use Rattle.ls_step.specs.declared.step.Step.{Step}
+use Rattle.ls_step.specs.declared.step.Step.TheVariants as step
+use Rattle.ls_step.specs.declared.step.Repeat.{Repeat}
+use Rattle.ls_step.specs.Adding.{add_pairs}
 use Rattle.ls_line.specs.Lines.{IsWritable}
-use Rattle.ls_mirror.specs.Client.{KeyPlaces, Begun, begun, begun_after, What, Row, Lost, Cleared, End}
+use Rattle.ls_mirror.specs.declared.command.KeyPlaces.{KeyPlaces}
+use Rattle.ls_mirror.specs.Client.{Begun, begun, begun_after, What, Row, Lost, Cleared, End}
 use Rattle.ls_world.specs.Came.{Came, whats}
-use Rattle.ls_world.specs.Tables.{InSchema, shown_at}
+use Rattle.ls_world.specs.Tables.{keys_shown_at}
 use Rattle.ls_world.specs.Cutting.{Ask, Wanted, schema_of, turn}
 use Rattle.ls_world.specs.Lines.{Line, Begins, Configures, Tells, came, last_row, tells_line, begins_line, wire}
-use Rattle.ls_world.specs.World.{World, Item, Live, Board, Session, Told, Round, empty, history_of, shape_at, joined_slot, change, is_at, is_of, live_at, keys_in, keys_shown, are_filtered, joined_all, added, enqueue_at, enqueue_slot, enqueued_in, least_far, free_number, turn_if, live_turn, met_by, asked, given_by, taken_in, on_board, is_unsent, given_next, opened}
-use Rattle.ls_world.specs.Acting.{add_asked, create_code}
-use Rattle.ls_world.specs.Steps.{Stepped, Once, repeated, Turned, session_of, grown, is_whole, published_by, published, publishes, creates_by, adds_by, operates, session_named, acts, is_opening, malformed_control, malformed, request_on, requests_by, requests, connects, plain_create, enqueued_by, enqueue_once, Answer, Gave, Idle, Spent, round_given, round_asked, owed_given, turned, took_by, take_once, does, does_all}
+use Rattle.ls_world.specs.World.{World, Item, Live, Board, Session, RoundLine, Round, empty, history_of, shape_at, joined_slot, change, is_at, is_of, live_at}
+use Rattle.ls_world.specs.World.{keys_in, keys_shown, are_filtered, joined_all, added, enqueue_at, enqueue_slot, enqueued_in, free_number, live_turn}
+use Rattle.ls_world.specs.World.{round_of, taken_in, on_board, is_unsent, given_next, opened}
+use Rattle.ls_world.specs.Acting.{asks_of, subscribed, add_code, create_code}
+use Rattle.ls_world.specs.Steps.{Stepped, Once, repeated, SessionTurn, session_of, grown, is_whole, cause_to_refuse, publishes, creates, operates}
+use Rattle.ls_world.specs.Steps.{session_named, acts, is_opening, malformed, request_on, requests, connects, plain_create, enqueue_once, TurnGives, Gave, Idle}
+use Rattle.ls_world.specs.Steps.{Spent, round_turn, turn_owing, session_turn, took, take_once, does, does_all}
+use Rattle.ls_world.proofs.Parts.{turn_if, met_by, given_by, enqueued_by, round_given}
 use Rattle.ls_world.specs.Script.{counted}
 use Rattle.ls_world.specs.RawMode.{RawSays}
 use Rattle.ls_world.specs.DistinctMode.{DistinctSays}
-use Rattle.ls_world.specs.Lawful.{Each, LawfulOf, LawfulSlot, LawfulLive, LawfulBoard, LawfulSession, LawfulRecords, IsSound, IsMergeLine, DecodesLive, Decoded, Lawful}
+use Rattle.ls_world.specs.Lawful.{Each, LawfulOf, LawfulSlot, LawfulLive, LawfulBoard, LawfulSession, LawfulRecords, IsSound, IsMergeLine, ClientDecodes}
+use Rattle.ls_world.specs.Lawful.{ClientsDecode, Lawful}
 use Rattle.ls_world.specs.ClientKeys.{KeysOf}
-use Rattle.ls_world.specs.Ranges.{IsPlace, StepInRange, HasDistinctFields, InRange}
+use Rattle.ls_world.specs.Ranges.{IsOrdinal, StepInRange, HasDistinctFields, InRange}
 use Rattle.ls_world.proofs.Each.{each_map, each_mapped, each_changed, each_append, each_both, each_at}
 use Rattle.ls_laws.proofs.Asked.{schema_keys, IsAsk, IsAsked, asked_is}
 use Rattle.ls_laws.proofs.Requested.{IsAdd, IsOp, IsRequest, request_on_is}
@@ -53,35 +60,35 @@ use Rattle.ls_laws.proofs.Heard.{wires, RowFits, tells_begun, has_come, CanWrite
 use Rattle.ls_laws.proofs.Updates.{updates_few}
 use Rattle.ls_laws.proofs.KeyTables.{told_places}
 use Rattle.ls_laws.proofs.ClientKeys.{told_keys}
-use Rattle.ls_laws.proofs.DistinctTold.{IsLine, distinct_each}
+use Rattle.ls_laws.proofs.DistinctTruths.{IsLine, distinct_each}
 use Rattle.ls_laws.proofs.Textual.{Textual, TextualEvent, KeyLineFits, key_line, plain_utf8, turn_fits, slot_fits}
-use Rattle.ls_world.proofs.Rules.{session_rule, cond_rule, repeated_keeps}
+use Rattle.ls_world.proofs.Rules.{found_rule, session_rule, cond_rule, repeated_keeps}
 use Rattle.ls_laws.proofs.Laws.{lawful_does, lawful_enqueued, lawful_took, lawful_empty}
-use Rattle.ls_laws.proofs.Sessions.{turned_keeps}
+use Rattle.ls_laws.proofs.Sessions.{session_keeps}
 
 -- the subscription of a slot of mode COMMAND, whose item has keys, was begun by a SUBCMD with the places of the key and the command in its schema
-pub record IsBegun (v : Live) (told : Option KeyPlaces) : Type 0 where
+pub record IsBegun (v : Live) (keyed : Option KeyPlaces) : Type 0 where
   pub kind : v.slot.plan.shape.kind ≡ kind.Command
-  pub places : told ≡ Some (told_places (schema_of v.wanted v.slot.plan))
+  pub places : keyed ≡ Some (told_places (schema_of v.wanted v.slot.plan))
 
 abbrev BegunIn : Mode → Live → Option KeyPlaces → Type 0
-BegunIn mode.Command v told = IsBegun v told
-BegunIn mode.Merge v told = told ≡ None
-BegunIn mode.Raw v told = told ≡ None
-BegunIn mode.Distinct v told = told ≡ None
+BegunIn mode.Command v keyed = IsBegun v keyed
+BegunIn mode.Merge v keyed = keyed ≡ None
+BegunIn mode.Raw v keyed = keyed ≡ None
+BegunIn mode.Distinct v keyed = keyed ≡ None
 
 -- the subscription of a slot has begun, shows its fields, and each row that came has a text or null for each of them
 pub record Shown (lines : List Line) (v : Live) : Type 0 where
   subscription : Begun
   is : begun v.sub (wires lines) ≡ Some subscription
-  sub : IsPlace v.sub
-  place : IsPlace v.place
-  within : v.place ≤ subscription.items
+  sub : IsOrdinal v.sub
+  rank : IsOrdinal v.rank
+  within : v.rank ≤ subscription.items
   some : 1 ≤ subscription.fields
   most : subscription.fields ≤ 999999999
   schema : length v.wanted.places ≡ subscription.fields
   keyed : BegunIn v.slot.plan.mode v subscription.keyed
-  rows : Each (RowFits subscription.fields) (whats (came v.sub v.place lines))
+  rows : Each (RowFits subscription.fields) (whats (came v.sub v.rank lines))
 
 pub record LegibleBoard (b : Board) : Type 0 where
   lines : CanWrite b.lines
@@ -96,15 +103,15 @@ pub record Both (w : World) : Type 0 where
   pub legible : Legible w
 
 -- what is shown doesn't rest on the slot's numbers
-begun_moved : (v : Live) (s : Slot) (told : Option KeyPlaces) → s.plan ≡ v.slot.plan → IsBegun v told → IsBegun (record v { slot = s }) told
-begun_moved v s told same b =
+begun_moved : (v : Live) (s : Slot) (keyed : Option KeyPlaces) → s.plan ≡ v.slot.plan → IsBegun v keyed → IsBegun (record v { slot = s }) keyed
+begun_moved v s keyed same b =
     record { kind = ap (λ (p : Plan). p.shape.kind) same ∙ b.kind; places = b.places ∙ ap (λ (p : Plan). Some (told_places (schema_of v.wanted p))) (sym same) }
 
-in_mode_moved : (m : Mode) (v : Live) (s : Slot) (told : Option KeyPlaces) → s.plan ≡ v.slot.plan → BegunIn m v told → BegunIn m (record v { slot = s }) told
-in_mode_moved mode.Command v s told same b = begun_moved v s told same b
-in_mode_moved mode.Merge v s told same b = b
-in_mode_moved mode.Raw v s told same b = b
-in_mode_moved mode.Distinct v s told same b = b
+in_mode_moved : (m : Mode) (v : Live) (s : Slot) (keyed : Option KeyPlaces) → s.plan ≡ v.slot.plan → BegunIn m v keyed → BegunIn m (record v { slot = s }) keyed
+in_mode_moved mode.Command v s keyed same b = begun_moved v s keyed same b
+in_mode_moved mode.Merge v s keyed same b = b
+in_mode_moved mode.Raw v s keyed same b = b
+in_mode_moved mode.Distinct v s keyed same b = b
 
 shown_moved : (lines : List Line) (v : Live) (s : Slot) → s.plan ≡ v.slot.plan → Shown lines v → Shown lines (record v { slot = s })
 shown_moved lines v s same h =
@@ -112,7 +119,7 @@ shown_moved lines v s same h =
       subscription = h.subscription;
       is = h.is;
       sub = h.sub;
-      place = h.place;
+      rank = h.rank;
       within = h.within;
       some = h.some;
       most = h.most;
@@ -122,7 +129,8 @@ shown_moved lines v s same h =
     }
 
 -- slots of one subscription have its fields
-same_fields : (sub other : ℕ) (lines : List Line) (b c : Begun) → begun sub (wires lines) ≡ Some b → begun other (wires lines) ≡ Some c → sub ≡ other → b.fields ≡ c.fields
+same_fields : (sub other : ℕ) (lines : List Line) (b c : Begun) → begun sub (wires lines) ≡ Some b → begun other (wires lines) ≡ Some c → sub ≡ other
+    → b.fields ≡ c.fields
 same_fields sub other lines b c is is' same =
     let e : begun other (wires lines) ≡ Some b = subst (λ (n : ℕ). begun n (wires lines) ≡ Some b) same is in
     let f : Some b ≡ Some c = sym e ∙ is' in
@@ -132,66 +140,72 @@ same_fields sub other lines b c is is' same =
     the_same f = cc
 
 -- behind a line that tells of one slot, each is shown
-shown_told : (lines : List Line) (t : Live) (c : Came) (v : Live) → Shown lines t → RowFits (length t.wanted.places) c.what → Shown lines v → Shown (Tells t.sub t.place c ∷ lines) v
-shown_told lines t c v k fits h =
+shown_behind : (lines : List Line) (t : Live) (c : Came) (v : Live) → Shown lines t → RowFits (length t.wanted.places) c.what → Shown lines v
+    → Shown (Tells t.sub t.rank c ∷ lines) v
+shown_behind lines t c v k fits h =
     record {
       subscription = h.subscription;
-      is = tells_begun (last_row (came t.sub t.place lines)) v.sub t.sub t.place c.what (begun v.sub (wires lines)) ∙ h.is;
+      is = tells_begun (last_row (came t.sub t.rank lines)) v.sub t.sub t.rank c.what (begun v.sub (wires lines)) ∙ h.is;
       sub = h.sub;
-      place = h.place;
+      rank = h.rank;
       within = h.within;
       some = h.some;
       most = h.most;
       schema = h.schema;
       keyed = h.keyed;
-      rows = by_test ((t.sub == v.sub) && (t.place == v.place)) refl;
+      rows = by_test ((t.sub == v.sub) && (t.rank == v.rank)) refl;
     }
   where
-    by_test : (b : Bool) → ((t.sub == v.sub) && (t.place == v.place)) ≡ b → Each (RowFits h.subscription.fields) (whats (cond b (c ∷ came v.sub v.place lines) (came v.sub v.place lines)))
+    by_test : (b : Bool) → ((t.sub == v.sub) && (t.rank == v.rank)) ≡ b → Each (RowFits h.subscription.fields)
+        (whats (cond b (c ∷ came v.sub v.rank lines) (came v.sub v.rank lines)))
     by_test true e =
-        let same : t.sub ≡ v.sub = eqb-true t.sub v.sub (and_left (t.sub == v.sub) (t.place == v.place) e) in
+        let same : t.sub ≡ v.sub = eqb-true t.sub v.sub (and_left (t.sub == v.sub) (t.rank == v.rank) e) in
         (subst (λ (n : ℕ). RowFits n c.what) (k.schema ∙ same_fields t.sub v.sub lines k.subscription h.subscription k.is h.is same) fits, h.rows)
     by_test false e = h.rows
 
 -- an enqueue
-shown_enqueued : (items : List Item) (lines : List Line) (sub place : ℕ) (v : Live) → Shown lines v → Shown lines (enqueue_at items sub place v)
-shown_enqueued items lines sub place v h =
-    cond_rule (Shown lines) (is_at sub place v) (enqueue_slot (history_of items v.item) v) v
-    (λ t. cond_rule (Shown lines) (nat_lt v.slot.last (length (history_of items v.item))) (record v { slot = enqueued v.slot }) v (λ u. shown_moved lines v (enqueued v.slot) refl h) (λ u. h))
+shown_enqueued : (items : List Item) (lines : List Line) (sub rank : ℕ) (v : Live) → Shown lines v → Shown lines (enqueue_at items sub rank v)
+shown_enqueued items lines sub rank v h =
+    cond_rule (Shown lines) (is_at sub rank v) (enqueue_slot (history_of items v.item) v) v
+    (λ t. cond_rule (Shown lines) (nat_lt v.slot.last (length (history_of items v.item))) (record v { slot = enqueued v.slot }) v
+    (λ u. shown_moved lines v (enqueued v.slot) refl h) (λ u. h))
     (λ t. h)
 
 -- a round that was asked has the same slots, and the line of one of mode COMMAND fits
 abbrev IsKeyTurn : ℕ → Slot → Option Came → Type 0
 IsKeyTurn n s o = s.plan.mode ≡ mode.Command → IfSome o (λ c. KeyLineFits n c.what)
 
-abbrev ShownTold : List Line → Option Told → Type 0
-ShownTold lines None = Unit {0}
-ShownTold lines (Some t) = Shown lines t.live × (t.live.slot.plan.mode ≡ mode.Command → KeyLineFits (length t.live.wanted.places) t.came.what)
+abbrev ShownLine : List Line → Option RoundLine → Type 0
+ShownLine lines None = Unit {0}
+ShownLine lines (Some t) = Shown lines t.live × (t.live.slot.plan.mode ≡ mode.Command → KeyLineFits (length t.live.wanted.places) t.came.what)
 
 record ShownRound (lines : List Line) (r : Round) : Type 0 where
   kept : Each (Shown lines) r.kept
-  told : ShownTold lines r.told
+  came : ShownLine lines r.came
 
-shown_met : (lines : List Line) (v : Live) (s : Slot) (o : Option Came) (vs : List Live) (r : Round) → s.plan ≡ v.slot.plan → Shown lines v → IsKeyTurn (length v.wanted.places) s o → Each (Shown lines) vs → ShownRound lines r
+shown_met : (lines : List Line) (v : Live) (s : Slot) (o : Option Came) (vs : List Live) (r : Round) → s.plan ≡ v.slot.plan → Shown lines v
+    → IsKeyTurn (length v.wanted.places) s o → Each (Shown lines) vs → ShownRound lines r
     → ShownRound lines (met_by (record v { slot = s }) o vs r)
-shown_met lines v s (Some c) vs r same h k each rest = record { kept = each; told = (shown_moved lines v s same h, k) }
-shown_met lines v s None vs r same h k each rest = record { kept = (shown_moved lines v s same h, rest.kept); told = rest.told }
+shown_met lines v s (Some c) vs r same h k each rest = record { kept = each; came = (shown_moved lines v s same h, k) }
+shown_met lines v s None vs r same h k each rest = record { kept = (shown_moved lines v s same h, rest.kept); came = rest.came }
 
 due_plan : (due : Live → Bool) (items : List Item) (lines : List Line) (v : Live) → (live_turn due items lines v).slot.plan ≡ v.slot.plan
 due_plan due items lines v = by_due (due v)
   where
-    by_due : (b : Bool) → (turn_if b v.slot (turn (history_of items v.item) v.wanted v.slot (came v.sub v.place lines))).slot.plan ≡ v.slot.plan
-    by_due true = turn_plan (history_of items v.item) v.wanted v.slot (came v.sub v.place lines)
+    by_due : (b : Bool) → (turn_if b v.slot (turn (history_of items v.item) v.wanted v.slot (came v.sub v.rank lines))).slot.plan ≡ v.slot.plan
+    by_due true = turn_plan (history_of items v.item) v.wanted v.slot (came v.sub v.rank lines)
     by_due false = refl
 
-key_turn : (due : Live → Bool) (items : List Item) (lines : List Line) (v : Live) → Textual (history_of items v.item) → Shown lines v → IsKeyTurn (length v.wanted.places) (live_turn due items lines v).slot (live_turn due items lines v).told
+key_turn : (due : Live → Bool) (items : List Item) (lines : List Line) (v : Live) → Textual (history_of items v.item) → Shown lines v
+    → IsKeyTurn (length v.wanted.places) (live_turn due items lines v).slot (live_turn due items lines v).came
 key_turn due items lines v t h = by_due (due v)
   where
-    by_due : (b : Bool) → IsKeyTurn (length v.wanted.places) (turn_if b v.slot (turn (history_of items v.item) v.wanted v.slot (came v.sub v.place lines))).slot (turn_if b v.slot (turn (history_of items v.item) v.wanted v.slot (came v.sub v.place lines))).told
+    by_due : (b : Bool) → IsKeyTurn (length v.wanted.places) (turn_if b v.slot (turn (history_of items v.item) v.wanted v.slot (came v.sub v.rank lines))).slot
+        (turn_if b v.slot (turn (history_of items v.item) v.wanted v.slot (came v.sub v.rank lines))).came
     by_due true = λ command.
-        turn_fits (history_of items v.item) v.wanted v.slot (came v.sub v.place lines) t
-        (sym (ap (λ (p : Plan). p.mode) (turn_plan (history_of items v.item) v.wanted v.slot (came v.sub v.place lines))) ∙ command)
-        (subst (λ (n : ℕ). Each (RowFits n) (whats (came v.sub v.place lines))) (sym h.schema) h.rows)
+        turn_fits (history_of items v.item) v.wanted v.slot (came v.sub v.rank lines) t
+        (sym (ap (λ (p : Plan). p.mode) (turn_plan (history_of items v.item) v.wanted v.slot (came v.sub v.rank lines))) ∙ command)
+        (subst (λ (n : ℕ). Each (RowFits n) (whats (came v.sub v.rank lines))) (sym h.schema) h.rows)
     by_due false = λ command. tt
 
 abbrev AreTextual : List Item → Type 0
@@ -202,10 +216,12 @@ textual_at [] n e = tt
 textual_at (i ∷ items) zero e = e.0
 textual_at (i ∷ items) (suc n) e = textual_at items n e.1
 
-shown_asked : (due : Live → Bool) (items : List Item) (lines : List Line) (vs : List Live) → AreTextual items → Each (Shown lines) vs → ShownRound lines (asked due items lines vs)
-shown_asked due items lines [] t e = record { kept = tt; told = tt }
-shown_asked due items lines (v ∷ vs) t e =
-    shown_met lines v (live_turn due items lines v).slot (live_turn due items lines v).told vs (asked due items lines vs) (due_plan due items lines v) e.0 (key_turn due items lines v (textual_at items v.item t) e.0) e.1 (shown_asked due items lines vs t e.1)
+shown_round : (due : Live → Bool) (items : List Item) (lines : List Line) (vs : List Live) → AreTextual items → Each (Shown lines) vs
+    → ShownRound lines (round_of due items lines vs)
+shown_round due items lines [] t e = record { kept = tt; came = tt }
+shown_round due items lines (v ∷ vs) t e =
+    shown_met lines v (live_turn due items lines v).slot (live_turn due items lines v).came vs (round_of due items lines vs) (due_plan due items lines v) e.0
+    (key_turn due items lines v (textual_at items v.item t) e.0) e.1 (shown_round due items lines vs t e.1)
 
 -- a line of a lawful slot counts no loss past its history
 abbrev CanTell : What → Type 0
@@ -214,7 +230,8 @@ CanTell (Lost k) = k ≤ 2 ^ 60
 CanTell Cleared = Unit {0}
 CanTell End = Unit {0}
 
-raw_tells : (places : List ℕ) (h : List Entry) (c : Came) (what : What) → length h ≤ 2 ^ 60 → c.upto ≤ length h → RawSays places what (updates_between h c.before c.upto) → CanTell what
+raw_tells : (places : List ℕ) (h : List Entry) (c : Came) (what : What) → length h ≤ 2 ^ 60 → c.upto ≤ length h
+    → RawSays places what (updates_between h c.before c.upto) → CanTell what
 raw_tells places h c (Row r) few within says = tt
 raw_tells places h c (Lost k) few within says = omega (arith, says, updates_few h c.before c.upto within, within, few)
 raw_tells places h c Cleared few within says = tt
@@ -237,7 +254,8 @@ key_tells n (Lost k) h = absurd h
 key_tells n Cleared h = tt
 key_tells n End h = tt
 
-slot_tells : (h : List Entry) (w : Wanted) (s : Slot) (c : Came) (cs : List Came) → length h ≤ 2 ^ 60 → LawfulSlot h w s (c ∷ cs) → (s.plan.mode ≡ mode.Command → KeyLineFits (length w.places) c.what) → CanTell c.what
+slot_tells : (h : List Entry) (w : Wanted) (s : Slot) (c : Came) (cs : List Came) → length h ≤ 2 ^ 60 → LawfulSlot h w s (c ∷ cs)
+    → (s.plan.mode ≡ mode.Command → KeyLineFits (length w.places) c.what) → CanTell c.what
 slot_tells h w s c cs few l command = by_mode s.plan.mode refl l
   where
     by_line : IsMergeLine s.plan w h c → CanTell c.what
@@ -260,64 +278,73 @@ record LineIs (v : Live) (c : Came) : Type 0 where
   can : CanTell c.what
   fits : RowFits (length v.wanted.places) c.what
 
-line_is : (items : List Item) (lines : List Line) (v : Live) (c : Came) → Each IsSound items → AreTextual items → LawfulLive items (Tells v.sub v.place c ∷ lines) v → (v.slot.plan.mode ≡ mode.Command → KeyLineFits (length v.wanted.places) c.what) → LineIs v c
+line_is : (items : List Item) (lines : List Line) (v : Live) (c : Came) → Each IsSound items → AreTextual items
+    → LawfulLive items (Tells v.sub v.rank c ∷ lines) v → (v.slot.plan.mode ≡ mode.Command → KeyLineFits (length v.wanted.places) c.what) → LineIs v c
 line_is items lines v c sound t l command =
-    let e : ((v.sub == v.sub) && (v.place == v.place)) ≡ true = rw (eq-eqb v.sub v.sub refl, eq-eqb v.place v.place refl) in
-    let f : came v.sub v.place (Tells v.sub v.place c ∷ lines) ≡ c ∷ came v.sub v.place lines = ap (λ (b : Bool). cond b (c ∷ came v.sub v.place lines) (came v.sub v.place lines)) e in
-    let told = subst (λ (cs : List Came). LawfulSlot (history_of items v.item) v.wanted v.slot cs) f l.told in
+    let e : ((v.sub == v.sub) && (v.rank == v.rank)) ≡ true = rw (eq-eqb v.sub v.sub refl, eq-eqb v.rank v.rank refl) in
+    let f : came v.sub v.rank (Tells v.sub v.rank c ∷ lines) ≡ c ∷ came v.sub v.rank lines =
+    ap (λ (b : Bool). cond b (c ∷ came v.sub v.rank lines) (came v.sub v.rank lines)) e in
+    let lawful = subst (λ (cs : List Came). LawfulSlot (history_of items v.item) v.wanted v.slot cs) f l.came in
     record {
-      can = slot_tells (history_of items v.item) v.wanted v.slot c (came v.sub v.place lines) (history_few items v.item sound) told command;
-      fits = slot_fits (history_of items v.item) v.wanted v.slot c (came v.sub v.place lines) (textual_at items v.item t) told (λ is. key_line (length v.wanted.places) c.what (command is));
+      can = slot_tells (history_of items v.item) v.wanted v.slot c (came v.sub v.rank lines) (history_few items v.item sound) lawful command;
+      fits = slot_fits (history_of items v.item) v.wanted v.slot c (came v.sub v.rank lines) (textual_at items v.item t) lawful
+          (λ is. key_line (length v.wanted.places) c.what (command is));
     }
 
-tells_writable : (prev : Option (List Value)) (sub place : ℕ) (w : What) → IsPlace sub → IsPlace place → CanTell w → IsWritable (tells_line prev sub place w)
-tells_writable prev sub place (Row r) s p t = ((s.some, s.most), ((p.some, p.most), (tt, tt)))
-tells_writable prev sub place (Lost k) s p t = ((s.some, s.most), ((p.some, p.most), (t, tt)))
-tells_writable prev sub place Cleared s p t = ((s.some, s.most), ((p.some, p.most), tt))
-tells_writable prev sub place End s p t = ((s.some, s.most), ((p.some, p.most), tt))
+tells_writable : (prev : Option (List Value)) (sub rank : ℕ) (w : What) → IsOrdinal sub → IsOrdinal rank → CanTell w → IsWritable (tells_line prev sub rank w)
+tells_writable prev sub rank (Row r) s p t = ((s.some, s.most), ((p.some, p.most), (tt, tt)))
+tells_writable prev sub rank (Lost k) s p t = ((s.some, s.most), ((p.some, p.most), (t, tt)))
+tells_writable prev sub rank Cleared s p t = ((s.some, s.most), ((p.some, p.most), tt))
+tells_writable prev sub rank End s p t = ((s.some, s.most), ((p.some, p.most), tt))
 
 each_last : {A : Type 0} (P : A → Type 0) (xs : List A) (x : A) → Each P (xs ++ x ∷ []) → P x
 each_last P [] x e = e.0
 each_last P (y ∷ xs) x e = each_last P xs x e.1
 
-legible_given : (items : List Item) (b : Board) (kept : List Live) (o : Option Told) → Each IsSound items → AreTextual items → CanWrite b.lines → Each (Shown b.lines) kept → ShownTold b.lines o → LawfulBoard items (given_by b kept o)
+legible_given : (items : List Item) (b : Board) (kept : List Live) (o : Option RoundLine) → Each IsSound items → AreTextual items → CanWrite b.lines
+    → Each (Shown b.lines) kept → ShownLine b.lines o → LawfulBoard items (given_by b kept o)
     → LegibleBoard (given_by b kept o)
 legible_given items b kept None sound t c k s l = record { lines = c; slots = k }
 legible_given items b kept (Some x) sound t c k s l =
-    let is : LineIs x.live x.came = line_is items b.lines x.live x.came sound t (each_last (LawfulLive items (Tells x.live.sub x.live.place x.came ∷ b.lines)) kept x.live l.slots) s.1 in
+    let is : LineIs x.live x.came =
+    line_is items b.lines x.live x.came sound t (each_last (LawfulLive items (Tells x.live.sub x.live.rank x.came ∷ b.lines)) kept x.live l.slots) s.1 in
     record {
-      lines = (tells_writable (last_row (came x.live.sub x.live.place b.lines)) x.live.sub x.live.place x.came.what s.0.sub s.0.place is.can, c);
-      slots = each_append (Shown (Tells x.live.sub x.live.place x.came ∷ b.lines)) kept (x.live ∷ [])
-          (each_map (Shown b.lines) (Shown (Tells x.live.sub x.live.place x.came ∷ b.lines)) kept (λ v h. shown_told b.lines x.live x.came v s.0 is.fits h) k)
-          (shown_told b.lines x.live x.came x.live s.0 is.fits s.0, tt);
+      lines = (tells_writable (last_row (came x.live.sub x.live.rank b.lines)) x.live.sub x.live.rank x.came.what s.0.sub s.0.rank is.can, c);
+      slots = each_append (Shown (Tells x.live.sub x.live.rank x.came ∷ b.lines)) kept (x.live ∷ [])
+          (each_map (Shown b.lines) (Shown (Tells x.live.sub x.live.rank x.came ∷ b.lines)) kept (λ v h. shown_behind b.lines x.live x.came v s.0 is.fits h) k)
+          (shown_behind b.lines x.live x.came x.live s.0 is.fits s.0, tt);
     }
 
-legible_taken : (items : List Item) (b : Board) → Each IsSound items → AreTextual items → LawfulBoard items b → LegibleBoard b → LegibleBoard (taken_in (λ v. true) items b)
+legible_taken : (items : List Item) (b : Board) → Each IsSound items → AreTextual items → LawfulBoard items b → LegibleBoard b
+    → LegibleBoard (taken_in (λ v. true) items b)
 legible_taken items b sound t l h =
-    let r = shown_asked (λ v. true) items b.lines b.round t h.slots in
-    legible_given items b (asked (λ v. true) items b.lines b.round).kept (asked (λ v. true) items b.lines b.round).told sound t h.lines r.kept r.told (take_keeps (λ v. true) items b l)
+    let r = shown_round (λ v. true) items b.lines b.round t h.slots in
+    legible_given items b (round_of (λ v. true) items b.lines b.round).kept (round_of (λ v. true) items b.lines b.round).came sound t h.lines r.kept r.came
+    (take_keeps (λ v. true) items b l)
 
 -- a session's turn changes its board as its round does, or not at all
-turned_board : (P : Board → Type 0) (items : List Item) (s : Session) → P s.board → P (taken_in (λ v. true) items s.board) → P (turned items s).session.board
+turned_board : (P : Board → Type 0) (items : List Item) (s : Session) → P s.board → P (taken_in (λ v. true) items s.board)
+    → P (session_turn items s).session.board
 turned_board P items s p q = by_owed s.owed
   where
     given : (t : Session) → P t.board → P (given_next t).board
     given t r = cond_rule (λ (u : Session). P u.board) (is_unsent t) _ _ (λ x. r) (λ x. r)
 
-    by_told : (o : Option Told) → P (round_given (on_board (taken_in (λ v. true) items) s) o).session.board
-    by_told None = q
-    by_told (Some t) = given (on_board (taken_in (λ v. true) items) s) q
+    by_came : (o : Option RoundLine) → P (round_given (on_board (taken_in (λ v. true) items) s) o).session.board
+    by_came None = q
+    by_came (Some t) = given (on_board (taken_in (λ v. true) items) s) q
 
-    by_round : (vs : List Live) → P (round_asked items s vs).session.board
+    by_round : (vs : List Live) → P (round_turn items s vs).session.board
     by_round [] = p
-    by_round (v ∷ vs) = cond_rule (λ (u : Turned). P u.session.board) (nat_le (2 ^ 60) (length s.board.lines)) _ _ (λ x. p) (λ x. by_told (asked (λ u. true) items s.board.lines s.board.round).told)
+    by_round (v ∷ vs) = cond_rule (λ (u : SessionTurn). P u.session.board) (nat_le (2 ^ 60) (length s.board.lines)) _ _ (λ x. p)
+        (λ x. by_came (round_of (λ u. true) items s.board.lines s.board.round).came)
 
-    by_owed : (owed : List (List ℕ)) → P (owed_given items s owed).session.board
+    by_owed : (owed : List (List ℕ)) → P (turn_owing items s owed).session.board
     by_owed (text ∷ owed) = p
-    by_owed [] = cond_rule (λ (u : Turned). P u.session.board) (is_unsent s) _ _ (λ x. given s p) (λ x. by_round s.board.round)
+    by_owed [] = cond_rule (λ (u : SessionTurn). P u.session.board) (is_unsent s) _ _ (λ x. given s p) (λ x. by_round s.board.round)
 
 -- a new subscription: the places of its key and command lie in its schema
-abbrev KeysIn : ℕ → Option InSchema → Type 0
+abbrev KeysIn : ℕ → Option KeyPlaces → Type 0
 KeysIn n None = Unit {0}
 KeysIn n (Some at) = (at.key < n) × (at.command < n)
 
@@ -325,237 +352,286 @@ keys_shown_in : (items : List Item) (a : Add) (asks : List Ask) → Each (IsAsk 
 keys_shown_in items a [] e = tt
 keys_shown_in items a (ask ∷ asks) e = by_mode ask.mode refl
   where
-    of_command : ask.mode ≡ mode.Command → KeysIn (length a.schema) (keys_in mode.Command (shown_at (shape_at items ask.item) ask.wanted.places))
+    of_command : ask.mode ≡ mode.Command → KeysIn (length a.schema) (keys_in mode.Command (keys_shown_at (shape_at items ask.item) ask.wanted.places))
     of_command command = let k = e.0.keys (sym e.0.mode ∙ command) in (omega (arith, k.key, e.0.schema), omega (arith, k.command, e.0.schema))
 
-    by_mode : (m : Mode) → ask.mode ≡ m → KeysIn (length a.schema) (keys_in m (shown_at (shape_at items ask.item) ask.wanted.places))
+    by_mode : (m : Mode) → ask.mode ≡ m → KeysIn (length a.schema) (keys_in m (keys_shown_at (shape_at items ask.item) ask.wanted.places))
     by_mode mode.Merge is = tt
     by_mode mode.Raw is = tt
     by_mode mode.Distinct is = tt
     by_mode mode.Command is = of_command is
 
 -- its two lines can be written
-begins_writable : (sub items fields : ℕ) (o : Option InSchema) → IsPlace sub → IsPlace items → IsPlace fields → KeysIn fields o → IsWritable (begins_line sub items fields o)
+begins_writable : (sub items fields : ℕ) (o : Option KeyPlaces) → IsOrdinal sub → IsOrdinal items → IsOrdinal fields → KeysIn fields o
+    → IsWritable (begins_line sub items fields o)
 begins_writable sub items fields None s i f k = ((s.some, s.most), ((i.some, i.most), ((f.some, f.most), tt)))
 begins_writable sub items fields (Some at) s i f k =
     ((s.some, s.most), ((i.some, i.most), ((f.some, f.most), ((omega arith, omega (arith, k.0, f.most)), ((omega arith, omega (arith, k.1, f.most)), tt)))))
 
-configures_writable : (lines : List Line) (sub : ℕ) (filtered : Bool) → IsPlace sub → IsWritable (wire lines (Configures sub filtered))
+configures_writable : (lines : List Line) (sub : ℕ) (filtered : Bool) → IsOrdinal sub → IsWritable (wire lines (Configures sub filtered))
 configures_writable lines sub true s = ((s.some, s.most), ((plain_utf8 (codes "unlimited") refl, refl), ((plain_utf8 (codes "filtered") refl, refl), tt)))
 configures_writable lines sub false s = ((s.some, s.most), ((plain_utf8 (codes "unlimited") refl, refl), ((plain_utf8 (codes "unfiltered") refl, refl), tt)))
 
 -- what begins by them
-abbrev begun_of : ℕ → ℕ → Option InSchema → Begun
+abbrev begun_of : ℕ → ℕ → Option KeyPlaces → Begun
 begun_of items fields keys = record { items = items; fields = fields; keyed = option_map told_places keys }
 
-begins : (sub other items fields : ℕ) (keys : Option InSchema) (before : Option Begun) (b : Bool) → (sub == other) ≡ b → begun_after other (begins_line sub items fields keys) before ≡ cond b (Some (begun_of items fields keys)) before
+begins : (sub other items fields : ℕ) (keys : Option KeyPlaces) (before : Option Begun) (b : Bool) → (sub == other) ≡ b
+    → begun_after other (begins_line sub items fields keys) before ≡ cond b (Some (begun_of items fields keys)) before
 begins sub other items fields None before b is = ap (λ (x : Bool). cond x (Some (begun_of items fields None)) before) is
 begins sub other items fields (Some at) before b is = ap (λ (x : Bool). cond x (Some (begun_of items fields (Some at))) before) is
 
-shown_begun : (lines : List Line) (sub items fields : ℕ) (keys : Option InSchema) (filtered : Bool) (v : Live) → is_of sub v ≡ false → Shown lines v → Shown (Configures sub filtered ∷ Begins sub items fields keys ∷ lines) v
+shown_begun : (lines : List Line) (sub items fields : ℕ) (keys : Option KeyPlaces) (filtered : Bool) (v : Live) → is_of sub v ≡ false → Shown lines v
+    → Shown (Configures sub filtered ∷ Begins sub items fields keys ∷ lines) v
 shown_begun lines sub items fields keys filtered v other h =
     record {
       subscription = h.subscription;
       is = begins sub v.sub items fields keys (begun v.sub (wires lines)) false other ∙ h.is;
       sub = h.sub;
-      place = h.place;
+      rank = h.rank;
       within = h.within;
       some = h.some;
       most = h.most;
       schema = h.schema;
       keyed = h.keyed;
-      rows = subst (λ (cs : List Came). Each (RowFits h.subscription.fields) (whats cs)) (sym (ap (λ (b : Bool). cond b [] (came v.sub v.place lines)) other)) h.rows;
+      rows = subst (λ (cs : List Came). Each (RowFits h.subscription.fields) (whats cs)) (sym (ap (λ (b : Bool). cond b [] (came v.sub v.rank lines)) other))
+          h.rows;
     }
 
 -- what is asked of an item shows the fields of a subscription, and in mode COMMAND its key and command stand where SUBCMD tells
-record AskShown (items : List Item) (fields : ℕ) (told : Option InSchema) (a : Ask) : Type 0 where
+record AskShown (items : List Item) (fields : ℕ) (keyed : Option KeyPlaces) (a : Ask) : Type 0 where
   schema : length a.wanted.places ≡ fields
   kind : a.mode ≡ mode.Command → (shape_at items a.item).kind ≡ kind.Command
-  keys : told ≡ keys_in a.mode (shown_at (shape_at items a.item) a.wanted.places)
+  keys : keyed ≡ keys_in a.mode (keys_shown_at (shape_at items a.item) a.wanted.places)
 
-ask_begun : (items : List Item) (sub place number fields : ℕ) (told : Option InSchema) (a : Ask) → AskShown items fields told a → (s : Slot) → s.plan ≡ plan_of (shape_at items a.item) (history_of items a.item) a.mode a.size
-    → BegunIn s.plan.mode (record { sub = sub; place = place; item = a.item; number = number; wanted = a.wanted; slot = s }) (option_map told_places told)
-ask_begun items sub place number fields told a k s is =
-    subst (λ (p : Plan). BegunIn p.mode (record { sub = sub; place = place; item = a.item; number = number; wanted = a.wanted; slot = s }) (option_map told_places told)) (sym is) (by_mode a.mode refl)
+ask_begun : (items : List Item) (sub rank number fields : ℕ) (keyed : Option KeyPlaces) (a : Ask) → AskShown items fields keyed a → (s : Slot)
+    → s.plan ≡ plan_of (shape_at items a.item) (history_of items a.item) a.mode a.size
+    → BegunIn s.plan.mode (record { sub = sub; rank = rank; item = a.item; number = number; wanted = a.wanted; slot = s }) (option_map told_places keyed)
+ask_begun items sub rank number fields keyed a k s is =
+    subst (λ (p : Plan). BegunIn p.mode (record { sub = sub; rank = rank; item = a.item; number = number; wanted = a.wanted; slot = s })
+    (option_map told_places keyed)) (sym is) (by_mode a.mode refl)
   where
-    by_mode : (m : Mode) → a.mode ≡ m → BegunIn m (record { sub = sub; place = place; item = a.item; number = number; wanted = a.wanted; slot = s }) (option_map told_places told)
+    by_mode : (m : Mode) → a.mode ≡ m → BegunIn m (record { sub = sub; rank = rank; item = a.item; number = number; wanted = a.wanted; slot = s })
+        (option_map told_places keyed)
     by_mode mode.Command e =
         record {
           kind = ap (λ (p : Plan). p.shape.kind) is ∙ k.kind e;
-          places = ap (option_map told_places) (k.keys ∙ ap (λ (m : Mode). keys_in m (shown_at (shape_at items a.item) a.wanted.places)) e)
+          places = ap (option_map told_places) (k.keys ∙ ap (λ (m : Mode). keys_in m (keys_shown_at (shape_at items a.item) a.wanted.places)) e)
               ∙ ap (λ (p : Plan). Some (told_places (schema_of a.wanted p))) (sym is);
         }
-    by_mode mode.Merge e = ap (option_map told_places) (k.keys ∙ ap (λ (m : Mode). keys_in m (shown_at (shape_at items a.item) a.wanted.places)) e)
-    by_mode mode.Raw e = ap (option_map told_places) (k.keys ∙ ap (λ (m : Mode). keys_in m (shown_at (shape_at items a.item) a.wanted.places)) e)
-    by_mode mode.Distinct e = ap (option_map told_places) (k.keys ∙ ap (λ (m : Mode). keys_in m (shown_at (shape_at items a.item) a.wanted.places)) e)
+    by_mode mode.Merge e = ap (option_map told_places) (k.keys ∙ ap (λ (m : Mode). keys_in m (keys_shown_at (shape_at items a.item) a.wanted.places)) e)
+    by_mode mode.Raw e = ap (option_map told_places) (k.keys ∙ ap (λ (m : Mode). keys_in m (keys_shown_at (shape_at items a.item) a.wanted.places)) e)
+    by_mode mode.Distinct e = ap (option_map told_places) (k.keys ∙ ap (λ (m : Mode). keys_in m (keys_shown_at (shape_at items a.item) a.wanted.places)) e)
 
-shown_joined : (items : List Item) (free : ℕ → ℕ) (lines : List Line) (sub many fields place : ℕ) (keys : Option InSchema) (filtered : Bool) (asks : List Ask) → IsPlace sub → IsPlace fields → many ≤ 999999999 → 1 ≤ place → place + length asks ≤ many + 1
-    → Each (AskShown items fields keys) asks → Each (Shown (Configures sub filtered ∷ Begins sub many fields keys ∷ lines)) (joined_all items free sub place asks)
-shown_joined items free lines sub many fields place keys filtered [] s f few first last shown = tt
-shown_joined items free lines sub many fields place keys filtered (a ∷ asks) s f few first last shown =
+shown_joined : (items : List Item) (free : ℕ → ℕ) (lines : List Line) (sub many fields rank : ℕ) (keys : Option KeyPlaces) (filtered : Bool) (asks : List Ask)
+    → IsOrdinal sub → IsOrdinal fields → many ≤ 999999999 → 1 ≤ rank → rank + length asks ≤ many + 1
+    → Each (AskShown items fields keys) asks → Each (Shown (Configures sub filtered ∷ Begins sub many fields keys ∷ lines))
+    (joined_all items free sub rank asks)
+shown_joined items free lines sub many fields rank keys filtered [] s f few first last shown = tt
+shown_joined items free lines sub many fields rank keys filtered (a ∷ asks) s f few first last shown =
     let same : (sub == sub) ≡ true = eq-eqb sub sub refl in (
       record {
         subscription = begun_of many fields keys;
         is = begins sub sub many fields keys (begun sub (wires lines)) true same;
         sub = s;
-        place = record { some = first; most = omega (arith, last, few) };
+        rank = record { some = first; most = omega (arith, last, few) };
         within = omega (arith, last);
         some = f.some;
         most = f.most;
         schema = shown.0.schema;
-        keyed = ask_begun items sub place (free a.item) fields keys a shown.0 (joined_slot items a)
+        keyed = ask_begun items sub rank (free a.item) fields keys a shown.0 (joined_slot items a)
             (joined_plan (plan_of (shape_at items a.item) (history_of items a.item) a.mode a.size) (history_of items a.item) a.wanted.snapshot);
-        rows = subst (λ (cs : List Came). Each (RowFits fields) (whats cs)) (sym (ap (λ (b : Bool). cond b [] (came sub place lines)) same)) tt;
+        rows = subst (λ (cs : List Came). Each (RowFits fields) (whats cs)) (sym (ap (λ (b : Bool). cond b [] (came sub rank lines)) same)) tt;
       },
-      shown_joined items free lines sub many fields (place + 1) keys filtered asks s f few (omega (arith, first)) (omega (arith, last)) shown.1,
+      shown_joined items free lines sub many fields (rank + 1) keys filtered asks s f few (omega (arith, first)) (omega (arith, last)) shown.1,
     )
 
 -- each item of a subscription shows its key and its command where its schema names them
-ask_keys : (items : List Item) (a : Add) (ask : Ask) → IsAsk items a ask → keys_in ask.mode (shown_at (shape_at items ask.item) ask.wanted.places) ≡ keys_in a.mode (schema_keys a.schema)
-ask_keys items a ask k = ap (λ (m : Mode). keys_in m (shown_at (shape_at items ask.item) ask.wanted.places)) k.mode ∙ by_mode a.mode refl
+ask_keys : (items : List Item) (a : Add) (ask : Ask) → IsAsk items a ask → keys_in ask.mode (keys_shown_at (shape_at items ask.item) ask.wanted.places)
+    ≡ keys_in a.mode (schema_keys a.schema)
+ask_keys items a ask k = ap (λ (m : Mode). keys_in m (keys_shown_at (shape_at items ask.item) ask.wanted.places)) k.mode ∙ by_mode a.mode refl
   where
-    by_mode : (m : Mode) → a.mode ≡ m → keys_in m (shown_at (shape_at items ask.item) ask.wanted.places) ≡ keys_in m (schema_keys a.schema)
+    by_mode : (m : Mode) → a.mode ≡ m → keys_in m (keys_shown_at (shape_at items ask.item) ask.wanted.places) ≡ keys_in m (schema_keys a.schema)
     by_mode mode.Command e = ap Some (k.named e)
     by_mode mode.Merge e = refl
     by_mode mode.Raw e = refl
     by_mode mode.Distinct e = refl
 
-first_keys : (items : List Item) (a : Add) (asks : List Ask) → 1 ≤ length asks → Each (IsAsk items a) asks → keys_shown items asks ≡ keys_in a.mode (schema_keys a.schema)
+first_keys : (items : List Item) (a : Add) (asks : List Ask) → 1 ≤ length asks → Each (IsAsk items a) asks
+    → keys_shown items asks ≡ keys_in a.mode (schema_keys a.schema)
 first_keys items a [] some k = absurd (omega (arith, some))
 first_keys items a (ask ∷ asks) some k = ask_keys items a ask k.0
 
-ask_shown : (items : List Item) (a : Add) (told : Option InSchema) (ask : Ask) → told ≡ keys_in a.mode (schema_keys a.schema) → IsAsk items a ask → AskShown items (length a.schema) told ask
-ask_shown items a told ask first k =
+ask_shown : (items : List Item) (a : Add) (keyed : Option KeyPlaces) (ask : Ask) → keyed ≡ keys_in a.mode (schema_keys a.schema) → IsAsk items a ask
+    → AskShown items (length a.schema) keyed ask
+ask_shown items a keyed ask first k =
     record { schema = k.schema; kind = λ command. (k.keys (sym k.mode ∙ command)).kind; keys = first ∙ sym (ask_keys items a ask k) }
 
-legible_added : (w : World) (s : Session) (a : Add) (free : ℕ → ℕ) (asks : List Ask) → IsAdd a → IsAsked w s a asks → LegibleBoard s.board → LegibleBoard (added w.items free a.sub (length a.schema) asks s.board)
-legible_added w s a free asks is k h =
-    let sub : IsPlace a.sub = record { some = is.some; most = is.most } in
-    let fields : IsPlace (length a.schema) = record { some = k.some_fields; most = omega (arith, k.most_fields) } in
+legible_added : (w : World) (s : Session) (a : Add) (free : ℕ → ℕ) → IsAdd a → IsAsked w s a → LegibleBoard s.board
+    → LegibleBoard (added w.items free a.sub (length a.schema) (asks_of w.items a) s.board)
+legible_added w s a free is k h =
+    let asks : List Ask = asks_of w.items a in
+    let sub : IsOrdinal a.sub = record { some = is.some; most = is.most } in
+    let fields : IsOrdinal (length a.schema) = record { some = k.some_fields; most = omega (arith, k.most_fields) } in
     record {
       lines = (
         configures_writable (Begins a.sub (length asks) (length a.schema) (keys_shown w.items asks) ∷ s.board.lines) a.sub (are_filtered asks) sub,
-        (begins_writable a.sub (length asks) (length a.schema) (keys_shown w.items asks) sub (record { some = k.some; most = omega (arith, k.most) }) fields (keys_shown_in w.items a asks k.each), h.lines),
+        (
+          begins_writable a.sub (length asks) (length a.schema) (keys_shown w.items asks) sub (record { some = k.some; most = omega (arith, k.most) }) fields
+              (keys_shown_in w.items a asks k.each),
+          h.lines,
+        ),
       );
-      slots = each_append (Shown (Configures a.sub (are_filtered asks) ∷ Begins a.sub (length asks) (length a.schema) (keys_shown w.items asks) ∷ s.board.lines)) s.board.round (joined_all w.items free a.sub 1 asks)
-          (each_map (λ (v : Live). (is_of a.sub v ≡ false) × Shown s.board.lines v) (Shown (Configures a.sub (are_filtered asks) ∷ Begins a.sub (length asks) (length a.schema) (keys_shown w.items asks) ∷ s.board.lines)) s.board.round
+      slots = each_append
+          (Shown (Configures a.sub (are_filtered asks) ∷ Begins a.sub (length asks) (length a.schema) (keys_shown w.items asks) ∷ s.board.lines)) s.board.round
+          (joined_all w.items free a.sub 1 asks)
+          (each_map (λ (v : Live). (is_of a.sub v ≡ false) × Shown s.board.lines v)
+          (Shown (Configures a.sub (are_filtered asks) ∷ Begins a.sub (length asks) (length a.schema) (keys_shown w.items asks) ∷ s.board.lines))
+          s.board.round
           (λ v x. shown_begun s.board.lines a.sub (length asks) (length a.schema) (keys_shown w.items asks) (are_filtered asks) v x.0 x.1)
           (each_both (λ (v : Live). is_of a.sub v ≡ false) (Shown s.board.lines) s.board.round (unused_each a.sub s.board.round k.new) h.slots))
-          (shown_joined w.items free s.board.lines a.sub (length asks) (length a.schema) 1 (keys_shown w.items asks) (are_filtered asks) asks sub fields (omega (arith, k.most)) (omega arith) (omega arith)
+          (shown_joined w.items free s.board.lines a.sub (length asks) (length a.schema) 1 (keys_shown w.items asks) (are_filtered asks) asks sub fields
+          (omega (arith, k.most)) (omega arith) (omega arith)
           (each_map (IsAsk w.items a) (AskShown w.items (length a.schema) (keys_shown w.items asks)) asks
           (λ x y. ask_shown w.items a (keys_shown w.items asks) x (first_keys w.items a asks k.some k.each) y) k.each));
     }
 
 -- a change of one session's board
-board_changed : (w : World) (n : ℕ) (s : Session) (f : Session → Session) → slice_get w.sessions n ≡ Some s → (LegibleBoard s.board → LegibleBoard (f s).board) → Legible w → Legible (record w { sessions = change n f w.sessions })
-board_changed w n s f is keep l = record { items = l.items; sessions = each_changed (λ (t : Session). LegibleBoard t.board) n f s w.sessions is keep l.sessions }
+board_changed : (w : World) (n : ℕ) (s : Session) (f : Session → Session) → slice_get w.sessions n ≡ Some s → (LegibleBoard s.board → LegibleBoard (f s).board)
+    → Legible w → Legible (record w { sessions = change n f w.sessions })
+board_changed w n s f is keep l =
+    record { items = l.items; sessions = each_changed (λ (t : Session). LegibleBoard t.board) n f s w.sessions is keep l.sessions }
 
-legible_adds : (w : World) (connection : ℕ) (req : List ℕ) (a : Add) (n : ℕ) (s : Session) (o : Result (List Ask) ℕ) → slice_get w.sessions n ≡ Some s → IsAdd a → add_asked w s a ≡ o → Legible w → Legible (adds_by w connection req a n o).after
-legible_adds w connection req a n s (Err code) is range asked l = l
-legible_adds w connection req a n s (Ok asks) is range asked l =
-    board_changed w n s (on_board (added w.items (free_number w.sessions) a.sub (length a.schema) asks)) is (legible_added w s a (free_number w.sessions) asks range (asked_is w s a asks asked)) l
+legible_adds : (w : World) (a : Add) (n : ℕ) (s : Session) → slice_get w.sessions n ≡ Some s → IsAdd a → add_code w s a ≡ None → Legible w
+    → Legible (record w { sessions = change n (subscribed w a) w.sessions })
+legible_adds w a n s is range none l =
+    board_changed w n s (subscribed w a) is
+    (legible_added w s a (free_number w.sessions) range (asked_is w s a none)) l
 
 -- requests
-legible_operates : (w : World) (connection : ℕ) (req : List ℕ) (o : Op) (n : ℕ) (s : Session) → slice_get w.sessions n ≡ Some s → IsOp o → Legible w → Legible (operates w connection req o n s).after
-legible_operates w connection req (op.Add a) n s is range l = legible_adds w connection req a n s (add_asked w s a) is range refl l
+legible_operates : (w : World) (connection : ℕ) (req : List ℕ) (o : Op) (n : ℕ) (s : Session) → slice_get w.sessions n ≡ Some s → IsOp o → Legible w
+    → Legible (operates w connection req o n s).after
+legible_operates w connection req (op.Add a) n s is range l =
+    found_rule (λ (x : Stepped). Legible x.after) (add_code w s a) _ _ (λ none. legible_adds w a n s is range none l) (λ code x. l)
 legible_operates w connection req (op.Delete sub) n s is range l = l
 legible_operates w connection req (op.Reconf sub frequency) n s is range l = l
 legible_operates w connection req (op.Constrain bandwidth) n s is range l = l
 legible_operates w connection req op.ForceRebind n s is range l = l
 legible_operates w connection req op.Destroy n s is range l = l
 
-legible_created : (w : World) (connection : ℕ) (c : Create) (o : Option ℕ) → Legible w → Legible (creates_by w connection c o).after
-legible_created w connection c None l =
-    record { items = l.items; sessions = each_append (λ (s : Session). LegibleBoard s.board) w.sessions (opened (length w.sessions + 1) c.keepalive ∷ []) l.sessions (record { lines = tt; slots = tt }, tt) }
-legible_created w connection c (Some code) l = l
+legible_creates : (w : World) (connection : ℕ) (c : Create) → Legible w → Legible (creates w connection c).after
+legible_creates w connection c l =
+    found_rule (λ (x : Stepped). Legible x.after) (create_code w c) _ _
+    (λ none. record {
+      items = l.items;
+      sessions = each_append (λ (s : Session). LegibleBoard s.board) w.sessions
+          (opened (length w.sessions + 1) c.keepalive ∷ []) l.sessions (record { lines = tt; slots = tt }, tt);
+    })
+    (λ code x. l)
 
 legible_acts : (w : World) (connection : ℕ) (r : Request) → IsRequest r → Legible w → Legible (acts w connection r).after
-legible_acts w connection (request.Create c) range l = legible_created w connection c (create_code w c) l
+legible_acts w connection (request.Create c) range l = legible_creates w connection c l
 legible_acts w connection (request.Bind b) range l = l
 legible_acts w connection (request.Control c) range l =
-    session_rule (λ (x : Stepped). Legible x.after) w.sessions (session_named w connection c.session) _ (operates w connection c.req c.op) l (λ n s is. legible_operates w connection c.req c.op n s is range l)
+    session_rule (λ (x : Stepped). Legible x.after) w.sessions (session_named w connection c.session) _ (operates w connection c.req c.op) l
+    (λ n s is. legible_operates w connection c.req c.op n s is range l)
 legible_acts w connection request.Wsok range l = l
 
 legible_malformed : (w : World) (connection : ℕ) (name : List ℕ) (req : Option (List ℕ)) → Legible w → Legible (malformed w connection name req).after
-legible_malformed w connection name req l = cond_rule (λ (x : Stepped). Legible x.after) (is_opening name) _ _ (λ t. l) (λ t. by_req req)
-  where
-    by_req : (o : Option (List ℕ)) → Legible (malformed_control w connection o).after
-    by_req None = l
-    by_req (Some req) = l
+legible_malformed w connection name req l =
+    cond_rule (λ (x : Stepped). Legible x.after) (is_opening name) _ _ (λ t. l) (λ t. found_rule (λ (x : Stepped). Legible x.after) req _ _ (λ e. l) (λ r e. l))
 
 legible_requests : (w : World) (connection : ℕ) (name : List ℕ) (ps : Option (List Pair)) → Legible w → Legible (requests w connection name ps).after
-legible_requests w connection name ps l = by_request (request_on w connection name ps) (request_on_is w connection name ps)
-  where
-    by_request : (o : Option Request) → IfSome o IsRequest → Legible (requests_by w connection name (option_and_then (req_behind name) ps) o).after
-    by_request None range = legible_malformed w connection name (option_and_then (req_behind name) ps) l
-    by_request (Some r) range = legible_acts w connection r range l
+legible_requests w connection name ps l =
+    found_rule (λ (x : Stepped). Legible x.after) (request_on w connection name ps) _ (acts w connection)
+    (λ none. legible_malformed w connection name (option_and_then (req_behind name) ps) l)
+    (λ r is. legible_acts w connection r (subst (λ (o : Option Request). IfSome o IsRequest) is (request_on_is w connection name ps)) l)
 
 -- a publish
 textual_grown : (h : List Entry) (e : Entry) → TextualEvent e.event → Textual h → Textual (h ++ e ∷ [])
 textual_grown h e t l = each_append (λ (x : Entry). TextualEvent x.event) h (e ∷ []) l (t, tt)
 
 legible_publishes : (w : World) (item : ℕ) (e : Entry) → TextualEvent e.event → Legible w → Legible (publishes w item e).after
-legible_publishes w item e t l = by_item (slice_get w.items item) refl
-  where
-    by_cause : (i : Item) (o : Option PublishRefused) → slice_get w.items item ≡ Some i → Legible (published_by w item e (length i.history + 1) o).after
-    by_cause i None is = record { items = each_changed (λ (j : Item). Textual j.history) item (grown e) i w.items is (textual_grown i.history e t) l.items; sessions = l.sessions }
-    by_cause i (Some cause) is = l
+legible_publishes w item e t l =
+    found_rule (λ (x : Stepped). Legible x.after) (slice_get w.items item) _ _ (λ none. l)
+    (λ i is. cond_rule (λ (x : Stepped). Legible x.after) (is_whole (length i.definition.fields) e.event) _ _
+    (λ whole. found_rule (λ (x : Stepped). Legible x.after) (cause_to_refuse w item e i) _ _
+    (λ none. record {
+      items = each_changed (λ (j : Item). Textual j.history) item (grown e) i w.items is (textual_grown i.history e t) l.items;
+      sessions =
+          l.sessions;
+    })
+    (λ cause y. l))
+    (λ part. l))
 
-    by_item : (o : Option Item) → slice_get w.items item ≡ o → Legible (published w item e o).after
-    by_item None is = l
-    by_item (Some i) is =
-        cond_rule (λ (x : Stepped). Legible x.after) (is_whole (length i.definition.fields) e.event) _ _
-        (λ whole. by_cause i (refusal (shape_of i.definition) i.history (least_far item (length i.history) w.sessions) e.adapter e.seq e.event) is)
-        (λ part. l)
-
-legible_enqueued : (w : World) (n sub place : ℕ) (s : Session) (o : Option Live) → slice_get w.sessions n ≡ Some s → Legible w → Legible (enqueued_by w n sub place o).after
-legible_enqueued w n sub place s None is l = l
-legible_enqueued w n sub place s (Some v) is l =
+legible_enqueued : (w : World) (n sub rank : ℕ) (s : Session) (o : Option Live) → slice_get w.sessions n ≡ Some s → Legible w
+    → Legible (enqueued_by w n sub rank o).after
+legible_enqueued w n sub rank s None is l = l
+legible_enqueued w n sub rank s (Some v) is l =
     cond_rule (λ (x : Once). Legible x.after) (nat_lt v.slot.last (length (history_of w.items v.item))) _ _
-    (λ t. board_changed w n s (on_board (enqueued_in w.items sub place)) is
-    (λ b. record { lines = b.lines; slots = each_mapped (Shown s.board.lines) (Shown s.board.lines) (enqueue_at w.items sub place) s.board.round (shown_enqueued w.items s.board.lines sub place) b.slots }) l)
+    (λ t. board_changed w n s (on_board (enqueued_in w.items sub rank)) is
+    (λ b. record {
+      lines = b.lines;
+      slots = each_mapped (Shown s.board.lines) (Shown s.board.lines) (enqueue_at w.items sub rank) s.board.round
+          (shown_enqueued w.items s.board.lines sub rank) b.slots;
+    }) l)
     (λ t. l)
 
-legible_took : (w : World) (connection n : ℕ) (old new : Session) (a : Answer) → slice_get w.sessions n ≡ Some old → LegibleBoard new.board → Legible w → Legible (took_by w connection n new a).after
+legible_took : (w : World) (connection n : ℕ) (old new : Session) (g : TurnGives) → slice_get w.sessions n ≡ Some old → LegibleBoard new.board → Legible w
+    → Legible (took w connection n new g).after
 legible_took w connection n old new (Gave text) is k l = board_changed w n old (λ x. new) is (λ x. k) l
 legible_took w connection n old new Idle is k l = board_changed w n old (λ x. new) is (λ x. k) l
 legible_took w connection n old new Spent is k l = l
 
-both_enqueued : (connection sub place times : ℕ) (w : World) → Both w → Both (repeated (enqueue_once connection sub place) times w).after
-both_enqueued connection sub place times w b =
-    repeated_keeps Both (enqueue_once connection sub place) times w
-    (λ v k. session_rule (λ (x : Once). Both x.after) v.sessions (session_of v connection) _ (λ n s. enqueued_by v n sub place (live_at sub place s.board.round)) k
-    (λ n s is. record { records = lawful_enqueued v n sub place s (live_at sub place s.board.round) is k.records; legible = legible_enqueued v n sub place s (live_at sub place s.board.round) is k.legible })) b
+both_enqueued : (connection sub rank times : ℕ) (w : World) → Both w → Both (repeated (enqueue_once connection sub rank) times w).after
+both_enqueued connection sub rank times w b =
+    repeated_keeps Both (enqueue_once connection sub rank) times w
+    (λ v k. session_rule (λ (x : Once). Both x.after) v.sessions (session_of v connection) _ (λ n s. enqueued_by v n sub rank (live_at sub rank s.board.round))
+    k
+    (λ n s is. record {
+      records = lawful_enqueued v n sub rank s (live_at sub rank s.board.round) is k.records;
+      legible =
+          legible_enqueued v n sub rank s (live_at sub rank s.board.round) is k.legible;
+    })) b
 
-took_both : (v : World) (connection n : ℕ) (s : Session) → slice_get v.sessions n ≡ Some s → Both v → Both (took_by v connection n (turned v.items s).session (turned v.items s).answer).after
+took_both : (v : World) (connection n : ℕ) (s : Session) → slice_get v.sessions n ≡ Some s → Both v
+    → Both (took v connection n (session_turn v.items s).session (session_turn v.items s).gives).after
 took_both v connection n s is k =
     let lawful = each_at (LawfulSession v.items) n s v.sessions is k.records.sessions in
     let board = each_at (λ (t : Session). LegibleBoard t.board) n s v.sessions is k.legible.sessions in
     record {
-      records = lawful_took v connection n s (turned v.items s).session (turned v.items s).answer is (turned_keeps v.items s lawful) k.records;
-      legible = legible_took v connection n s (turned v.items s).session (turned v.items s).answer is (turned_board LegibleBoard v.items s board (legible_taken v.items s.board k.records.items k.legible.items lawful.board board)) k.legible;
+      records = lawful_took v connection n s (session_turn v.items s).session (session_turn v.items s).gives is (session_keeps v.items s lawful) k.records;
+      legible = legible_took v connection n s (session_turn v.items s).session (session_turn v.items s).gives is
+          (turned_board LegibleBoard v.items s board (legible_taken v.items s.board k.records.items k.legible.items lawful.board board)) k.legible;
     }
 
 both_taken : (connection times : ℕ) (w : World) → Both w → Both (repeated (take_once connection) times w).after
 both_taken connection times w b =
     repeated_keeps Both (take_once connection) times w
-    (λ v k. session_rule (λ (x : Once). Both x.after) v.sessions (session_of v connection) _ (λ n s. took_by v connection n (turned v.items s).session (turned v.items s).answer) k
+    (λ v k. session_rule (λ (x : Once). Both x.after) v.sessions (session_of v connection) _
+    (λ n s. took v connection n (session_turn v.items s).session (session_turn v.items s).gives) k
     (λ n s is. took_both v connection n s is k)) b
 
 -- a step
 legible_does : (w : World) (s : Step) (times : ℕ) → StepInRange s → Both w → Legible (does w s times).after
 legible_does w (step.Set name) times r b = record { items = b.legible.items; sessions = b.legible.sessions }
 legible_does w (step.Item name k fields) times r b =
-    record { items = each_append (λ (i : Item). Textual i.history) w.items (record { definition = record { name = name; kind = k; fields = fields }; history = [] } ∷ []) b.legible.items (tt, tt); sessions = b.legible.sessions }
+    record {
+      items =
+          each_append (λ (i : Item). Textual i.history) w.items (record { definition = record { name = name; kind = k; fields = fields }; history = [] } ∷ [])
+          b.legible.items (tt, tt);
+      sessions = b.legible.sessions;
+    }
 legible_does w (step.Tick ms) times r b = record { items = b.legible.items; sessions = b.legible.sessions }
 legible_does w (step.Conn name l) times r b = record { items = b.legible.items; sessions = b.legible.sessions }
 legible_does w (step.Open name) times r b =
-    legible_created (connects w name link.Ws) (length w.connections) plain_create (create_code (connects w name link.Ws) plain_create) (record { items = b.legible.items; sessions = b.legible.sessions })
+    legible_creates (connects w name link.Ws) (length w.connections) plain_create (record { items = b.legible.items; sessions = b.legible.sessions })
 legible_does w (step.Add connection words) times r b = legible_requests w connection (codes "control") (add_pairs w.line words) b.legible
 legible_does w (step.Request connection name parameters) times r b = legible_requests w connection name (form_of parameters) b.legible
-legible_does w (step.Publish adapter seq item cells) times r b = legible_publishes w item (record { adapter = adapter; seq = seq; event = Update cells }) r b.legible
+legible_does w (step.Publish adapter seq item cells) times r b = legible_publishes w item (record { adapter = adapter; seq = seq; event = Update cells }) r
+    b.legible
 legible_does w (step.Clear adapter seq item) times r b = legible_publishes w item (record { adapter = adapter; seq = seq; event = Clear }) tt b.legible
-legible_does w (step.Enqueue connection sub place) times r b = (both_enqueued connection sub place times w b).legible
+legible_does w (step.Enqueue connection sub rank) times r b = (both_enqueued connection sub rank times w b).legible
 legible_does w (step.Take connection) times r b = (both_taken connection times w b).legible
 legible_does w (step.Lose connection) times r b = b.legible
 
@@ -564,7 +640,11 @@ both_does w s times r d b = record { records = lawful_does w s times r d b.recor
 
 -- one line more of a script
 pub both_counted : (w : World) → Both w → Both (counted w)
-both_counted w b = record { records = record { items = b.records.items; sessions = b.records.sessions }; legible = record { items = b.legible.items; sessions = b.legible.sessions } }
+both_counted w b = record {
+  records = record { items = b.records.items; sessions = b.records.sessions };
+  legible =
+      record { items = b.legible.items; sessions = b.legible.sessions };
+}
 
 pub both_empty : Both empty
 both_empty = record { records = lawful_empty; legible = record { items = tt; sessions = tt } }
@@ -576,37 +656,39 @@ history_sound (i ∷ items) zero within e = e.0.history
 history_sound (i ∷ items) (suc n) within e = history_sound items n (omega (arith, within)) e.1
 
 decodes : (items : List Item) (s : Session) (v : Live) → Each IsSound items → LegibleBoard s.board → LawfulLive items s.board.lines v → Shown s.board.lines v
-    → DecodesLive items s.board.lines v
+    → ClientDecodes items s.board.lines v
 decodes items s v sound b l h =
     record {
       lines = wires s.board.lines;
       read = are_read s.board.lines b.lines;
-      came = has_come s.board.lines v.sub v.place h.subscription h.is h.place.some h.within h.some (omega (arith, h.most)) h.rows;
+      came = has_come s.board.lines v.sub v.rank h.subscription h.is h.rank.some h.within h.some (omega (arith, h.most)) h.rows;
       schema = sym h.schema;
       most = omega (arith, h.most, h.schema);
       keys = by_mode v.slot.plan.mode refl h.keyed;
     }
   where
-    by_mode : (m : Mode) → v.slot.plan.mode ≡ m → BegunIn m v h.subscription.keyed → KeysOf m (history_of items v.item) v.wanted v.slot h.subscription.keyed (whats (came v.sub v.place s.board.lines))
+    by_mode : (m : Mode) → v.slot.plan.mode ≡ m → BegunIn m v h.subscription.keyed
+        → KeysOf m (history_of items v.item) v.wanted v.slot h.subscription.keyed (whats (came v.sub v.rank s.board.lines))
     by_mode mode.Command command begun =
-        told_keys (history_of items v.item) v.wanted v.slot (came v.sub v.place s.board.lines) h.subscription.keyed begun.kind
+        told_keys (history_of items v.item) v.wanted v.slot (came v.sub v.rank s.board.lines) h.subscription.keyed begun.kind
         (subst (λ (p : Shape). IsHistory p (history_of items v.item)) (sym l.shape) (history_sound items v.item l.declared sound)) begun.places
-        (subst (λ (m : Mode). LawfulOf m (history_of items v.item) v.wanted v.slot (came v.sub v.place s.board.lines)) command l.told)
+        (subst (λ (m : Mode). LawfulOf m (history_of items v.item) v.wanted v.slot (came v.sub v.rank s.board.lines)) command l.came)
     by_mode mode.Merge other begun = begun
     by_mode mode.Raw other begun = begun
     by_mode mode.Distinct other begun = begun
 
-decoded : (items : List Item) (s : Session) → Each IsSound items → LawfulSession items s → LegibleBoard s.board → Decoded items s
+decoded : (items : List Item) (s : Session) → Each IsSound items → LawfulSession items s → LegibleBoard s.board → ClientsDecode items s
 decoded items s sound l b =
     each_map (λ (v : Live). LawfulLive items s.board.lines v × Shown s.board.lines v)
-    (DecodesLive items s.board.lines) s.board.round (λ v x. decodes items s v sound b x.0 x.1)
+    (ClientDecodes items s.board.lines) s.board.round (λ v x. decodes items s v sound b x.0 x.1)
     (each_both (LawfulLive items s.board.lines) (Shown s.board.lines) s.board.round l.board.slots b.slots)
 
 pub lawful_both : (w : World) → Both w → Lawful w
 lawful_both w b =
     record {
       records = b.records;
-      clients = each_map (λ (s : Session). LawfulSession w.items s × LegibleBoard s.board) (Decoded w.items) w.sessions (λ s x. decoded w.items s b.records.items x.0 x.1)
+      clients = each_map (λ (s : Session). LawfulSession w.items s × LegibleBoard s.board) (ClientsDecode w.items) w.sessions
+          (λ s x. decoded w.items s b.records.items x.0 x.1)
           (each_both (LawfulSession w.items) (λ (s : Session). LegibleBoard s.board) w.sessions b.records.sessions b.legible.sessions);
     }
 

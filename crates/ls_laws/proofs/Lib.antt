@@ -3,9 +3,9 @@ pub mod Keeps
 pub mod MergeLaws
 pub mod Updates
 pub mod RawLaws
-pub mod RawTold
+pub mod RawTruths
 pub mod DistinctLaws
-pub mod DistinctTold
+pub mod DistinctTruths
 pub mod EachKey
 pub mod Keys
 pub mod CommandLaws
@@ -23,6 +23,6 @@ pub mod Heard
 pub mod Textual
 pub mod Legible
 pub mod Scripts
-pub mod Told
+pub mod Settled
 pub mod ClientTables
 pub mod Examples

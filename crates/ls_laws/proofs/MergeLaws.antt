@@ -1,5 +1,6 @@
 -- What is true of a slot of mode MERGE stays true.
-use Rattle.std.proofs.Common.{◌≡◌, ℕ, ◌+◌, ◌-◌, ◌<◌, ◌≤◌, List, [], ◌∷◌, ◌++◌, length, replicate, refl, sym, ◌∙◌, ap, arith, Bool, true, false, not, ◌&&◌, cond, subst, Some, None, is_some}
+use Rattle.std.proofs.Common.{◌≡◌, ℕ, ◌+◌, ◌-◌, ◌<◌, ◌≤◌, List, [], ◌∷◌, ◌++◌, length, replicate, refl, sym, ◌∙◌, ap, arith, Bool, true, false, not, ◌&&◌, cond}
+use Rattle.std.proofs.Common.{subst, Some, None, is_some}
 use Rattle.std.specs.Option.{option_map_or}
 use Rattle.std.proofs.lemmas.List.{length-append, length-replicate}
 use Rattle.ls_value.specs.declared.row.Value.{Value}
@@ -12,14 +13,14 @@ use Rattle.ls_event.specs.History.{merged, row_after_all, between}
 use Rattle.ls_event.specs.Slots.{Plan, Slot, fresh, enqueued}
 use Rattle.ls_mirror.specs.Client.{Row}
 use Rattle.ls_world.specs.Came.{Came}
-use Rattle.ls_event.specs.Cuts.{touched_after_all, told_cells, flags_to, change_to, next_place, merge_cut}
+use Rattle.ls_event.specs.Cuts.{touched_after_all, flagged_cells, flags_to, change_to, next_cursor, merge_cut}
 use Rattle.ls_event.proofs.Merged.{merged-append, merged-between, merged_length}
 use Rattle.ls_event.proofs.Cuts.{touched_after_all_length, told_cells_length}
 use Rattle.ls_event.specs.Joining.{merge_joined}
 use Rattle.ls_world.specs.Lines.{last_row}
-use Rattle.ls_world.specs.Cutting.{Wanted, client_row, accepted}
+use Rattle.ls_world.specs.Cutting.{Wanted, client_row, what_of_cut}
 use Rattle.ls_world.specs.Lawful.{MergeLines, LawfulMerge}
-use Rattle.ls_laws.proofs.Agrees.{Agrees, agrees_same, agrees_all, agrees_after_all, applied-told}
+use Rattle.ls_laws.proofs.Agrees.{Agrees, agrees_same, agrees_all, agrees_after_all, applied-flagged}
 use Rattle.ls_world.proofs.Cuts.{IsMergeCut, merge_cut_is}
 use Rattle.ls_laws.proofs.Keeps.{Keeps, AfterCut}
 
@@ -49,8 +50,8 @@ longer h more w s cs l =
       behind = l.behind;
       within = omega (arith, l.within, length-append h more);
       before = l.before;
-      row = λ g. l.row g ∙ ap (λ r. Some (projected r w.places)) (sym (merged-append s.plan.shape.fields h more s.place (omega (arith, l.behind, l.within))));
-      lines = lines_longer s.plan w h more (s.place + 1) cs l.lines;
+      row = λ g. l.row g ∙ ap (λ r. Some (projected r w.places)) (sym (merged-append s.plan.shape.fields h more s.cursor (omega (arith, l.behind, l.within))));
+      lines = lines_longer s.plan w h more (s.cursor + 1) cs l.lines;
     }
 
 enqueue : (h : List Entry) (w : Wanted) (s : Slot) (cs : List Came) → s.last < length h → LawfulMerge h w s cs → LawfulMerge h w (enqueued s) cs
@@ -64,14 +65,15 @@ enqueue h w s cs more l =
       lines = l.lines;
     }
 
--- a row whose projection the client has, and which agrees with the state at the client's place where nothing was touched
+-- a row whose projection the client has, and which agrees with the state at the client's cursor where nothing was touched
 record Starts (fields : ℕ) (given : Bool) (places : List ℕ) (h : List Entry) (p : ℕ) (cs : List Came) : Type 0 where
   row : List Value
   has : client_row (length places) cs ≡ projected row places
   agrees : Agrees (replicate fields (not given)) row (merged fields h p)
   long : length row ≡ fields
 
-starts : (fields : ℕ) (given : Bool) (places : List ℕ) (h : List Entry) (p : ℕ) (cs : List Came) → (given ≡ false → cs ≡ []) → (given ≡ true → last_row cs ≡ Some (projected (merged fields h p) places)) → Starts fields given places h p cs
+starts : (fields : ℕ) (given : Bool) (places : List ℕ) (h : List Entry) (p : ℕ) (cs : List Came) → (given ≡ false → cs ≡ [])
+    → (given ≡ true → last_row cs ≡ Some (projected (merged fields h p) places)) → Starts fields given places h p cs
 starts fields true places h p cs none has =
     record {
       row = merged fields h p;
@@ -89,43 +91,51 @@ starts fields false places h p cs none has =
 
 -- from the row that the client has the cells make the item's row
 row_by : (fields : ℕ) (given : Bool) (places : List ℕ) (h : List Entry) (p q : ℕ) (cs : List Came) → p ≤ q → Starts fields given places h p cs
-    → applied (client_row (length places) cs) (projected_cells (told_cells (touched_after_all (replicate fields (not given)) (between h p q)) (merged fields h q)) places) ≡ projected (merged fields h q) places
+    → applied (client_row (length places) cs)
+    (projected_cells (flagged_cells (touched_after_all (replicate fields (not given)) (between h p q)) (merged fields h q)) places)
+    ≡ projected (merged fields h q) places
 row_by fields given places h p q cs le st =
     let e : merged fields h q ≡ row_after_all (merged fields h p) (between h p q) = merged-between fields h p q le in
     let d : Agrees (touched_after_all (replicate fields (not given)) (between h p q)) st.row (row_after_all (merged fields h p) (between h p q))
     = agrees_after_all (replicate fields (not given)) st.row (merged fields h p) (between h p q) st.agrees in
     let f : Agrees (touched_after_all (replicate fields (not given)) (between h p q)) st.row (merged fields h q)
     = subst (λ (r : List Value). Agrees (touched_after_all (replicate fields (not given)) (between h p q)) st.row r) (sym e) d in
-    let n : length (touched_after_all (replicate fields (not given)) (between h p q)) ≡ fields = touched_after_all_length (replicate fields (not given)) (between h p q) ∙ length-replicate fields (not given) in
-    let k : length (told_cells (touched_after_all (replicate fields (not given)) (between h p q)) (merged fields h q)) ≡ length st.row
-    = told_cells_length (touched_after_all (replicate fields (not given)) (between h p q)) (merged fields h q) (n ∙ sym (merged_length fields h q)) ∙ merged_length fields h q ∙ sym st.long in
-    ap (λ r. applied r (projected_cells (told_cells (touched_after_all (replicate fields (not given)) (between h p q)) (merged fields h q)) places)) st.has
-    ∙ applied-projected st.row (told_cells (touched_after_all (replicate fields (not given)) (between h p q)) (merged fields h q)) places k
-    ∙ ap (λ r. projected r places) (applied-told (touched_after_all (replicate fields (not given)) (between h p q)) st.row (merged fields h q) f)
+    let n : length (touched_after_all (replicate fields (not given)) (between h p q)) ≡ fields =
+    touched_after_all_length (replicate fields (not given)) (between h p q) ∙ length-replicate fields (not given) in
+    let k : length (flagged_cells (touched_after_all (replicate fields (not given)) (between h p q)) (merged fields h q)) ≡ length st.row
+    = told_cells_length (touched_after_all (replicate fields (not given)) (between h p q)) (merged fields h q) (n ∙ sym (merged_length fields h q))
+    ∙ merged_length fields h q ∙ sym st.long in
+    ap (λ r. applied r (projected_cells (flagged_cells (touched_after_all (replicate fields (not given)) (between h p q)) (merged fields h q)) places)) st.has
+    ∙ applied-projected st.row (flagged_cells (touched_after_all (replicate fields (not given)) (between h p q)) (merged fields h q)) places k
+    ∙ ap (λ r. projected r places) (applied-flagged (touched_after_all (replicate fields (not given)) (between h p q)) st.row (merged fields h q) f)
 
 next_row : (h : List Entry) (w : Wanted) (s : Slot) (cs : List Came) → LawfulMerge h w s cs
-    → applied (client_row (length w.places) cs) (projected_cells (told_cells (flags_to h s (next_place s)) (merged s.plan.shape.fields h (next_place s))) w.places) ≡ projected (merged s.plan.shape.fields h (next_place s)) w.places
-next_row h w s cs l = row_by s.plan.shape.fields s.given w.places h s.place (next_place s) cs (omega arith) (starts s.plan.shape.fields s.given w.places h s.place cs l.before l.row)
+    → applied (client_row (length w.places) cs) (projected_cells (flagged_cells (flags_to h s (next_cursor s)) (merged s.plan.shape.fields h (next_cursor s)))
+    w.places) ≡ projected (merged s.plan.shape.fields h (next_cursor s)) w.places
+next_row h w s cs l = row_by s.plan.shape.fields s.has_started w.places h s.cursor (next_cursor s) cs (omega arith)
+    (starts s.plan.shape.fields s.has_started w.places h s.cursor cs l.before l.row)
 
 -- the client's row is the last one that came
-client_has : (h : List Entry) (w : Wanted) (s : Slot) (cs : List Came) → LawfulMerge h w s cs → s.given ≡ true → client_row (length w.places) cs ≡ projected (merged s.plan.shape.fields h s.place) w.places
+client_has : (h : List Entry) (w : Wanted) (s : Slot) (cs : List Came) → LawfulMerge h w s cs → s.has_started ≡ true
+    → client_row (length w.places) cs ≡ projected (merged s.plan.shape.fields h s.cursor) w.places
 client_has h w s cs l given = ap (λ o. option_map_or (λ r. r) o (nulls (length w.places))) (l.row given)
 
--- the next place is no further than the last number
-pub next_within : (s : Slot) → 0 < s.plan.size → s.place < s.last → next_place s ≤ s.last
+-- the next cursor is no further than the last number
+pub next_within : (s : Slot) → 0 < s.plan.size → s.cursor < s.last → next_cursor s ≤ s.last
 next_within s some behind = omega (arith, some, behind)
 
-passed_by : (h : List Entry) (w : Wanted) (s : Slot) (cs : List Came) (old new : List Value) (v : Bool) → (s.given && row_eq old new) ≡ v → old ≡ client_row (length w.places) cs → new ≡ projected (merged s.plan.shape.fields h (next_place s)) w.places → s.place < s.last → LawfulMerge h w s cs
-    → AfterCut LawfulMerge h w s cs (change_to h s (next_place s)) (cond v None (Some (Row new)))
+passed_by : (h : List Entry) (w : Wanted) (s : Slot) (cs : List Came) (old new : List Value) (v : Bool) → (s.has_started && row_eq old new) ≡ v
+    → old ≡ client_row (length w.places) cs → new ≡ projected (merged s.plan.shape.fields h (next_cursor s)) w.places → s.cursor < s.last → LawfulMerge h w s cs
+    → AfterCut LawfulMerge h w s cs (change_to h s (next_cursor s)) (cond v None (Some (Row new)))
 passed_by h w s cs old new true t has row behind l =
-    let given : s.given ≡ true = and_left s.given (row_eq old new) t in
+    let given : s.has_started ≡ true = and_left s.has_started (row_eq old new) t in
     record {
       some = l.some;
       behind = next_within s l.some behind;
       within = l.within;
       before = λ f. absurd (let x : true ≡ false = f in cc);
-      row = λ g. l.row given ∙ ap Some (sym (client_has h w s cs l given) ∙ sym has ∙ row_eq_true old new (and_right s.given (row_eq old new) t) ∙ row);
-      lines = lines_further s.plan w h (s.place + 1) (next_place s + 1) cs (omega arith) l.lines;
+      row = λ g. l.row given ∙ ap Some (sym (client_has h w s cs l given) ∙ sym has ∙ row_eq_true old new (and_right s.has_started (row_eq old new) t) ∙ row);
+      lines = lines_further s.plan w h (s.cursor + 1) (next_cursor s + 1) cs (omega arith) l.lines;
     }
 passed_by h w s cs old new false t has row behind l =
     record {
@@ -137,17 +147,21 @@ passed_by h w s cs old new false t has row behind l =
       lines = (
         omega arith,
         record { row = ap Row row; reached = next_within s l.some behind; recent = omega (arith, l.some); within = l.within },
-        lines_further s.plan w h (s.place + 1) (next_place s) cs (omega arith) l.lines,
+        lines_further s.plan w h (s.cursor + 1) (next_cursor s) cs (omega arith) l.lines,
       );
     }
 
-pass : (h : List Entry) (w : Wanted) (s : Slot) (cs : List Came) (t : Taken) → merge_cut h s ≡ Some t → LawfulMerge h w s cs → AfterCut LawfulMerge h w s cs t (accepted w s cs t)
+pass : (h : List Entry) (w : Wanted) (s : Slot) (cs : List Came) (t : Taken) → merge_cut h s ≡ Some t → LawfulMerge h w s cs
+    → AfterCut LawfulMerge h w s cs t (what_of_cut w s cs t)
 pass h w s cs t is l =
     let c : IsMergeCut h s t = merge_cut_is h s t is in
     let old : List Value = client_row (length w.places) cs in
-    let new : List Value = applied (client_row (length w.places) cs) (projected_cells (told_cells (flags_to h s (next_place s)) (merged s.plan.shape.fields h (next_place s))) w.places) in
-    subst (λ (u : Taken). AfterCut LawfulMerge h w s cs u (accepted w s cs u)) (sym c.taken)
-    (passed_by h w s cs (client_row (length w.places) cs) new (s.given && row_eq (client_row (length w.places) cs) new) refl refl (next_row h w s cs l) c.behind l)
+    let new : List Value =
+    applied (client_row (length w.places) cs)
+    (projected_cells (flagged_cells (flags_to h s (next_cursor s)) (merged s.plan.shape.fields h (next_cursor s))) w.places) in
+    subst (λ (u : Taken). AfterCut LawfulMerge h w s cs u (what_of_cut w s cs u)) (sym c.taken)
+    (passed_by h w s cs (client_row (length w.places) cs) new (s.has_started && row_eq (client_row (length w.places) cs) new) refl refl (next_row h w s cs l)
+    c.behind l)
 
 pub merge_keeps : Keeps merge_cut LawfulMerge
 merge_keeps = record { longer = longer; enqueue = enqueue; pass = pass }
@@ -156,5 +170,21 @@ pub merge_joins : (p : Plan) (h : List Entry) (w : Wanted) → p.base ≡ length
 merge_joins p h w base some = by_flag (is_some w.snapshot)
   where
     by_flag : (v : Bool) → LawfulMerge h w (fresh p (cond v (p.base - 1) p.base)) []
-    by_flag true = record { some = some; behind = omega arith; within = omega (arith, base); before = λ f. refl; row = λ t. absurd (let x : false ≡ true = t in cc); lines = tt }
-    by_flag false = record { some = some; behind = omega arith; within = omega (arith, base); before = λ f. refl; row = λ t. absurd (let x : false ≡ true = t in cc); lines = tt }
+    by_flag true = record {
+      some = some;
+      behind = omega arith;
+      within = omega (arith, base);
+      before = λ f. refl;
+      row =
+          λ t. absurd (let x : false ≡ true = t in cc);
+      lines = tt;
+    }
+    by_flag false = record {
+      some = some;
+      behind = omega arith;
+      within = omega (arith, base);
+      before = λ f. refl;
+      row =
+          λ t. absurd (let x : false ≡ true = t in cc);
+      lines = tt;
+    }

@@ -17,7 +17,8 @@ use Rattle.ls_request.specs.declared.request.Request.TheVariants as request
 use Rattle.ls_request.specs.Values.{is_word, sub_of, size_of, mode_of, names_of, snap_of, frequency_of, capped}
 use Rattle.ls_world.specs.World.{World}
 use Rattle.ls_world.specs.Steps.{link_of, request_on}
-use Rattle.ls_request.specs.Requests.{or_absent, needed, unless, says_more, add_of, plain_op_of, delete_of, reconf_of, constrain_of, op_of, control_req, control_session, control_of, wsok_of, create_of, bind_of, request_of}
+use Rattle.ls_request.specs.Requests.{or_absent, needed, unless, says_more, add_of, plain_op_of, delete_of, reconf_of, constrain_of, op_of, control_req}
+use Rattle.ls_request.specs.Requests.{control_session, control_of, wsok_of, create_of, bind_of, request_of}
 
 -- a subscription's number, and a buffer's size where one is asked for
 pub record IsAdd (a : Add) : Type 0 where
@@ -44,7 +45,8 @@ anything : {A : Type 0} (o : Option A) → IfSome o (λ a. Unit {0})
 anything None = tt
 anything (Some a) = tt
 
-chained : {A B : Type 0} (Q : A → Type 0) (P : B → Type 0) (o : Option A) (f : A → Option B) → IfSome o Q → ((a : A) → Q a → IfSome (f a) P) → IfSome (option_and_then f o) P
+chained : {A B : Type 0} (Q : A → Type 0) (P : B → Type 0) (o : Option A) (f : A → Option B) → IfSome o Q → ((a : A) → Q a → IfSome (f a) P)
+    → IfSome (option_and_then f o) P
 chained Q P None f h more = tt
 chained Q P (Some a) f h more = more a h
 
@@ -74,7 +76,8 @@ Within low high n = (low ≤ n) × (n ≤ high)
 
 number_within : (low high : ℕ) (text : List ℕ) → IfSome (number_in low high text) (Within low high)
 number_within low high text =
-    free (Within low high) (number_of text) (within low high) (λ n. kept (Within low high) (nat_le low n && nat_le n high) n (λ h. bounds n (and_left (nat_le low n) (nat_le n high) h) (and_right (nat_le low n) (nat_le n high) h)))
+    free (Within low high) (number_of text) (within low high) (λ n. kept (Within low high) (nat_le low n && nat_le n high) n
+    (λ h. bounds n (and_left (nat_le low n) (nat_le n high) h) (and_right (nat_le low n) (nat_le n high) h)))
   where
     bounds : (n : ℕ) → nat_le low n ≡ true → nat_le n high ≡ true → (low ≤ n) × (n ≤ high)
     bounds n h k = (grind (arith, nat_tests), grind (arith, nat_tests))
@@ -101,16 +104,21 @@ add_is ps =
     (λ group. free IsAdd (needed names_of (text_under ps (codes "LS_schema"))) _
     (λ schema. unless_is IsAdd (says_more (text_under ps (codes "LS_selector"))) _
     (free IsAdd (or_absent snap.No (snap_of mode) (text_under ps (codes "LS_snapshot"))) _
-    (λ snapshot. chained SizeIs IsAdd (or_absent None size_of (text_under ps (codes "LS_requested_buffer_size"))) _ (size_absent_or (text_under ps (codes "LS_requested_buffer_size")))
-    (λ size k. free IsAdd (or_absent None frequency_of (text_under ps (codes "LS_requested_max_frequency"))) _ (λ frequency. record { some = h.0; most = h.1; size = k }))))))))
+    (λ snapshot. chained SizeIs IsAdd (or_absent None size_of (text_under ps (codes "LS_requested_buffer_size"))) _
+    (size_absent_or (text_under ps (codes "LS_requested_buffer_size")))
+    (λ size k. free IsAdd (or_absent None frequency_of (text_under ps (codes "LS_requested_max_frequency"))) _
+    (λ frequency. record { some = h.0; most = h.1; size = k }))))))))
 
 op_is : (word : List ℕ) (ps : List Pair) → IfSome (op_of word ps) IsOp
 op_is word ps =
-    one_of IsOp (is_word (codes "add") word) (option_map (λ a. op.Add a) (add_of ps)) (plain_op_of word ps) (made IsAdd IsOp (λ a. op.Add a) (add_of ps) (add_is ps) (λ a h. h))
+    one_of IsOp (is_word (codes "add") word) (option_map (λ a. op.Add a) (add_of ps)) (plain_op_of word ps)
+    (made IsAdd IsOp (λ a. op.Add a) (add_of ps) (add_is ps) (λ a h. h))
     (one_of IsOp (is_word (codes "delete") word) (delete_of ps) _ (free IsOp (needed sub_of (text_under ps (codes "LS_subId"))) _ (λ sub. tt))
     (one_of IsOp (is_word (codes "reconf") word) (reconf_of ps) _
-    (free IsOp (needed sub_of (text_under ps (codes "LS_subId"))) _ (λ sub. free IsOp (needed frequency_of (text_under ps (codes "LS_requested_max_frequency"))) _ (λ frequency. tt)))
-    (one_of IsOp (is_word (codes "constrain") word) (constrain_of ps) _ (free IsOp (option_and_then _ (text_under ps (codes "LS_requested_max_bandwidth"))) _ (λ bandwidth. tt))
+    (free IsOp (needed sub_of (text_under ps (codes "LS_subId"))) _ (λ sub. free IsOp (needed frequency_of (text_under ps (codes "LS_requested_max_frequency")))
+    _ (λ frequency. tt)))
+    (one_of IsOp (is_word (codes "constrain") word) (constrain_of ps) _ (free IsOp (option_and_then _ (text_under ps (codes "LS_requested_max_bandwidth"))) _
+    (λ bandwidth. tt))
     (one_of IsOp (is_word (codes "force_rebind") word) (Some op.ForceRebind) _ tt
     (one_of IsOp (is_word (codes "destroy") word) (Some op.Destroy) None tt tt)))))
 

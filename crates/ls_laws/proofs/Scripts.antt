@@ -1,13 +1,13 @@
 -- What the lines of a script ask for is in its ranges, so the worlds of scripts are lawful.
 use Rattle.std.proofs.Common.{◌≡◌, ℕ, List, [], ◌∷◌, refl, Option, Some, None, Result, Ok, Err}
-use Rattle.ls_script.specs.declared.step.Repeat.{Repeat}
-use Rattle.ls_script.specs.Grammar.{is_skipped, line_of}
-use Rattle.ls_script.proofs.Fitting.{line_fits_is}
+use Rattle.ls_step.specs.declared.step.Repeat.{Repeat}
+use Rattle.ls_step.specs.Grammar.{is_skipped, line_of}
+use Rattle.ls_step.proofs.Fitting.{line_fits_is}
 use Rattle.ls_world.specs.declared.Refused.{Refused}
 use Rattle.ls_world.specs.World.{World, empty}
 use Rattle.ls_world.specs.Steps.{Stepped}
 use Rattle.ls_world.specs.Built.{is_built}
-use Rattle.ls_world.specs.Script.{counted, known_of, asked_by, step as step_of, and_then, world_of}
+use Rattle.ls_world.specs.Script.{counted, known_of, stepped_by, step as step_of, and_then, world_of}
 use Rattle.ls_world.specs.Lawful.{Lawful}
 use Rattle.ls_world.proofs.Rules.{cond_rule}
 use Rattle.ls_world.proofs.ScriptRanges.{in_range, distinct_fields}
@@ -21,13 +21,15 @@ BothAfter (Err r) = Unit {0}
 both_line : (w : World) (line : List ℕ) → Both w → BothAfter (step_of w line)
 both_line w line b = cond_rule BothAfter (is_skipped line) _ _ (λ skipped. both_counted w b) (λ asked. by_form (line_of (known_of w) line) refl)
   where
-    by_form : (o : Option Repeat) → line_of (known_of w) line ≡ o → BothAfter (asked_by (counted w) o)
+    by_form : (o : Option Repeat) → line_of (known_of w) line ≡ o → BothAfter (stepped_by (counted w) o)
     by_form None is = tt
     by_form (Some r) is =
-        cond_rule BothAfter (is_built (counted w) r.step) _ _ (λ built. both_does (counted w) r.step r.times (in_range (known_of w) r.step (line_fits_is (known_of w) line r is).fits)
+        cond_rule BothAfter (is_built (counted w) r.step) _ _ (λ built. both_does (counted w) r.step r.times
+        (in_range (known_of w) r.step (line_fits_is (known_of w) line r is).fits)
         (distinct_fields (known_of w) r.step (line_fits_is (known_of w) line r is).fits) (both_counted w b)) (λ unbuilt. tt)
 
-both_and_then : (w : World) (r : Result Stepped Refused) (f : Stepped → World) → BothAfter r → Both w → ((s : Stepped) → Both s.after → Both (f s)) → Both (and_then w r f)
+both_and_then : (w : World) (r : Result Stepped Refused) (f : Stepped → World) → BothAfter r → Both w → ((s : Stepped) → Both s.after → Both (f s))
+    → Both (and_then w r f)
 both_and_then w (Ok s) f after b more = more s after
 both_and_then w (Err e) f after b more = b
 

@@ -1,8 +1,9 @@
 -- A step of a session keeps it lawful.
 use Rattle.std.proofs.Common.{◌≡◌, ℕ, ◌+◌, ◌^◌, ◌≤◌, List, [], ◌∷◌, length, refl, arith, Bool, true, false, cond, Option, Some, None, nat_le}
 use Rattle.std.proofs.lemmas.Bool.{ltb-true}
-use Rattle.ls_world.specs.World.{Item, Live, Board, Stream, Session, Told, asked, given_by, taken_in, on_board, noted_in, is_unsent, given_next, opened}
-use Rattle.ls_world.specs.Steps.{Spent, next_given, round_given, round_taken, round_asked, owed_given, turned}
+use Rattle.ls_world.specs.World.{Item, Live, Board, Stream, Session, RoundLine, round_of, taken_in, on_board, noted_in, is_unsent, given_next, opened}
+use Rattle.ls_world.specs.Steps.{Spent, next_given, round_turn, turn_owing, session_turn}
+use Rattle.ls_world.proofs.Parts.{given_by, round_given, round_taken}
 use Rattle.ls_world.specs.Lawful.{LawfulStreams, LawfulBoard, LawfulSession}
 use Rattle.ls_laws.proofs.Frame.{Later, board_later, take_keeps}
 
@@ -13,15 +14,16 @@ pub opened_lawful : (items : List Item) (number keepalive : ℕ) → LawfulSessi
 opened_lawful items number keepalive = record { board = record { apart = tt; slots = tt }; sent = omega arith; streams = (omega arith, (tt, tt)) }
 
 -- a step of the board that takes no line away
-pub on_board_keeps : (items : List Item) (f : Board → Board) (s : Session) → (LawfulBoard items s.board → LawfulBoard items (f s.board)) → length s.board.lines ≤ length (f s.board).lines → LawfulSession items s → LawfulSession items (on_board f s)
+pub on_board_keeps : (items : List Item) (f : Board → Board) (s : Session) → (LawfulBoard items s.board → LawfulBoard items (f s.board))
+    → length s.board.lines ≤ length (f s.board).lines → LawfulSession items s → LawfulSession items (on_board f s)
 on_board_keeps items f s keep grow l = record { board = keep l.board; sent = omega (arith, l.sent, grow); streams = l.streams }
 
-given_grows : (b : Board) (kept : List Live) (o : Option Told) → length b.lines ≤ length (given_by b kept o).lines
+given_grows : (b : Board) (kept : List Live) (o : Option RoundLine) → length b.lines ≤ length (given_by b kept o).lines
 given_grows b kept None = omega arith
 given_grows b kept (Some t) = omega arith
 
 pub take_grows : (due : Live → Bool) (items : List Item) (b : Board) → length b.lines ≤ length (taken_in due items b).lines
-take_grows due items b = given_grows b (asked due items b.lines b.round).kept (asked due items b.lines b.round).told
+take_grows due items b = given_grows b (round_of due items b.lines b.round).kept (round_of due items b.lines b.round).came
 
 streams_given : (n : ℕ) (ts : List Stream) → LawfulStreams n ts → LawfulStreams (n + 1) (noted_in (n + 1) ts)
 streams_given n [] l = absurd l
@@ -31,35 +33,40 @@ next_keeps : (items : List Item) (s : Session) → LawfulSession items s → Law
 next_keeps items s l = by_test (is_unsent s) refl
   where
     by_test : (v : Bool) → is_unsent s ≡ v → LawfulSession items (cond v (record s { sent = s.sent + 1; streams = noted_in (s.sent + 1) s.streams }) s)
-    by_test true t = record { board = l.board; sent = omega (arith, ltb-true s.sent (length s.board.lines) t); streams = streams_given s.sent s.streams l.streams }
+    by_test true t = record {
+      board = l.board;
+      sent = omega (arith, ltb-true s.sent (length s.board.lines) t);
+      streams =
+          streams_given s.sent s.streams l.streams;
+    }
     by_test false t = record { board = l.board; sent = l.sent; streams = l.streams }
 
 -- a session's turn
 round_taken_keeps : (items : List Item) (s : Session) → LawfulSession items s → LawfulSession items (round_taken items s).session
-round_taken_keeps items s l = by_told (asked (λ v. true) items s.board.lines s.board.round).told
+round_taken_keeps items s l = by_came (round_of (λ v. true) items s.board.lines s.board.round).came
   where
     after : LawfulSession items (on_board (taken_in (λ v. true) items) s)
     after = on_board_keeps items (taken_in (λ v. true) items) s (take_keeps (λ v. true) items s.board) (take_grows (λ v. true) items s.board) l
 
-    by_told : (o : Option Told) → LawfulSession items (round_given (on_board (taken_in (λ v. true) items) s) o).session
-    by_told None = after
-    by_told (Some t) = next_keeps items (on_board (taken_in (λ v. true) items) s) after
+    by_came : (o : Option RoundLine) → LawfulSession items (round_given (on_board (taken_in (λ v. true) items) s) o).session
+    by_came None = after
+    by_came (Some t) = next_keeps items (on_board (taken_in (λ v. true) items) s) after
 
-round_asked_keeps : (items : List Item) (s : Session) (vs : List Live) → LawfulSession items s → LawfulSession items (round_asked items s vs).session
-round_asked_keeps items s [] l = l
-round_asked_keeps items s (v ∷ vs) l = by_test (nat_le (2 ^ 60) (length s.board.lines))
+round_turn_keeps : (items : List Item) (s : Session) (vs : List Live) → LawfulSession items s → LawfulSession items (round_turn items s vs).session
+round_turn_keeps items s [] l = l
+round_turn_keeps items s (v ∷ vs) l = by_test (nat_le (2 ^ 60) (length s.board.lines))
   where
-    by_test : (b : Bool) → LawfulSession items (cond b (record { session = s; answer = Spent }) (round_taken items s)).session
+    by_test : (b : Bool) → LawfulSession items (cond b (record { session = s; gives = Spent }) (round_taken items s)).session
     by_test true = l
     by_test false = round_taken_keeps items s l
 
-owed_given_keeps : (items : List Item) (s : Session) (owed : List (List ℕ)) → LawfulSession items s → LawfulSession items (owed_given items s owed).session
-owed_given_keeps items s (text ∷ owed) l = record { board = l.board; sent = l.sent; streams = l.streams }
-owed_given_keeps items s [] l = by_test (is_unsent s)
+owing_keeps : (items : List Item) (s : Session) (owed : List (List ℕ)) → LawfulSession items s → LawfulSession items (turn_owing items s owed).session
+owing_keeps items s (text ∷ owed) l = record { board = l.board; sent = l.sent; streams = l.streams }
+owing_keeps items s [] l = by_test (is_unsent s)
   where
-    by_test : (b : Bool) → LawfulSession items (cond b (next_given s) (round_asked items s s.board.round)).session
+    by_test : (b : Bool) → LawfulSession items (cond b (next_given s) (round_turn items s s.board.round)).session
     by_test true = next_keeps items s l
-    by_test false = round_asked_keeps items s s.board.round l
+    by_test false = round_turn_keeps items s s.board.round l
 
-pub turned_keeps : (items : List Item) (s : Session) → LawfulSession items s → LawfulSession items (turned items s).session
-turned_keeps items s l = owed_given_keeps items s s.owed l
+pub session_keeps : (items : List Item) (s : Session) → LawfulSession items s → LawfulSession items (session_turn items s).session
+session_keeps items s l = owing_keeps items s s.owed l

@@ -1,5 +1,6 @@
 -- The rows that come to a client have its schema's fields, and their texts are UTF-8 where those of the history are.
-use Rattle.std.proofs.Common.{◌==◌, ℕ, zero, suc, ◌+◌, List, [], ◌∷◌, length, map, take, drop, set, refl, sym, ◌∙◌, ap, subst, cond, Bool, true, false, ◌&&◌, ◌≡◌, ◌-◌, Option, None, Some, IfSome, option_map, nat_lt, slice_get, codes, inl, inr}
+use Rattle.std.proofs.Common.{◌==◌, ℕ, zero, suc, ◌+◌, List, [], ◌∷◌, length, map, take, drop, set, refl, sym, ◌∙◌, ap, subst, cond, Bool, true, false, ◌&&◌}
+use Rattle.std.proofs.Common.{◌≡◌, ◌-◌, Option, None, Some, IfSome, option_map, nat_lt, slice_get, codes, inl, inr}
 use Rattle.std.specs.List.{list_all}
 use Rattle.std.specs.Str.{IsAscii, IsUtf8}
 use Rattle.std.proofs.lemmas.Bool.{ltb-true}
@@ -26,18 +27,20 @@ use Rattle.ls_event.specs.History.{row_after, row_after_all, merged, between}
 use Rattle.ls_event.specs.Updates.{own_value, own_row, own_of, own_from, updates_between, clear_or, last_clear, recent_rows}
 use Rattle.ls_event.specs.Shapes.{Shape}
 use Rattle.ls_event.specs.Keyed.{key_of, deletes, row_at, with_row, without, row_with, keyed_after, keyed_after_all, keyed}
-use Rattle.ls_event.specs.CommandCuts.{command_queue, key_taken, command_told, command_cut}
+use Rattle.ls_event.specs.CommandCuts.{command_queue, key_taken, command_cut_by, command_cut}
 use Rattle.ls_event.specs.Cuts.{cut, cut_of}
 use Rattle.ls_event.specs.Slots.{Plan, Slot, passed}
+use Rattle.ls_mirror.specs.declared.command.KeyPlaces.{KeyPlaces}
 use Rattle.ls_mirror.specs.Client.{What, Row, Lost, Cleared, End}
 use Rattle.ls_world.specs.Came.{Came, whats}
-use Rattle.ls_world.specs.Tables.{InSchema, text_in, kept_of, table_at, with_word, delete_row, key_told, projected_row}
-use Rattle.ls_world.specs.Cutting.{Wanted, schema_of, accepted, told_or, turned, turn_within, turn}
+use Rattle.ls_world.specs.Tables.{text_or_empty, kept_of, table_at, with_word, delete_row, what_of_key, projected_row}
+use Rattle.ls_world.specs.Cutting.{Wanted, schema_of, what_of_cut, turn_within, turn}
+use Rattle.ls_world.proofs.Parts.{turn_or, turn_by}
 use Rattle.ls_world.specs.RawMode.{RawSays}
 use Rattle.ls_world.specs.DistinctMode.{DistinctSays}
 use Rattle.ls_world.specs.Lawful.{Each, IsMergeLine, LawfulOf, LawfulSlot}
 use Rattle.ls_world.specs.Ranges.{IsTextual}
-use Rattle.ls_laws.proofs.DistinctTold.{IsLine, distinct_each}
+use Rattle.ls_laws.proofs.DistinctTruths.{IsLine, distinct_each}
 use Rattle.ls_world.proofs.Each.{each_append, each_at}
 use Rattle.ls_laws.proofs.EachKey.{EachKey, key_has, each_with, each_without}
 use Rattle.ls_laws.proofs.Heard.{RowFits}
@@ -90,8 +93,11 @@ projected_textual row (p ∷ places) h = (at_textual row p h, projected_textual 
 
 merge_fits : (p : Plan) (w : Wanted) (h : List Entry) (c : Came) → Textual h → IsMergeLine p w h c → RowFits (length w.places) c.what
 merge_fits p w h c t l =
-    subst (λ (what : What). RowFits (length w.places) what) (sym l.row)
-    (length-map w.places (value_at (merged p.shape.fields h c.upto)), projected_textual (merged p.shape.fields h c.upto) w.places (after_all_textual (nulls p.shape.fields) (take c.upto h) (nulls_textual p.shape.fields) (take_textual c.upto h t)))
+    subst (λ (what : What). RowFits (length w.places) what) (sym l.row) (
+      length-map w.places (value_at (merged p.shape.fields h c.upto)),
+      projected_textual (merged p.shape.fields h c.upto) w.places
+          (after_all_textual (nulls p.shape.fields) (take c.upto h) (nulls_textual p.shape.fields) (take_textual c.upto h t)),
+    )
 
 -- own rows
 
@@ -113,7 +119,8 @@ own_textual n Clear k = tt
 
 from_textual : (n : ℕ) (es : List Entry) → Textual es → Each TextualRow (own_from n es)
 from_textual n [] k = tt
-from_textual n (e ∷ es) k = each_append TextualRow (own_of (n + 1) e.event) (own_from (n + 1) es) (own_textual (n + 1) e.event k.0) (from_textual (n + 1) es k.1)
+from_textual n (e ∷ es) k = each_append TextualRow (own_of (n + 1) e.event) (own_from (n + 1) es) (own_textual (n + 1) e.event k.0)
+    (from_textual (n + 1) es k.1)
 
 drop_textual : (n : ℕ) (h : List Entry) → Textual h → Textual (drop n h)
 drop_textual zero h k = k
@@ -127,7 +134,8 @@ row_fits : (places : List ℕ) (row : List Value) → Each IsTextualValue row �
 row_fits places row k = (length-map places (value_at row), projected_textual row places k)
 
 raw_fits : (places : List ℕ) (us : List OwnRow) (what : What) → Each TextualRow us → RawSays places what us → RowFits (length places) what
-raw_fits places us (Row r) t (u, is, row) = subst (λ (x : List Value). RowFits (length places) (Row x)) (sym row) (row_fits places u.row (subst (Each TextualRow) is t).0)
+raw_fits places us (Row r) t (u, is, row) = subst (λ (x : List Value). RowFits (length places) (Row x)) (sym row)
+    (row_fits places u.row (subst (Each TextualRow) is t).0)
 raw_fits places us (Lost k) t says = tt
 raw_fits places us Cleared t says = absurd says
 raw_fits places us End t says = absurd says
@@ -147,31 +155,36 @@ each_dropped (suc n) (r ∷ rows) k = each_dropped n rows k.1
 
 recent_textual : (h : List Entry) (i : ℕ) → Textual h → Each RowTextual (recent_rows h i)
 recent_textual h i t =
-    each_dropped (length (map (λ (u : OwnRow). u.row) (updates_between h (clear_or h 0 i) i)) - 32) (map (λ (u : OwnRow). u.row) (updates_between h (clear_or h 0 i) i))
+    each_dropped (length (map (λ (u : OwnRow). u.row) (updates_between h (clear_or h 0 i) i)) - 32)
+    (map (λ (u : OwnRow). u.row) (updates_between h (clear_or h 0 i) i))
     (rows_textual (updates_between h (clear_or h 0 i) i) (updates_textual h (clear_or h 0 i) i t))
 
 -- an update of those between two numbers
 at_textual_update : (us : List OwnRow) (k : ℕ) (u : OwnRow) → Each TextualRow us → slice_get us k ≡ Some u → Each IsTextualValue u.row
 at_textual_update us k u t at = each_at TextualRow k u us at t
 
-distinct_fits : (places : List ℕ) (size : ℕ) (h : List Entry) (c : Came) (what : What) → Textual h → DistinctSays places size h c what → RowFits (length places) what
+distinct_fits : (places : List ℕ) (size : ℕ) (h : List Entry) (c : Came) (what : What) → Textual h → DistinctSays places size h c what
+    → RowFits (length places) what
 distinct_fits places size h c (Row r) t (u, first, number, row, none) =
     subst (λ (x : List Value). RowFits (length places) (Row x)) (sym row)
-    (row_fits places u.row (at_textual_update (updates_between h c.before c.at) (length (updates_between h c.before c.at) - size) u (updates_textual h c.before c.at t) first))
+    (row_fits places u.row (at_textual_update (updates_between h c.before c.at) (length (updates_between h c.before c.at) - size) u
+    (updates_textual h c.before c.at t) first))
 distinct_fits places size h c (Lost k) t says = tt
 distinct_fits places size h c Cleared t says = tt
 distinct_fits places size h c End t says = tt
 
 line_fits : (places : List ℕ) (p : Plan) (h : List Entry) (c : Came) → Textual h → IsLine places p h c → RowFits (length places) c.what
 line_fits places p h c t (inl l) =
-    subst (RowFits (length places)) (sym l.says) (row_fits places l.own (each_at RowTextual l.behind l.own (recent_rows h p.base) l.is (recent_textual h p.base t)))
+    subst (RowFits (length places)) (sym l.says)
+    (row_fits places l.own (each_at RowTextual l.behind l.own (recent_rows h p.base) l.is (recent_textual h p.base t)))
 line_fits places p h c t (inr (inl l)) = subst (RowFits (length places)) (sym l.says) tt
 line_fits places p h c t (inr (inr l)) = distinct_fits places p.size h c c.what t l.says
 
 -- a text of ASCII is UTF-8
 plain_ascii : (t : List ℕ) → list_all (λ b. nat_lt b 128) t ≡ true → IsAscii t
 plain_ascii [] h = IsAscii-nil
-plain_ascii (b ∷ bs) h = IsAscii-cons b bs (ltb-true b 128 (and_left (nat_lt b 128) (list_all (λ b. nat_lt b 128) bs) h)) (plain_ascii bs (and_right (nat_lt b 128) (list_all (λ b. nat_lt b 128) bs) h))
+plain_ascii (b ∷ bs) h = IsAscii-cons b bs (ltb-true b 128 (and_left (nat_lt b 128) (list_all (λ b. nat_lt b 128) bs) h))
+    (plain_ascii bs (and_right (nat_lt b 128) (list_all (λ b. nat_lt b 128) bs) h))
 
 pub plain_utf8 : (t : List ℕ) → list_all (λ b. nat_lt b 128) t ≡ true → IsUtf8 t
 plain_utf8 t h = IsUtf8-from_ascii t (plain_ascii t h)
@@ -185,16 +198,20 @@ set_textual (x ∷ row) (suc i) v t k = (k.0, set_textual row i v t k.1)
 abbrev TextualOf : List ℕ → List Value → Type 0
 TextualOf key row = Each IsTextualValue row
 
-row_with_textual : (p : Shape) (row : Option (List Value)) (cells : List Cell) → IfSome row (Each IsTextualValue) → Each IsTextual cells → Each IsTextualValue (row_with p row cells)
-row_with_textual p None cells r t = set_textual (applied (nulls p.fields) cells) p.command value.Null tt (applied_textual (nulls p.fields) cells (nulls_textual p.fields) t)
+row_with_textual : (p : Shape) (row : Option (List Value)) (cells : List Cell) → IfSome row (Each IsTextualValue) → Each IsTextual cells
+    → Each IsTextualValue (row_with p row cells)
+row_with_textual p None cells r t = set_textual (applied (nulls p.fields) cells) p.command value.Null tt
+    (applied_textual (nulls p.fields) cells (nulls_textual p.fields) t)
 row_with_textual p (Some row) cells r t = set_textual (applied row cells) p.command value.Null tt (applied_textual row cells r t)
 
 keyed_after_textual : (p : Shape) (ks : List KeyedRow) (e : Event) → TextualEvent e → EachKey TextualOf ks → EachKey TextualOf (keyed_after p ks e)
 keyed_after_textual p ks (Update cells) t k = by_test (deletes p cells)
   where
-    by_test : (v : Bool) → EachKey TextualOf (cond v (without (key_of p cells) ks) (with_row (key_of p cells) (row_with p (row_at (key_of p cells) ks) cells) ks))
+    by_test : (v : Bool)
+        → EachKey TextualOf (cond v (without (key_of p cells) ks) (with_row (key_of p cells) (row_with p (row_at (key_of p cells) ks) cells) ks))
     by_test true = each_without TextualOf (key_of p cells) ks k
-    by_test false = each_with TextualOf (key_of p cells) (row_with p (row_at (key_of p cells) ks) cells) ks (row_with_textual p (row_at (key_of p cells) ks) cells (key_has TextualOf (key_of p cells) ks k) t) k
+    by_test false = each_with TextualOf (key_of p cells) (row_with p (row_at (key_of p cells) ks) cells) ks
+        (row_with_textual p (row_at (key_of p cells) ks) cells (key_has TextualOf (key_of p cells) ks k) t) k
 keyed_after_textual p ks Clear t k = tt
 
 keyed_all_textual : (p : Shape) (ks : List KeyedRow) (es : List Entry) → Textual es → EachKey TextualOf ks → EachKey TextualOf (keyed_after_all p ks es)
@@ -202,19 +219,20 @@ keyed_all_textual p ks [] t k = k
 keyed_all_textual p ks (e ∷ es) t k = keyed_all_textual p (keyed_after p ks e.event) es t.1 (keyed_after_textual p ks e.event t.0 k)
 
 -- a key that the client has is the text of a row that came
-in_textual : (v : Value) → IsTextualValue v → IsUtf8 (text_in v)
+in_textual : (v : Value) → IsTextualValue v → IsUtf8 (text_or_empty v)
 in_textual value.Null t = plain_utf8 [] refl
 in_textual (value.Text x) t = t
 
-table_key : (at : InSchema) (n : ℕ) (k : List ℕ) (ws : List What) → Each (RowFits n) ws → IfSome (table_at at k ws) (λ row. IsUtf8 k)
+table_key : (at : KeyPlaces) (n : ℕ) (k : List ℕ) (ws : List What) → Each (RowFits n) ws → IfSome (table_at at k ws) (λ row. IsUtf8 k)
 table_key at n k [] t = tt
-table_key at n k (Row r ∷ ws) t = by_test (text_eq (text_in (value_at r at.key)) k) refl (table_at at k ws) (table_key at n k ws t.1)
+table_key at n k (Row r ∷ ws) t = by_test (text_eq (text_or_empty (value_at r at.key)) k) refl (table_at at k ws) (table_key at n k ws t.1)
   where
-    named : (o : Option (List Value)) → text_eq (text_in (value_at r at.key)) k ≡ true → IfSome o (λ row. IsUtf8 k)
+    named : (o : Option (List Value)) → text_eq (text_or_empty (value_at r at.key)) k ≡ true → IfSome o (λ row. IsUtf8 k)
     named None e = tt
-    named (Some row) e = subst IsUtf8 (text_eq_true (text_in (value_at r at.key)) k e) (in_textual (value_at r at.key) (at_textual r at.key t.0.1))
+    named (Some row) e = subst IsUtf8 (text_eq_true (text_or_empty (value_at r at.key)) k e) (in_textual (value_at r at.key) (at_textual r at.key t.0.1))
 
-    by_test : (v : Bool) → text_eq (text_in (value_at r at.key)) k ≡ v → (o : Option (List Value)) → IfSome o (λ row. IsUtf8 k) → IfSome (cond v (kept_of at r) o) (λ row. IsUtf8 k)
+    by_test : (v : Bool) → text_eq (text_or_empty (value_at r at.key)) k ≡ v → (o : Option (List Value)) → IfSome o (λ row. IsUtf8 k)
+        → IfSome (cond v (kept_of at r) o) (λ row. IsUtf8 k)
     by_test true e o h = named (kept_of at r) e
     by_test false e o h = h
 table_key at n k (Lost m ∷ ws) t = table_key at n k ws t.1
@@ -235,19 +253,20 @@ key_line n Cleared h = tt
 key_line n End h = tt
 
 -- the row of a key's turn
-word_fits : (at : InSchema) (n : ℕ) (word : List ℕ) (row : List Value) → IsUtf8 word → RowFits n (Row row) → RowFits n (Row (with_word at word row))
+word_fits : (at : KeyPlaces) (n : ℕ) (word : List ℕ) (row : List Value) → IsUtf8 word → RowFits n (Row row) → RowFits n (Row (with_word at word row))
 word_fits at n word row t h = (length-set row at.command (value.Text word) ∙ h.0, set_textual row at.command (value.Text word) t h.1)
 
-delete_fits : (at : InSchema) (n : ℕ) (k : List ℕ) → IsUtf8 k → RowFits n (Row (delete_row at n k))
+delete_fits : (at : KeyPlaces) (n : ℕ) (k : List ℕ) → IsUtf8 k → RowFits n (Row (delete_row at n k))
 delete_fits at n k t =
     word_fits at n (codes "DELETE") (set (nulls n) at.key (value.Text k)) (plain_utf8 (codes "DELETE") refl)
     (length-set (nulls n) at.key (value.Text k) ∙ length-replicate n value.Null, set_textual (nulls n) at.key (value.Text k) t (nulls_textual n))
 
-key_told_fits : (at : InSchema) (n : ℕ) (k : List ℕ) (old new : Option (List Value)) → IfSome old (λ row. IsUtf8 k) → IfSome new (λ row. RowFits n (Row row)) → IfSome (key_told at n k old new) (KeyLineFits n)
-key_told_fits at n k None None h t = tt
-key_told_fits at n k None (Some row) h t = word_fits at n (codes "ADD") row (plain_utf8 (codes "ADD") refl) t
-key_told_fits at n k (Some old) None h t = delete_fits at n k h
-key_told_fits at n k (Some old) (Some row) h t = by_test (row_eq old row)
+key_line_fits : (at : KeyPlaces) (n : ℕ) (k : List ℕ) (old new : Option (List Value)) → IfSome old (λ row. IsUtf8 k) → IfSome new (λ row. RowFits n (Row row))
+    → IfSome (what_of_key at n k old new) (KeyLineFits n)
+key_line_fits at n k None None h t = tt
+key_line_fits at n k None (Some row) h t = word_fits at n (codes "ADD") row (plain_utf8 (codes "ADD") refl) t
+key_line_fits at n k (Some old) None h t = delete_fits at n k h
+key_line_fits at n k (Some old) (Some row) h t = by_test (row_eq old row)
   where
     by_test : (v : Bool) → IfSome (cond v None (Some (Row (with_word at (codes "UPDATE") row)))) (KeyLineFits n)
     by_test true = tt
@@ -263,11 +282,11 @@ KeyFits (taken.Cleared upto) = Unit {0}
 KeyFits taken.EndOfSnapshot = Unit {0}
 
 command_fits : (h : List Entry) (s : Slot) → Textual h → IfSome (command_cut h s) KeyFits
-command_fits h s t = by_clear (last_clear h s.place s.last)
+command_fits h s t = by_clear (last_clear h s.cursor s.last)
   where
-    told : (c : ℕ) (v : Bool) → IfSome (cond v (Some taken.EndOfSnapshot) (Some (taken.Cleared c))) KeyFits
-    told c true = tt
-    told c false = tt
+    clear : (c : ℕ) (v : Bool) → IfSome (cond v (Some taken.EndOfSnapshot) (Some (taken.Cleared c))) KeyFits
+    clear c true = tt
+    clear c false = tt
 
     by_key : (o : Option (List ℕ)) → IfSome (option_map (key_taken h s) o) KeyFits
     by_key None = tt
@@ -277,16 +296,17 @@ command_fits h s t = by_clear (last_clear h s.place s.last)
     by_end true = tt
     by_end false = by_key (slice_get (command_queue h s) 0)
 
-    by_clear : (o : Option ℕ) → IfSome (command_told h s o) KeyFits
-    by_clear (Some c) = told c s.ends
+    by_clear : (o : Option ℕ) → IfSome (command_cut_by h s o) KeyFits
+    by_clear (Some c) = clear c s.ends
     by_clear None = by_end (s.ends && (s.owed == 0))
 
-accepted_fits : (w : Wanted) (s : Slot) (cs : List Came) (t : Taken) → Each (RowFits (length w.places)) (whats cs) → KeyFits t → IfSome (accepted w s cs t) (KeyLineFits (length w.places))
+accepted_fits : (w : Wanted) (s : Slot) (cs : List Came) (t : Taken) → Each (RowFits (length w.places)) (whats cs) → KeyFits t
+    → IfSome (what_of_cut w s cs t) (KeyLineFits (length w.places))
 accepted_fits w s cs (taken.Row row upto) h t = absurd t
 accepted_fits w s cs (taken.Lost count upto) h t = absurd t
 accepted_fits w s cs (taken.Change cells upto) h t = absurd t
 accepted_fits w s cs (taken.Key key row upto) h t =
-    key_told_fits (schema_of w s.plan) (length w.places) key (table_at (schema_of w s.plan) key (whats cs)) (projected_row w.places row)
+    key_line_fits (schema_of w s.plan) (length w.places) key (table_at (schema_of w s.plan) key (whats cs)) (projected_row w.places row)
     (table_key (schema_of w s.plan) (length w.places) key (whats cs) h) (by_row row t)
   where
     by_row : (o : Option (List Value)) → IfSome o (Each IsTextualValue) → IfSome (projected_row w.places o) (λ r. RowFits (length w.places) (Row r))
@@ -296,27 +316,32 @@ accepted_fits w s cs (taken.Cleared upto) h t = tt
 accepted_fits w s cs taken.EndOfSnapshot h t = tt
 
 -- a turn of mode COMMAND
-told_fits : (n : ℕ) (h : List Entry) (w : Wanted) (s : Slot) (cs : List Came) → Textual h → s.plan.mode ≡ mode.Command → Each (RowFits (length w.places)) (whats cs)
-    → IfSome (turn_within n h w s cs).told (λ c. KeyLineFits (length w.places) c.what)
-told_fits zero h w s cs t is came = tt
-told_fits (suc n) h w s cs t is came =
-    by_cut (cut h s) (subst (λ (m : Mode). IfSome (cut_of m h s) KeyFits) (sym is) (command_fits h s t)) (λ x. told_fits n h w (passed s x) cs t (ap (λ (p : Plan). p.mode) (passed_plan s x) ∙ is) came)
+within_fits : (n : ℕ) (h : List Entry) (w : Wanted) (s : Slot) (cs : List Came) → Textual h → s.plan.mode ≡ mode.Command
+    → Each (RowFits (length w.places)) (whats cs)
+    → IfSome (turn_within n h w s cs).came (λ c. KeyLineFits (length w.places) c.what)
+within_fits zero h w s cs t is came = tt
+within_fits (suc n) h w s cs t is came =
+    by_cut (cut h s) (subst (λ (m : Mode). IfSome (cut_of m h s) KeyFits) (sym is) (command_fits h s t))
+    (λ x. within_fits n h w (passed s x) cs t (ap (λ (p : Plan). p.mode) (passed_plan s x) ∙ is) came)
   where
-    by_what : (x : Taken) (o : Option What) → IfSome o (KeyLineFits (length w.places)) → IfSome (turn_within n h w (passed s x) cs).told (λ c. KeyLineFits (length w.places) c.what)
-        → IfSome (told_or s x o (turn_within n h w (passed s x) cs)).told (λ c. KeyLineFits (length w.places) c.what)
+    by_what : (x : Taken) (o : Option What) → IfSome o (KeyLineFits (length w.places))
+        → IfSome (turn_within n h w (passed s x) cs).came (λ c. KeyLineFits (length w.places) c.what)
+        → IfSome (turn_or s x o (turn_within n h w (passed s x) cs)).came (λ c. KeyLineFits (length w.places) c.what)
     by_what x None f more = more
     by_what x (Some what) f more = f
 
-    by_cut : (o : Option Taken) → IfSome o KeyFits → ((x : Taken) → IfSome (turn_within n h w (passed s x) cs).told (λ c. KeyLineFits (length w.places) c.what))
-        → IfSome (turned w s cs o (λ r. turn_within n h w r cs)).told (λ c. KeyLineFits (length w.places) c.what)
+    by_cut : (o : Option Taken) → IfSome o KeyFits → ((x : Taken) → IfSome (turn_within n h w (passed s x) cs).came (λ c. KeyLineFits (length w.places) c.what))
+        → IfSome (turn_by w s cs o (λ r. turn_within n h w r cs)).came (λ c. KeyLineFits (length w.places) c.what)
     by_cut None k more = tt
-    by_cut (Some x) k more = by_what x (accepted w s cs x) (accepted_fits w s cs x came k) (more x)
+    by_cut (Some x) k more = by_what x (what_of_cut w s cs x) (accepted_fits w s cs x came k) (more x)
 
-pub turn_fits : (h : List Entry) (w : Wanted) (s : Slot) (cs : List Came) → Textual h → s.plan.mode ≡ mode.Command → Each (RowFits (length w.places)) (whats cs) → IfSome (turn h w s cs).told (λ c. KeyLineFits (length w.places) c.what)
-turn_fits h w s cs t is came = told_fits (s.last + s.owed + 2) h w s cs t is came
+pub turn_fits : (h : List Entry) (w : Wanted) (s : Slot) (cs : List Came) → Textual h → s.plan.mode ≡ mode.Command → Each (RowFits (length w.places)) (whats cs)
+    → IfSome (turn h w s cs).came (λ c. KeyLineFits (length w.places) c.what)
+turn_fits h w s cs t is came = within_fits (s.last + s.owed + 2) h w s cs t is came
 
 -- the row of a line of a lawful slot fits; in mode COMMAND its turn says so
-pub slot_fits : (h : List Entry) (w : Wanted) (s : Slot) (c : Came) (cs : List Came) → Textual h → LawfulSlot h w s (c ∷ cs) → (s.plan.mode ≡ mode.Command → RowFits (length w.places) c.what) → RowFits (length w.places) c.what
+pub slot_fits : (h : List Entry) (w : Wanted) (s : Slot) (c : Came) (cs : List Came) → Textual h → LawfulSlot h w s (c ∷ cs)
+    → (s.plan.mode ≡ mode.Command → RowFits (length w.places) c.what) → RowFits (length w.places) c.what
 slot_fits h w s c cs t l command = by_mode s.plan.mode refl l
   where
     by_mode : (m : Mode) → s.plan.mode ≡ m → LawfulOf m h w s (c ∷ cs) → RowFits (length w.places) c.what

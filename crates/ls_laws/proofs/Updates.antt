@@ -89,7 +89,8 @@ reached h p l j u le within at =
     }
 
 -- the first one alone is told up to its number
-pub reached_first : (h : List Entry) (p l : ℕ) (u : OwnRow) → p ≤ l → l ≤ length h → slice_get (updates_between h p l) 0 ≡ Some u → updates_between h p u.no ≡ u ∷ []
+pub reached_first : (h : List Entry) (p l : ℕ) (u : OwnRow) → p ≤ l → l ≤ length h → slice_get (updates_between h p l) 0 ≡ Some u
+    → updates_between h p u.no ≡ u ∷ []
 reached_first h p l u le within at =
     let r : Reached h p l 0 u = reached h p l 0 u le within at in
     r.through ∙ take_next 0 (updates_between h p l) u at

@@ -6,7 +6,7 @@ use Rattle.ls_mirror.specs.Standing.{IsTableOf}
 use Rattle.ls_world.specs.Lawful.{AreRead}
 
 -- texts are read as lines, and of these a client makes this table of an item of a subscription
-pub record HasTable (all : List (List ℕ)) (sub place : ℕ) (t : Table) : Type 0 where
+pub record HasTable (all : List (List ℕ)) (sub rank : ℕ) (t : Table) : Type 0 where
   pub lines : List WireLine
   pub read : AreRead all lines
-  pub is : IsTableOf sub place lines t
+  pub is : IsTableOf sub rank lines t

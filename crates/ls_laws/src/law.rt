@@ -12,11 +12,11 @@ ghost use Rattle.ls_event.specs.Updates.{updates_between};
 ghost use Rattle.ls_event.specs.Keyed.{keyed, row_at};
 ghost use Rattle.ls_event.specs.Slots.{Slot};
 ghost use Rattle.ls_world.specs.Came.{Came, whats};
-ghost use Rattle.ls_event.specs.Cuts.{cut, pending};
+ghost use Rattle.ls_event.specs.Cuts.{cut, is_pending};
 ghost use Rattle.ls_world.specs.Lines.{came, last_row, texts};
 ghost use Rattle.ls_world.specs.Cutting.{Wanted, client_row, schema_of, turn};
 ghost use Rattle.ls_world.specs.World.{World, Session, Live, empty, history_of, shape_at};
-ghost use Rattle.ls_script.specs.declared.step.Repeat.{Repeat};
+ghost use Rattle.ls_step.specs.declared.step.Repeat.{Repeat};
 ghost use Rattle.ls_world.specs.Steps.{does_all};
 ghost use Rattle.ls_world.specs.Script.{world_of};
 ghost use Rattle.ls_world.specs.Lawful.{Each, IsMergeLine, LawfulSlot, Lawful};
@@ -27,10 +27,10 @@ ghost use Rattle.ls_world.specs.ClientKeys.{KeysAgree};
 ghost use Rattle.ls_laws.specs.ClientTables.{HasTable};
 ghost use Rattle.ls_world.specs.RawMode.{Accounts};
 ghost use Rattle.ls_world.specs.DistinctMode.{LeavesOut};
-ghost use Rattle.ls_world.specs.CommandMode.{noted_at, AgreesAt, NoTurn, IsToKnow};
+ghost use Rattle.ls_world.specs.CommandMode.{cursor_of_key, AgreesAt, NoTurn, IsToKnow};
 ghost use Rattle.ls_world.specs.Tables.{projected_row, table_at};
 ghost use Rattle.ls_world.specs.Ranges.{InRange};
-ghost use Rattle.ls_laws.specs.Told.{TellsOf, IsTrueOf};
+ghost use Rattle.ls_laws.specs.Truths.{TellsOf, IsTrueOf};
 
 /// Each world that steps make of the empty one is lawful, where the parts of each step are in their ranges (a new item
 /// has 1 to 64 distinct fields, and in kind COMMAND a key and a command among them; the texts of an update are UTF-8):
@@ -49,10 +49,10 @@ pub fn each_script_is_lawful()
 /// the last event that was enqueued, at the places of the schema: that is what the client has.
 pub fn settled_clients_have_the_items_state()
     ensures came { (h : List Entry) (w : Wanted) (s : Slot) (cs : List Came) → LawfulSlot h w s cs
-        → s.plan.mode ≡ mode.Merge → pending h s ≡ false → s.given ≡ true
+        → s.plan.mode ≡ mode.Merge → is_pending h s ≡ false → s.has_started ≡ true
         → last_row cs ≡ Some (projected (merged s.plan.shape.fields h s.last) w.places) }
     ensures has { (h : List Entry) (w : Wanted) (s : Slot) (cs : List Came) → LawfulSlot h w s cs
-        → s.plan.mode ≡ mode.Merge → pending h s ≡ false → s.given ≡ true
+        → s.plan.mode ≡ mode.Merge → is_pending h s ≡ false → s.has_started ≡ true
         → client_row (length w.places) cs ≡ projected (merged s.plan.shape.fields h s.last) w.places }
 {}
 
@@ -63,14 +63,14 @@ pub fn settled_clients_have_the_items_state()
 pub fn no_state_is_invented()
     ensures { (w : World) (s : Session) (v : Live) → Lawful w → Contains w.sessions s → Contains s.board.round v
         → IsTrueOf v.slot.plan.mode (shape_at w.items v.item) (history_of w.items v.item) v.wanted.places
-        (came v.sub v.place s.board.lines) }
+        (came v.sub v.rank s.board.lines) }
 {}
 
-/// In mode RAW what came to a client accounts for each update behind its first place up to the slot's: it is told by
+/// In mode RAW what came to a client accounts for each update behind its first cursor up to the slot's: it is told by
 /// its own row or counted among the lost, once and in order.
 pub fn each_update_is_told_or_counted()
     ensures { (h : List Entry) (w : Wanted) (s : Slot) (cs : List Came) → LawfulSlot h w s cs → s.plan.mode ≡ mode.Raw
-        → Accounts w.places (updates_between h s.plan.base s.place) (whats cs) }
+        → Accounts w.places (updates_between h s.plan.base s.cursor) (whats cs) }
 {}
 
 /// And once a slot of mode RAW has no cut, each update up to the last event that was enqueued.
@@ -82,7 +82,7 @@ pub fn settled_clients_know_of_each_update()
 
 /// In mode RAW updates are lost only where more than 256 waited, and then all but the last 256: a line that counts lost
 /// updates counts at least one, and a row comes where no more than 256 waited. Those waited that are numbered behind
-/// the line's first place, up to the last that was enqueued then.
+/// the line's first cursor, up to the last that was enqueued then.
 pub fn a_loss_is_told_only_past_256()
     ensures lost { (h : List Entry) (w : Wanted) (s : Slot) (cs : List Came) → LawfulSlot h w s cs
         → s.plan.mode ≡ mode.Raw
@@ -109,15 +109,15 @@ pub fn each_row_is_among_the_last_states()
         → (c : Came) → Contains cs c → IsMergeLine s.plan w h c }
 {}
 
-/// In mode COMMAND each key that had its turn is in the client's table as the item had it at the place of that key,
+/// In mode COMMAND each key that had its turn is in the client's table as the item had it at the cursor of that key,
 /// which is no further than the last event that was enqueued. Another key is absent from the table: its turn is owed,
 /// or there is nothing to tell of it.
 pub fn each_key_is_told_as_it_was()
     ensures { (h : List Entry) (w : Wanted) (s : Slot) (cs : List Came) → LawfulSlot h w s cs
         → s.plan.mode ≡ mode.Command
         → (k : List ℕ)
-        → AgreesAt h w s.plan s.place s.last cs k (noted_at k s.noted)
-        × (noted_at k s.noted ≡ None → NoTurn h w s.plan s.place s.last s.owed k) }
+        → AgreesAt h w s cs k (cursor_of_key k s.key_cursors)
+        × (cursor_of_key k s.key_cursors ≡ None → NoTurn h w s k) }
 {}
 
 /// In mode COMMAND no key goes back: of two lines that told a client of the same key, by its row or by a Clear, which
@@ -126,7 +126,7 @@ pub fn no_key_goes_back()
     ensures { (w : World) (s : Session) (v : Live) → Lawful w → Contains w.sessions s → Contains s.board.round v
         → v.slot.plan.mode ≡ mode.Command
         → (k : List ℕ) (newer between older : List Came) (late early : Came)
-        → came v.sub v.place s.board.lines ≡ newer ++ late ∷ between ++ early ∷ older
+        → came v.sub v.rank s.board.lines ≡ newer ++ late ∷ between ++ early ∷ older
         → TellsOf (schema_of v.wanted v.slot.plan) k late.what → TellsOf (schema_of v.wanted v.slot.plan) k early.what
         → early.upto ≤ late.upto }
 {}
@@ -141,11 +141,11 @@ pub fn settled_tables_are_the_items()
 {}
 
 /// In a lawful world the table that a client of mode COMMAND makes of the bytes of its lines, by the places of key and
-/// command that its SUBCMD told, has for each key that had its turn the row that the item had at the place of that key,
-/// and no row for another key.
+/// command that its SUBCMD told, has for each key that had its turn the row that the item had at the cursor of that
+/// key, and no row for another key.
 pub fn each_client_has_the_rows_of_its_keys()
     ensures { (w : World) (s : Session) (v : Live) (t : Table) → Lawful w → Contains w.sessions s
-        → Contains s.board.round v → v.slot.plan.mode ≡ mode.Command → HasTable (texts s.board.lines) v.sub v.place t
+        → Contains s.board.round v → v.slot.plan.mode ≡ mode.Command → HasTable (texts s.board.lines) v.sub v.rank t
         → KeysAgree (history_of w.items v.item) v.wanted v.slot t.keys }
 {}
 
@@ -153,22 +153,22 @@ pub fn each_client_has_the_rows_of_its_keys()
 /// a snapshot, and else at each that an update since named.
 pub fn settled_clients_have_the_items_rows()
     ensures { (w : World) (s : Session) (v : Live) (t : Table) → Lawful w → Contains w.sessions s
-        → Contains s.board.round v → v.slot.plan.mode ≡ mode.Command → HasTable (texts s.board.lines) v.sub v.place t
+        → Contains s.board.round v → v.slot.plan.mode ≡ mode.Command → HasTable (texts s.board.lines) v.sub v.rank t
         → cut (history_of w.items v.item) v.slot ≡ None
         → (k : List ℕ) → IsToKnow (history_of w.items v.item) v.wanted v.slot k
         → finite.get t.keys k ≡ projected_row v.wanted.places
         (row_at k (keyed (shape_at w.items v.item) (history_of w.items v.item) v.slot.last)) }
 {}
 
-/// Once a slot isn't pending, its place is the number of the last event that was enqueued. In mode COMMAND each key has
-/// a place of its own.
+/// Once a slot isn't pending, its cursor is the number of the last event that was enqueued. In mode COMMAND each key
+/// has a cursor of its own.
 pub fn settled_slots_are_at_the_last_event()
     ensures { (h : List Entry) (w : Wanted) (s : Slot) (cs : List Came) → LawfulSlot h w s cs
-        → (s.plan.mode ≡ mode.Command → ⊥) → pending h s ≡ false → s.place ≡ s.last }
+        → (s.plan.mode ≡ mode.Command → ⊥) → is_pending h s ≡ false → s.cursor ≡ s.last }
 {}
 
 /// A slot's turn that tells nothing leaves no cut.
 pub fn the_turn_ends_its_cuts()
-    ensures { (h : List Entry) (w : Wanted) (s : Slot) (cs : List Came) → (turn h w s cs).told ≡ None
+    ensures { (h : List Entry) (w : Wanted) (s : Slot) (cs : List Came) → (turn h w s cs).came ≡ None
         → cut h (turn h w s cs).slot ≡ None }
 {}

@@ -1,8 +1,16 @@
-//! What follows: the laws about the worlds that `ls_world` defines, each the contract of a function without a body.
+//! What follows of the definitions of `ls_world`: the laws of every world that steps can make, each the contract of a
+//! function without a body.
+//!
+//! `each_world_is_lawful` and `each_script_is_lawful` are the headline: what each client decodes from the bytes of its
+//! lines are states that its item had, and it never goes back. The others say for each mode what a lawful slot's client
+//! has: `each_row_is_among_the_last_states` of MERGE, `each_update_is_told_or_counted` of RAW,
+//! `only_old_rows_are_left_out` of DISTINCT, `no_key_goes_back` of COMMAND, and what a client has once nothing waits.
+//!
+//! The laws are of the definitions alone. That the program does what these say is the contracts of the engine's crates.
 //! Only the program stands on this crate, so a change of a proof here proves nothing else again.
 #![tactic(auto)]
 
-pub mod law;
+mod law;
 
 pub use law::{
     a_loss_is_told_only_past_256, each_client_has_the_rows_of_its_keys, each_key_is_told_as_it_was,

@@ -1,5 +1,4 @@
 pub mod Utf8
-pub mod Decimals
 pub mod Commas
 pub mod Backward
 pub mod Rows

@@ -1,5 +1,4 @@
-pub mod Shapes
 pub mod Lines
-pub mod Numbers
+pub mod Forms
 pub mod Pieces
 pub mod Reading

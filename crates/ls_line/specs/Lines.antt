@@ -1,75 +1,73 @@
--- Lines: their parts and their texts (TLCP 2.1, notifications and answers).
-use Rattle.std.specs.Prelude.{◌==◌, ◌≡◌, ◌≤◌, ◌^◌, ℕ, List, [], ◌∷◌, ◌++◌, Bool, true, false, ◌||◌, not}
+-- Lines: their parts and their texts (TLCP 2.1, notifications and answers; MSGDONE and MSGFAIL of this project's
+-- profile).
+use Rattle.std.specs.Prelude.{◌==◌, ◌≡◌, ◌≤◌, ℕ, List, [], ◌∷◌, ◌++◌, map, Bool, true, false, ◌||◌, not, codes}
 use Rattle.std.specs.List.{list_all}
 use Rattle.std.specs.Fmt.{decimal}
 use Rattle.std.specs.Str.{IsUtf8}
+use Rattle.ls_value.specs.declared.limits.TheConstants.{GREATEST_ORDINAL, GREATEST_NUMBER}
 use Rattle.ls_line.specs.declared.line.Line.{Line}
 use Rattle.ls_line.specs.declared.line.Line.TheVariants as line
-use Rattle.ls_line.specs.declared.shape.Tag.{Tag}
-use Rattle.ls_line.specs.declared.shape.Tag.TheVariants as tag
-use Rattle.ls_line.specs.declared.shape.Word.{Word}
-use Rattle.ls_line.specs.declared.shape.Word.TheVariants as word
-use Rattle.ls_line.specs.Shapes.{tag_text, word_text}
+use Rattle.ls_line.specs.declared.table.Word.{Word}
+use Rattle.ls_line.specs.declared.table.Word.TheVariants as word
+use Rattle.ls_line.specs.declared.table.Lent.{Lent}
+use Rattle.ls_line.specs.declared.table.Lent.TheVariants as lent
 
--- a part of a line behind its tag
+-- the parts that are the same in each line of their tag
+abbrev pub word_text : Word → List ℕ
+word_text word.RequestLimit = codes "50000"
+word_text word.NoControlLink = codes "*"
+word_text word.ServerName = codes "tlcpd"
+word_text word.NoDelay = codes "0"
+
+-- a part of a line behind its tag: a word, a number, a text, or what is the rest of the line
 pub data Part : Type 0 where
   Fixed : Word → Part
-  Place : ℕ → Part
+  Ordinal : ℕ → Part
   Count : ℕ → Part
   Text : List ℕ → Part
   Message : List ℕ → Part
   Coded : List ℕ → Part
 
--- a tag and the parts behind it
+-- a line's tag, whether PROG counts it, and the parts behind its tag
 pub record Shape : Type 0 where
-  pub tag : Tag
+  pub tag : List ℕ
+  pub counts : Bool
   pub parts : List Part
+
+-- a line that PROG doesn't count, and a data line, which it counts
+abbrev pub free : List ℕ → List Part → Shape
+free tag parts = record { tag = tag; counts = false; parts = parts }
+
+abbrev pub counted : List ℕ → List Part → Shape
+counted tag parts = record { tag = tag; counts = true; parts = parts }
 
 -- the table of lines
 abbrev pub shape_of : Line → Shape
 shape_of (line.ConOk session keep_alive) =
-    record { tag = tag.ConOk; parts = Text session ∷ Fixed word.RequestLimit ∷ Count keep_alive ∷ Fixed word.NoControlLink ∷ [] }
-shape_of (line.ConErr code message) = record { tag = tag.ConErr; parts = Count code ∷ Message message ∷ [] }
-shape_of line.ServName = record { tag = tag.ServName; parts = Fixed word.ServerName ∷ [] }
-shape_of (line.Cons bandwidth) = record { tag = tag.Cons; parts = Text bandwidth ∷ [] }
-shape_of (line.Prog count) = record { tag = tag.Prog; parts = Count count ∷ [] }
-shape_of line.Probe = record { tag = tag.Probe; parts = [] }
-shape_of line.Loop = record { tag = tag.Loop; parts = Fixed word.NoDelay ∷ [] }
-shape_of (line.End code message) = record { tag = tag.End; parts = Count code ∷ Message message ∷ [] }
-shape_of (line.SubOk sub items fields) = record { tag = tag.SubOk; parts = Place sub ∷ Place items ∷ Place fields ∷ [] }
+    free (codes "CONOK") (Text session ∷ Fixed word.RequestLimit ∷ Count keep_alive ∷ Fixed word.NoControlLink ∷ [])
+shape_of (line.ConErr code message) = free (codes "CONERR") (Count code ∷ Message message ∷ [])
+shape_of line.ServName = free (codes "SERVNAME") (Fixed word.ServerName ∷ [])
+shape_of (line.Cons bandwidth) = free (codes "CONS") (Text bandwidth ∷ [])
+shape_of (line.Prog count) = free (codes "PROG") (Count count ∷ [])
+shape_of line.Probe = free (codes "PROBE") []
+shape_of line.Loop = free (codes "LOOP") (Fixed word.NoDelay ∷ [])
+shape_of (line.End code message) = free (codes "END") (Count code ∷ Message message ∷ [])
+shape_of (line.SubOk sub items fields) = counted (codes "SUBOK") (Ordinal sub ∷ Ordinal items ∷ Ordinal fields ∷ [])
 shape_of (line.SubCmd sub items fields key command) =
-    record { tag = tag.SubCmd; parts = Place sub ∷ Place items ∷ Place fields ∷ Place key ∷ Place command ∷ [] }
-shape_of (line.Conf sub frequency filter) = record { tag = tag.Conf; parts = Place sub ∷ Text frequency ∷ Text filter ∷ [] }
-shape_of (line.Unsub sub) = record { tag = tag.Unsub; parts = Place sub ∷ [] }
-shape_of (line.Eos sub item) = record { tag = tag.Eos; parts = Place sub ∷ Place item ∷ [] }
-shape_of (line.Cs sub item) = record { tag = tag.Cs; parts = Place sub ∷ Place item ∷ [] }
-shape_of (line.Ov sub item lost) = record { tag = tag.Ov; parts = Place sub ∷ Place item ∷ Count lost ∷ [] }
-shape_of (line.U sub item fields) = record { tag = tag.U; parts = Place sub ∷ Place item ∷ Coded fields ∷ [] }
-shape_of (line.ReqOk request) = record { tag = tag.ReqOk; parts = Text request ∷ [] }
-shape_of (line.ReqErr request code message) = record { tag = tag.ReqErr; parts = Text request ∷ Count code ∷ Message message ∷ [] }
-shape_of (line.Error code message) = record { tag = tag.Error; parts = Count code ∷ Message message ∷ [] }
-shape_of line.WsOk = record { tag = tag.WsOk; parts = [] }
-shape_of (line.MsgDone sequence number) = record { tag = tag.MsgDone; parts = Text sequence ∷ Count number ∷ [] }
+    counted (codes "SUBCMD") (Ordinal sub ∷ Ordinal items ∷ Ordinal fields ∷ Ordinal key ∷ Ordinal command ∷ [])
+shape_of (line.Conf sub frequency filter) = counted (codes "CONF") (Ordinal sub ∷ Text frequency ∷ Text filter ∷ [])
+shape_of (line.Unsub sub) = counted (codes "UNSUB") (Ordinal sub ∷ [])
+shape_of (line.Eos sub item) = counted (codes "EOS") (Ordinal sub ∷ Ordinal item ∷ [])
+shape_of (line.Cs sub item) = counted (codes "CS") (Ordinal sub ∷ Ordinal item ∷ [])
+shape_of (line.Ov sub item lost) = counted (codes "OV") (Ordinal sub ∷ Ordinal item ∷ Count lost ∷ [])
+shape_of (line.U sub item fields) = counted (codes "U") (Ordinal sub ∷ Ordinal item ∷ Coded fields ∷ [])
+shape_of (line.ReqOk request) = free (codes "REQOK") (Text request ∷ [])
+shape_of (line.ReqErr request code message) = free (codes "REQERR") (Text request ∷ Count code ∷ Message message ∷ [])
+shape_of (line.Error code message) = free (codes "ERROR") (Count code ∷ Message message ∷ [])
+shape_of line.WsOk = free (codes "WSOK") []
+shape_of (line.MsgDone sequence number) = counted (codes "MSGDONE") (Text sequence ∷ Count number ∷ [])
 shape_of (line.MsgFail sequence number code message) =
-    record { tag = tag.MsgFail; parts = Text sequence ∷ Count number ∷ Count code ∷ Message message ∷ [] }
-
--- the text of a part
-abbrev pub part_text : Part → List ℕ
-part_text (Fixed w) = word_text w
-part_text (Place n) = decimal n
-part_text (Count n) = decimal n
-part_text (Text t) = t
-part_text (Message t) = t
-part_text (Coded bytes) = bytes
-
--- a text with parts behind it, each after a comma
-abbrev pub then_parts : List ℕ → List Part → List ℕ
-then_parts text [] = text
-then_parts text (p ∷ parts) = then_parts (text ++ 44 ∷ part_text p) parts
-
--- the text of a line, without CR LF
-abbrev pub text_of : Line → List ℕ
-text_of l = then_parts (tag_text (shape_of l).tag) (shape_of l).parts
+    counted (codes "MSGFAIL") (Text sequence ∷ Count number ∷ Count code ∷ Message message ∷ [])
 
 -- the lines of messages, which are not read
 abbrev pub is_of_message : Line → Bool
@@ -79,30 +77,45 @@ is_of_message l = false
 
 -- the data lines, which PROG counts
 abbrev pub is_data : Line → Bool
-is_data (line.SubOk sub items fields) = true
-is_data (line.SubCmd sub items fields key command) = true
-is_data (line.Conf sub frequency filter) = true
-is_data (line.Unsub sub) = true
-is_data (line.Eos sub item) = true
-is_data (line.Cs sub item) = true
-is_data (line.Ov sub item lost) = true
-is_data (line.U sub item fields) = true
-is_data (line.MsgDone sequence number) = true
-is_data (line.MsgFail sequence number code message) = true
-is_data l = false
+is_data l = (shape_of l).counts
 
--- bytes without CR and LF, and without commas too
+-- the text of a part
+abbrev pub part_text : Part → List ℕ
+part_text (Fixed w) = word_text w
+part_text (Ordinal n) = decimal n
+part_text (Count n) = decimal n
+part_text (Text t) = t
+part_text (Message t) = t
+part_text (Coded bytes) = bytes
+
+-- and of one that a line lends
+abbrev pub lent_text : Lent → List ℕ
+lent_text (lent.Fixed w) = word_text w
+lent_text (lent.Number n) = decimal n
+lent_text (lent.Bytes bytes) = bytes.now
+
+-- a text with others behind it, each after a comma
+abbrev pub then_texts : List ℕ → List (List ℕ) → List ℕ
+then_texts text [] = text
+then_texts text (t ∷ texts) = then_texts (text ++ 44 ∷ t) texts
+
+-- the text of a line, without CR LF
+abbrev pub text_of_line : Line → List ℕ
+text_of_line l = then_texts (shape_of l).tag (map part_text (shape_of l).parts)
+
+-- bytes of a message: no CR and no LF
 abbrev pub is_message_byte : ℕ → Bool
 is_message_byte b = not (b == 13 || b == 10)
 
+-- and of another text: no comma either
 abbrev pub is_text_byte : ℕ → Bool
 is_text_byte b = not (b == 44 || b == 13 || b == 10)
 
 -- a number is in its range, and a text is UTF-8 on one line; only a message may hold commas
 abbrev pub IsInRange : Part → Type 0
 IsInRange (Fixed w) = Unit {0}
-IsInRange (Place n) = (1 ≤ n) × (n ≤ 999999999)
-IsInRange (Count n) = n ≤ 2 ^ 60
+IsInRange (Ordinal n) = (1 ≤ n) × (n ≤ GREATEST_ORDINAL)
+IsInRange (Count n) = n ≤ GREATEST_NUMBER
 IsInRange (Text t) = IsUtf8 t × (list_all is_text_byte t ≡ true)
 IsInRange (Message t) = IsUtf8 t × (list_all is_message_byte t ≡ true)
 IsInRange (Coded bytes) = Unit {0}

@@ -1,5 +1,5 @@
 -- The parts of a text, divided by commas.
-use Rattle.std.specs.Prelude.{◌==◌, ℕ, zero, suc, ◌+◌, List, [], ◌∷◌, if◌then◌else◌}
+use Rattle.std.specs.Prelude.{◌==◌, ℕ, ◌+◌, List, [], ◌∷◌, if◌then◌else◌}
 
 -- the bytes before the first comma
 abbrev pub first_part : List ℕ → List ℕ
@@ -10,11 +10,6 @@ first_part (b ∷ bytes) = if b == 44 then [] else b ∷ first_part bytes
 abbrev pub behind : List ℕ → List ℕ
 behind [] = []
 behind (b ∷ bytes) = if b == 44 then bytes else behind bytes
-
--- the bytes behind so many commas
-abbrev pub behind_all : ℕ → List ℕ → List ℕ
-behind_all zero bytes = bytes
-behind_all (suc n) bytes = behind_all n (behind bytes)
 
 -- how many commas there are
 abbrev pub commas : List ℕ → ℕ

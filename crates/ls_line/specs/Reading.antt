@@ -1,18 +1,18 @@
 -- What bytes say, read as a line: the line, or the first cause of their refusal (TLCP 2.1, notifications and answers).
-use Rattle.std.specs.Prelude.{◌≡◌, ◌^◌, ℕ, ◌+◌, List, [], ◌∷◌, length, Bool, false, ◌||◌, not, Option, None, Some, option_and_then, is_none, Result, Ok, Err, nat_eq, nat_le, if◌then◌else◌}
+use Rattle.std.specs.Prelude.{◌≡◌, ℕ, ◌+◌, List, [], ◌∷◌, length, Bool, false, ◌||◌, not, Option, None, Some}
+use Rattle.std.specs.Prelude.{option_and_then, is_none, Result, Ok, Err, nat_eq, nat_le, if◌then◌else◌}
 use Rattle.std.specs.Str.{is_utf8}
 use Rattle.ls_value.specs.Values.{text_eq}
 use Rattle.ls_line.specs.declared.line.Line.{Line}
-use Rattle.ls_line.specs.declared.line.Line.TheVariants as line
 use Rattle.ls_line.specs.declared.line.LineRefused.{LineRefused}
 use Rattle.ls_line.specs.declared.line.LineRefused.TheVariants as refused
-use Rattle.ls_line.specs.declared.shape.Tag.{Tag}
-use Rattle.ls_line.specs.declared.shape.Tag.TheVariants as tag
-use Rattle.ls_line.specs.declared.shape.Kind.{Kind}
-use Rattle.ls_line.specs.declared.shape.Kind.TheVariants as kind
-use Rattle.ls_line.specs.Shapes.{tags_read, tag_of, word_text, kinds_of, is_rest}
-use Rattle.ls_line.specs.Lines.{Part, Fixed, Place, Count, Text, Message, Coded}
-use Rattle.ls_line.specs.Numbers.{number_in}
+use Rattle.ls_line.specs.declared.table.Tag.{Tag}
+use Rattle.ls_line.specs.declared.table.Kind.{Kind}
+use Rattle.ls_line.specs.declared.table.Kind.TheVariants as kind
+use Rattle.ls_value.specs.declared.limits.TheConstants.{GREATEST_ORDINAL, GREATEST_NUMBER}
+use Rattle.ls_words.specs.Numbers.{number_in}
+use Rattle.ls_line.specs.Forms.{tag_of, kinds_of, line_with, is_rest}
+use Rattle.ls_line.specs.Lines.{Part, Fixed, Ordinal, Count, Text, Message, Coded, word_text}
 use Rattle.ls_line.specs.Pieces.{first_part, behind, commas}
 
 -- the bytes of a part of a kind, where this is left of the line
@@ -28,17 +28,18 @@ has_rest (k ∷ kinds) = is_rest k || has_rest kinds
 abbrev pub has_parts : List Kind → ℕ → Bool
 has_parts kinds n = if has_rest kinds then nat_le (length kinds) n else nat_eq n (length kinds)
 
--- the numbers of a part's range
-abbrev pub place_in : List ℕ → Option ℕ
-place_in text = number_in 1 999999999 text
+-- the ordinal that a text says
+abbrev pub ordinal_in : List ℕ → Option ℕ
+ordinal_in text = number_in 1 GREATEST_ORDINAL text
 
+-- another number that a text says
 abbrev pub count_in : List ℕ → Option ℕ
-count_in text = number_in 0 (2 ^ 60) text
+count_in text = number_in 0 GREATEST_NUMBER text
 
 -- a number that is none of its range
 abbrev pub is_bad_number : Kind → List ℕ → Bool
 is_bad_number (kind.Fixed w) text = false
-is_bad_number kind.Place text = is_none (place_in text)
+is_bad_number kind.Ordinal text = is_none (ordinal_in text)
 is_bad_number kind.Count text = is_none (count_in text)
 is_bad_number kind.Text text = false
 is_bad_number kind.Message text = false
@@ -47,7 +48,7 @@ is_bad_number kind.Coded text = false
 -- another word than the fixed one, or a text that is not UTF-8
 abbrev pub is_bad_text : Kind → List ℕ → Bool
 is_bad_text (kind.Fixed w) text = not (text_eq text (word_text w))
-is_bad_text kind.Place text = false
+is_bad_text kind.Ordinal text = false
 is_bad_text kind.Count text = false
 is_bad_text kind.Text text = not (is_utf8 text)
 is_bad_text kind.Message text = not (is_utf8 text)
@@ -68,17 +69,20 @@ bad_part None None = None
 abbrev pub cause_behind : Tag → List ℕ → Option LineRefused
 cause_behind t bytes =
     if has_parts (kinds_of t) (commas bytes)
-    then bad_part (first_bad is_bad_number (kinds_of t) (behind bytes) 2) (first_bad is_bad_text (kinds_of t) (behind bytes) 2)
+    then bad_part (first_bad is_bad_number (kinds_of t) (behind bytes) 2)
+    (first_bad is_bad_text (kinds_of t) (behind bytes) 2)
     else Some refused.BadCount
 
+-- and of a tag, or of none
 abbrev pub cause_of : Option Tag → List ℕ → Option LineRefused
 cause_of None bytes = Some refused.BadTag
 cause_of (Some t) bytes = cause_behind t bytes
 
 -- why bytes are no line: the first cause of the order
 abbrev pub refusal : List ℕ → Option LineRefused
-refusal bytes = cause_of (tag_of tags_read (first_part bytes)) bytes
+refusal bytes = cause_of (tag_of (first_part bytes)) bytes
 
+-- a number, 0 where there is none
 abbrev pub or_zero : Option ℕ → ℕ
 or_zero None = 0
 or_zero (Some n) = n
@@ -86,41 +90,16 @@ or_zero (Some n) = n
 -- the part of a kind that bytes say
 abbrev pub part_of : Kind → List ℕ → Part
 part_of (kind.Fixed w) text = Fixed w
-part_of kind.Place text = Place (or_zero (place_in text))
+part_of kind.Ordinal text = Ordinal (or_zero (ordinal_in text))
 part_of kind.Count text = Count (or_zero (count_in text))
 part_of kind.Text text = Text text
 part_of kind.Message text = Message text
 part_of kind.Coded text = Coded text
 
+-- the parts of these kinds that bytes say
 abbrev pub parts_of : List Kind → List ℕ → List Part
 parts_of [] rest = []
 parts_of (k ∷ kinds) rest = part_of k (piece k rest) ∷ parts_of kinds (behind rest)
-
--- the line of a tag with these parts
-abbrev pub line_with : Tag → List Part → Option Line
-line_with tag.ConOk (Text session ∷ Fixed w ∷ Count keep_alive ∷ Fixed v ∷ []) = Some (line.ConOk session keep_alive)
-line_with tag.ConErr (Count code ∷ Message message ∷ []) = Some (line.ConErr code message)
-line_with tag.ServName (Fixed w ∷ []) = Some line.ServName
-line_with tag.Cons (Text bandwidth ∷ []) = Some (line.Cons bandwidth)
-line_with tag.Prog (Count count ∷ []) = Some (line.Prog count)
-line_with tag.Probe [] = Some line.Probe
-line_with tag.Loop (Fixed w ∷ []) = Some line.Loop
-line_with tag.End (Count code ∷ Message message ∷ []) = Some (line.End code message)
-line_with tag.SubOk (Place sub ∷ Place items ∷ Place fields ∷ []) = Some (line.SubOk sub items fields)
-line_with tag.SubCmd (Place sub ∷ Place items ∷ Place fields ∷ Place key ∷ Place command ∷ []) = Some (line.SubCmd sub items fields key command)
-line_with tag.Conf (Place sub ∷ Text frequency ∷ Text filter ∷ []) = Some (line.Conf sub frequency filter)
-line_with tag.Unsub (Place sub ∷ []) = Some (line.Unsub sub)
-line_with tag.Eos (Place sub ∷ Place item ∷ []) = Some (line.Eos sub item)
-line_with tag.Cs (Place sub ∷ Place item ∷ []) = Some (line.Cs sub item)
-line_with tag.Ov (Place sub ∷ Place item ∷ Count lost ∷ []) = Some (line.Ov sub item lost)
-line_with tag.U (Place sub ∷ Place item ∷ Coded fields ∷ []) = Some (line.U sub item fields)
-line_with tag.ReqOk (Text request ∷ []) = Some (line.ReqOk request)
-line_with tag.ReqErr (Text request ∷ Count code ∷ Message message ∷ []) = Some (line.ReqErr request code message)
-line_with tag.Error (Count code ∷ Message message ∷ []) = Some (line.Error code message)
-line_with tag.WsOk [] = Some line.WsOk
-line_with tag.MsgDone (Text sequence ∷ Count number ∷ []) = Some (line.MsgDone sequence number)
-line_with tag.MsgFail (Text sequence ∷ Count number ∷ Count code ∷ Message message ∷ []) = Some (line.MsgFail sequence number code message)
-line_with t parts = None
 
 -- the line of a tag behind which this stands
 abbrev pub line_behind : Tag → List ℕ → Option Line
@@ -128,7 +107,7 @@ line_behind t rest = line_with t (parts_of (kinds_of t) rest)
 
 -- the line that bytes say
 abbrev pub line_of : List ℕ → Option Line
-line_of bytes = option_and_then (λ t. line_behind t (behind bytes)) (tag_of tags_read (first_part bytes))
+line_of bytes = option_and_then (λ t. line_behind t (behind bytes)) (tag_of (first_part bytes))
 
 -- bytes are read as a line
 abbrev pub Says : List ℕ → Line → Type 0

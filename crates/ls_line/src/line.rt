@@ -1,12 +1,9 @@
 //! What a line says.
-ghost use Rattle.std.specs.Prelude.{◌≡◌};
-ghost use Rattle.ls_line.specs.Lines.{is_data};
-
 use ls_value::{Bytes, NoMemory, Text};
 
 /// What a line says (TLCP 2.1, and MSGDONE and MSGFAIL of this project's profile): a variant for each tag.
 ///
-/// Numbers of subscriptions, items, places and fields are from 1 to 999999999, other numbers at most 2^60.
+/// Numbers of subscriptions, items and fields are ordinals, from 1 to 999,999,999; other numbers are at most 2^60.
 /// A text holds no comma, CR or LF; a message, which is the last part of its line, may hold commas.
 #[derive(Drop)]
 pub enum Line {
@@ -87,21 +84,21 @@ pub enum Line {
     Eos {
         /// The subscription's number.
         sub: u32,
-        /// The item's place in the subscription, from 1.
+        /// The item's rank in the subscription, from 1.
         item: u32,
     },
     /// `CS,<sub>,<item>`: the snapshot of an item is cleared.
     Cs {
         /// The subscription's number.
         sub: u32,
-        /// The item's place in the subscription, from 1.
+        /// The item's rank in the subscription, from 1.
         item: u32,
     },
     /// `OV,<sub>,<item>,<lost>`: updates of an item were lost.
     Ov {
         /// The subscription's number.
         sub: u32,
-        /// The item's place in the subscription, from 1.
+        /// The item's rank in the subscription, from 1.
         item: u32,
         /// How many updates were lost.
         lost: u64,
@@ -110,7 +107,7 @@ pub enum Line {
     U {
         /// The subscription's number.
         sub: u32,
-        /// The item's place in the subscription, from 1.
+        /// The item's rank in the subscription, from 1.
         item: u32,
         /// The fields' values, as TLCP codes them: the rest of the line.
         fields: Bytes,
@@ -187,24 +184,5 @@ impl From<NoMemory> for LineRefused {
 
     fn from(_: NoMemory) -> LineRefused {
         LineRefused::NoMemory
-    }
-}
-
-/// Whether a line is a data line, which counts in PROG. No memory is taken.
-pub fn counts(line: &Line) -> bool
-    ensures { result ≡ is_data line.now }
-{
-    match line {
-        Line::SubOk { .. } => true,
-        Line::SubCmd { .. } => true,
-        Line::Conf { .. } => true,
-        Line::Unsub { .. } => true,
-        Line::Eos { .. } => true,
-        Line::Cs { .. } => true,
-        Line::Ov { .. } => true,
-        Line::U { .. } => true,
-        Line::MsgDone { .. } => true,
-        Line::MsgFail { .. } => true,
-        _ => false,
     }
 }

@@ -1,6 +1,6 @@
 //! The parts of a line, divided by commas.
 ghost use Rattle.std.specs.Prelude.{◌≡◌, ◌≤◌, ◌+◌, take, drop, length};
-ghost use Rattle.ls_line.specs.Pieces.{first_part, behind, behind_all, commas};
+ghost use Rattle.ls_line.specs.Pieces.{first_part, behind, commas};
 
 /// The place of the first comma, or the length where there is none.
 fn comma(bytes: &[u8]) -> usize
@@ -33,17 +33,6 @@ pub(crate) fn behind(bytes: &[u8]) -> &[u8]
     } else {
         &[]
     }
-}
-
-/// The bytes behind so many commas; none where there are fewer.
-pub(crate) fn behind_all(count: usize, bytes: &[u8]) -> &[u8]
-    ensures { result.now ≡ behind_all count bytes.now }
-{
-    let mut rest = bytes;
-    for _ in 0..count {
-        rest = behind(rest);
-    }
-    rest
 }
 
 /// How many commas there are.

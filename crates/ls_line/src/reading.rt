@@ -2,16 +2,17 @@
 ghost use Rattle.std.specs.Prelude.{◌≡◌, IfOk, Some, true};
 ghost use Rattle.std.specs.List.{list_all};
 ghost use Rattle.std.specs.Str.{is_utf8};
-ghost use Rattle.ls_line.specs.Lines.{text_of, is_message_byte, IsWritable};
-ghost use Rattle.ls_line.specs.Shapes.{kinds_of};
-ghost use Rattle.ls_line.specs.Pieces.{first_part, behind_all};
-ghost use Rattle.ls_line.specs.Reading.{piece, has_rest, has_parts, place_in, count_in, or_zero, is_bad_number, is_bad_text, first_bad, cause_behind, refusal, line_behind, line_of, AnswersFirst};
+ghost use Rattle.ls_line.specs.Lines.{text_of_line, is_message_byte, IsWritable};
+ghost use Rattle.ls_line.specs.Forms.{kinds_of};
+ghost use Rattle.ls_line.specs.Reading.{piece, has_rest, has_parts, ordinal_in, count_in, or_zero};
+ghost use Rattle.ls_line.specs.Reading.{is_bad_number, is_bad_text, first_bad, cause_behind, refusal, line_behind};
+ghost use Rattle.ls_line.specs.Reading.{line_of, AnswersFirst};
 
 use crate::line::{Line, LineRefused};
-use crate::numbers::number_in;
-use crate::pieces::{behind, behind_all, commas, first_part};
-use crate::shape::{Kind, Tag, fixed, is_rest, kinds, tag_from};
-use ls_value::{Bytes, NoMemory, Text, same_bytes};
+use crate::pieces::{behind, commas, first_part};
+use crate::table::{Kind, Tag, is_rest, kinds_of, lines, tag_of, word_text};
+use ls_value::{Bytes, GREATEST_NUMBER, GREATEST_ORDINAL, NoMemory, Text, same_bytes};
+use ls_words::number_in;
 use std::alloc::Global;
 
 /// Whether some part is the rest of the line.
@@ -48,19 +49,19 @@ fn piece(kind: Kind, rest: &[u8]) -> &[u8]
     }
 }
 
-/// The number of a subscription, an item or a place, or a number of items or fields.
-fn place_in(text: &[u8]) -> Option<u32>
-    ensures { result ≡ place_in text.now }
+/// The ordinal that a text says: of a subscription, an item or a field, or how many items or fields there are.
+fn ordinal_in(text: &[u8]) -> Option<u32>
+    ensures { result ≡ ordinal_in text.now }
 {
-    let n = number_in(1, 999_999_999, text)?;
+    let n = number_in(text, 1, u64::from(GREATEST_ORDINAL))?;
     Some(n as u32)
 }
 
-/// Another number.
+/// Another number that a text says.
 fn count_in(text: &[u8]) -> Option<u64>
     ensures { result ≡ count_in text.now }
 {
-    number_in(0, 1 << 60, text)
+    number_in(text, 0, GREATEST_NUMBER)
 }
 
 /// Whether bytes are UTF-8.
@@ -79,7 +80,7 @@ fn is_bad_number(kind: Kind, part: &[u8]) -> bool
     ensures { result ≡ is_bad_number kind part.now }
 {
     match kind {
-        Kind::Place => place_in(part).is_none(),
+        Kind::Ordinal => ordinal_in(part).is_none(),
         Kind::Count => count_in(part).is_none(),
         _ => false,
     }
@@ -90,7 +91,7 @@ fn is_bad_text(kind: Kind, part: &[u8]) -> bool
     ensures { result ≡ is_bad_text kind part.now }
 {
     match kind {
-        Kind::Fixed(word) => !same_bytes(part, fixed(word)),
+        Kind::Fixed(word) => !same_bytes(part, word_text(word)),
         Kind::Text => !is_utf8(part),
         Kind::Message => !is_utf8(part),
         _ => false,
@@ -129,7 +130,7 @@ fn bad_text(kinds: &[Kind], bytes: &[u8]) -> Option<usize>
 fn cause_behind(tag: Tag, bytes: &[u8]) -> Option<LineRefused>
     ensures { result ≡ cause_behind tag bytes.now }
 {
-    let kinds = kinds(tag);
+    let kinds = kinds_of(tag);
     if !has_parts(kinds, commas(bytes)) {
         return Some(LineRefused::BadCount);
     }
@@ -143,21 +144,21 @@ fn cause_behind(tag: Tag, bytes: &[u8]) -> Option<LineRefused>
     None
 }
 
-/// The number of a place in the part behind so many commas; 0 where there is none.
-fn place(rest: &[u8], commas: usize) -> u32
-    ensures { result ≡ or_zero (place_in (first_part (behind_all commas rest.now))) }
+/// The ordinal that a part says; 0 where it says none.
+fn ordinal(part: &[u8]) -> u32
+    ensures { result ≡ or_zero (ordinal_in part.now) }
 {
-    match place_in(first_part(behind_all(commas, rest))) {
+    match ordinal_in(part) {
         Some(n) => n,
         None => 0,
     }
 }
 
-/// The number in the part behind so many commas; 0 where there is none.
-fn count(rest: &[u8], commas: usize) -> u64
-    ensures { result ≡ or_zero (count_in (first_part (behind_all commas rest.now))) }
+/// The other number that a part says; 0 where it says none.
+fn count(part: &[u8]) -> u64
+    ensures { result ≡ or_zero (count_in part.now) }
 {
-    match count_in(first_part(behind_all(commas, rest))) {
+    match count_in(part) {
         Some(n) => n,
         None => 0,
     }
@@ -173,110 +174,50 @@ fn owned(alloc: Global, part: &[u8]) -> Result<Text, NoMemory>
     }
 }
 
-/// The text in the part behind so many commas.
-fn text(alloc: Global, rest: &[u8], commas: usize) -> Result<Text, NoMemory>
-    ensures { IfOk result (λ t. t ≡ first_part (behind_all commas rest.now)) }
-{
-    let text = owned(alloc, first_part(behind_all(commas, rest)))?;
-    Ok(text)
+/// Reads the next part, and goes on behind it.
+macro_rules! part {
+    ($alloc:ident $rest:ident word($word:ident)) => {
+        let $rest = behind($rest);
+    };
+    ($alloc:ident $rest:ident ordinal($field:ident)) => {
+        let $field = ordinal(first_part($rest));
+        let $rest = behind($rest);
+    };
+    ($alloc:ident $rest:ident count($field:ident)) => {
+        let $field = count(first_part($rest));
+        let $rest = behind($rest);
+    };
+    ($alloc:ident $rest:ident text($field:ident)) => {
+        let $field = owned($alloc, first_part($rest))?;
+        let $rest = behind($rest);
+    };
+    ($alloc:ident $rest:ident message($field:ident)) => {
+        let $field = owned($alloc, $rest)?;
+    };
+    ($alloc:ident $rest:ident coded($field:ident)) => {
+        let $field = Bytes::of($alloc, $rest)?;
+    };
 }
 
-/// The text that is all behind so many commas.
-fn message(alloc: Global, rest: &[u8], commas: usize) -> Result<Text, NoMemory>
-    ensures { IfOk result (λ t. t ≡ behind_all commas rest.now) }
-{
-    let text = owned(alloc, behind_all(commas, rest))?;
-    Ok(text)
+macro_rules! made {
+    ({ $alloc:ident $given:ident $rest:ident }
+        read { $($variant:ident { $($field:ident),* } = $tag:literal, $counts:literal: $($kind:ident($part:ident))*;)* }
+        written { $($written:tt)* }
+    ) => {
+        match $given {
+            $(Tag::$variant => {
+                $(part!($alloc $rest $kind($part));)*
+                Ok(Line::$variant { $($field),* })
+            })*
+        }
+    };
 }
 
 /// The line of a tag behind which this stands. It is refused for no other cause than memory.
 fn line_behind(alloc: Global, tag: Tag, rest: &[u8]) -> Result<Line, NoMemory>
     ensures { IfOk result (λ l. line_behind tag rest.now ≡ Some l) }
 {
-    match tag {
-        Tag::ConOk => Ok(Line::ConOk {
-            session: text(alloc, rest, 0)?,
-            keep_alive: count(rest, 2),
-        }),
-        Tag::ConErr => Ok(Line::ConErr {
-            code: count(rest, 0),
-            message: message(alloc, rest, 1)?,
-        }),
-        Tag::ServName => Ok(Line::ServName),
-        Tag::Cons => Ok(Line::Cons {
-            bandwidth: text(alloc, rest, 0)?,
-        }),
-        Tag::Prog => Ok(Line::Prog {
-            count: count(rest, 0),
-        }),
-        Tag::Probe => Ok(Line::Probe),
-        Tag::Loop => Ok(Line::Loop),
-        Tag::End => Ok(Line::End {
-            code: count(rest, 0),
-            message: message(alloc, rest, 1)?,
-        }),
-        Tag::SubOk => Ok(Line::SubOk {
-            sub: place(rest, 0),
-            items: place(rest, 1),
-            fields: place(rest, 2),
-        }),
-        Tag::SubCmd => Ok(Line::SubCmd {
-            sub: place(rest, 0),
-            items: place(rest, 1),
-            fields: place(rest, 2),
-            key: place(rest, 3),
-            command: place(rest, 4),
-        }),
-        Tag::Conf => Ok(Line::Conf {
-            sub: place(rest, 0),
-            frequency: text(alloc, rest, 1)?,
-            filter: text(alloc, rest, 2)?,
-        }),
-        Tag::Unsub => Ok(Line::Unsub {
-            sub: place(rest, 0),
-        }),
-        Tag::Eos => Ok(Line::Eos {
-            sub: place(rest, 0),
-            item: place(rest, 1),
-        }),
-        Tag::Cs => Ok(Line::Cs {
-            sub: place(rest, 0),
-            item: place(rest, 1),
-        }),
-        Tag::Ov => Ok(Line::Ov {
-            sub: place(rest, 0),
-            item: place(rest, 1),
-            lost: count(rest, 2),
-        }),
-        Tag::U => Ok(Line::U {
-            sub: place(rest, 0),
-            item: place(rest, 1),
-            fields: Bytes::of(alloc, behind_all(2, rest))?,
-        }),
-        Tag::ReqOk => Ok(Line::ReqOk {
-            request: text(alloc, rest, 0)?,
-        }),
-        Tag::ReqErr => Ok(Line::ReqErr {
-            request: text(alloc, rest, 0)?,
-            code: count(rest, 1),
-            message: message(alloc, rest, 2)?,
-        }),
-        Tag::Error => Ok(Line::Error {
-            code: count(rest, 0),
-            message: message(alloc, rest, 1)?,
-        }),
-        Tag::WsOk => Ok(Line::WsOk),
-        Tag::MsgDone => Ok(Line::MsgDone {
-            sequence: text(alloc, rest, 0)?,
-            number: count(rest, 1),
-        }),
-        Tag::MsgFail => Ok(Line::MsgFail {
-            sequence: text(alloc, rest, 0)?,
-            number: count(rest, 1),
-            code: count(rest, 2),
-            message: message(alloc, rest, 3)?,
-        }),
-    }
+    lines!(made { alloc tag rest })
 }
 
 /// The line that bytes say, without CR LF; otherwise the first cause, where memory comes last.
@@ -285,7 +226,7 @@ pub fn read(alloc: Global, bytes: &[u8]) -> Result<Line, LineRefused>
     ensures answer { AnswersFirst (refusal bytes.now) (line_of bytes.now) result }
 
     // The line's text is these bytes.
-    ensures exact { IfOk result (λ l. text_of l ≡ bytes.now) }
+    ensures exact { IfOk result (λ l. text_of_line l ≡ bytes.now) }
 
     // Its parts are in their ranges, where the bytes hold no CR and no LF.
     ensures writable { IfOk result (λ l. list_all is_message_byte bytes.now ≡ true → IsWritable l) }
@@ -297,7 +238,7 @@ pub fn read(alloc: Global, bytes: &[u8]) -> Result<Line, LineRefused>
 fn line_or_cause(alloc: Global, bytes: &[u8]) -> Result<Line, LineRefused>
     ensures { AnswersFirst (refusal bytes.now) (line_of bytes.now) result }
 {
-    let Some(tag) = tag_from(first_part(bytes)) else {
+    let Some(tag) = tag_of(first_part(bytes)) else {
         return Err(LineRefused::BadTag);
     };
     if let Some(cause) = cause_behind(tag, bytes) {

@@ -1,8 +1,8 @@
 //! The cells that events say, the fields that they touch, and the cells that tell these.
 ghost use Rattle.std.specs.Prelude.{◌≡◌, ◌||◌, true, false, IfOk, length, replicate, if◌then◌else◌};
 ghost use Rattle.ls_value.specs.Values.{applied, kept_or_taken};
-ghost use Rattle.ls_event.specs.Cuts.{touched_cells, told_cells, says, told};
-ghost use Rattle.ls_merge.specs.Merge.{cells_of};
+ghost use Rattle.ls_event.specs.Cuts.{touched_cells, flagged_cells, says, cell_saying};
+ghost use Rattle.ls_merge.specs.Merge.{event_cells};
 
 use ls_event::Event;
 use ls_value::{Cell, Cells, NoMemory, Row, Value, apply_owned};
@@ -12,7 +12,7 @@ use std::alloc::Global;
 pub fn flags(alloc: Global, n: usize, flag: bool) -> Result<Vec<bool>, NoMemory>
     ensures { IfOk result (λ flags. flags.items ≡ replicate n flag) }
 {
-    let mut flags = Vec::new(alloc);
+    let mut flags = Vec::with_capacity(alloc, n)?;
     for _ in 0..n {
         flags.push(flag)?;
     }
@@ -61,7 +61,7 @@ pub fn merge(row: &mut Row, flags: &mut Vec<bool>, said: Cells)
 
 /// What an event says of each of so many fields: a Clear makes each null.
 pub fn said_cells(alloc: Global, event: &Event, fields: usize) -> Result<Cells, NoMemory>
-    ensures { IfOk result (λ cells. cells ≡ cells_of fields event.now) }
+    ensures { IfOk result (λ cells. cells ≡ event_cells fields event.now) }
 {
     match event {
         Event::Update(cells) => cells.copy(alloc),
@@ -73,7 +73,7 @@ pub fn said_cells(alloc: Global, event: &Event, fields: usize) -> Result<Cells, 
 fn null_cells(alloc: Global, n: usize) -> Result<Vec<Cell>, NoMemory>
     ensures { IfOk result (λ cells. cells.items ≡ replicate n Cell.Null) }
 {
-    let mut cells = Vec::new(alloc);
+    let mut cells = Vec::with_capacity(alloc, n)?;
     for _ in 0..n {
         cells.push(Cell::Null)?;
     }
@@ -83,10 +83,10 @@ fn null_cells(alloc: Global, n: usize) -> Result<Vec<Cell>, NoMemory>
 /// The cells that tell the values of the fields whose flag is set.
 pub fn cells_at(alloc: Global, flags: &[bool], row: &[Value]) -> Result<Vec<Cell>, NoMemory>
     requires { length flags.now ≡ length row.now }
-    ensures cells { IfOk result (λ cells. cells.items ≡ told_cells flags.now row.now) }
+    ensures cells { IfOk result (λ cells. cells.items ≡ flagged_cells flags.now row.now) }
     ensures fields { IfOk result (λ cells. length cells.items ≡ length row.now) }
 {
-    let mut cells = Vec::new(alloc);
+    let mut cells = Vec::with_capacity(alloc, flags.len())?;
     for i in 0..flags.len() {
         cells.push(cell_at(alloc, flags[i], &row[i])?)?;
     }
@@ -95,7 +95,7 @@ pub fn cells_at(alloc: Global, flags: &[bool], row: &[Value]) -> Result<Vec<Cell
 
 /// The cell of a field.
 fn cell_at(alloc: Global, flag: bool, value: &Value) -> Result<Cell, NoMemory>
-    ensures { IfOk result (λ cell. cell ≡ (if flag then told value.now else Cell.Same)) }
+    ensures { IfOk result (λ cell. cell ≡ (if flag then cell_saying value.now else Cell.Same)) }
 {
     if !flag {
         return Ok(Cell::Same);
@@ -115,10 +115,11 @@ pub fn cells_with(
 ) -> Result<Vec<Cell>, NoMemory>
     requires row { length flags.now ≡ length row.now }
     requires update { length flags.now ≡ length update.now }
-    ensures cells { IfOk result (λ cells. cells.items ≡ told_cells (touched_cells flags.now update.now) (applied row.now update.now)) }
+    ensures cells { IfOk result (λ cells.
+        cells.items ≡ flagged_cells (touched_cells flags.now update.now) (applied row.now update.now)) }
     ensures fields { IfOk result (λ cells. length cells.items ≡ length row.now) }
 {
-    let mut cells = Vec::new(alloc);
+    let mut cells = Vec::with_capacity(alloc, flags.len())?;
     for i in 0..flags.len() {
         cells.push(cell_with(alloc, flags[i], &row[i], &update[i])?)?;
     }
@@ -127,7 +128,8 @@ pub fn cells_with(
 
 /// The cell of a field after an update.
 fn cell_with(alloc: Global, flag: bool, value: &Value, update: &Cell) -> Result<Cell, NoMemory>
-    ensures { IfOk result (λ cell. cell ≡ (if flag || says update.now then told (kept_or_taken value.now update.now) else Cell.Same)) }
+    ensures { IfOk result (λ cell. cell
+        ≡ (if flag || says update.now then cell_saying (kept_or_taken value.now update.now) else Cell.Same)) }
 {
     match update {
         Cell::Same => cell_at(alloc, flag, value),

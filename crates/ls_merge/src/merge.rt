@@ -1,10 +1,14 @@
 //! The buffer of a slot in mode MERGE of every size.
-ghost use Rattle.std.specs.Prelude.{◌≡◌, ◌+◌, ◌-◌, ◌<◌, ◌≤◌, ◌^◌, ℕ, List, [], true, false, Option, None, Some, IfOk, OnOk, OnErr, IsSome, length, replicate, nat_lt, if◌then◌else◌, ◌&&◌};
+ghost use Rattle.std.specs.Prelude.{◌≡◌, ◌+◌, ◌-◌, ◌<◌, ◌≤◌, ◌&&◌, ℕ, List, [], true, false, Option, None, Some};
+ghost use Rattle.std.specs.Prelude.{IfOk, OnOk, OnErr, IsSome, length, replicate, nat_lt, if◌then◌else◌};
+ghost use Rattle.ls_value.specs.declared.limits.TheConstants.{GREATEST_NUMBER};
+ghost use Rattle.ls_event.specs.declared.limits.TheConstants.{MOST_BUFFER_SIZE};
 ghost use Rattle.ls_event.specs.History.{HasFields};
 ghost use Rattle.ls_event.specs.Slots.{Plan, fresh};
-ghost use Rattle.ls_event.specs.Cuts.{Fits, told_cells};
+ghost use Rattle.ls_event.specs.Cuts.{Fits, flagged_cells};
 ghost use Rattle.ls_event.specs.declared.event.Entry.{Entry};
-ghost use Rattle.ls_merge.specs.Merge.{StandsMerge, IsJoining, due, is_over, is_left, change_of, merge_head, merge_passed, merge_after, within_size};
+ghost use Rattle.ls_merge.specs.Merge.{StandsMerge, IsJoining, due, is_over, merge_is_pending, merge_change};
+ghost use Rattle.ls_merge.specs.Merge.{merge_head, merge_passed, merge_after, within_size};
 
 use crate::cells::{cells_at, cells_with, clear_flags, flags, merge, said_cells};
 use ls_event::{Event, Taken};
@@ -13,9 +17,9 @@ use std::alloc::Global;
 use std::collections::VecDeque;
 use std::marker::Model;
 
-/// What a slot in mode MERGE still has to tell: the item's merged state at one of its numbers, which of its fields the next
-/// line tells, and what each later event says. Once there are more of these than the size, the first one is merged into the state.
-/// It keeps the allocator that `new` took, for all that its later calls take.
+/// What a slot in mode MERGE still has to tell: the item's merged state at one of its numbers, which of its fields the
+/// next line tells, and what each later event says. Once there are more of these than the size, the first one is merged
+/// into the state. It keeps the allocator that `new` took, for all that its later calls take.
 #[derive(Drop)]
 pub struct MergeBuffer {
     alloc: Global,
@@ -28,18 +32,33 @@ pub struct MergeBuffer {
 }
 
 impl Model for MergeBuffer {
-    ghost use Rattle.ls_merge.specs.Merge.{Pending, IsSound};
+    ghost use Rattle.ls_merge.specs.Merge.{Merge, IsSoundMerge};
 
-    ghost Value = { Pending };
+    ghost Value = { Merge };
 
-    ghost view = { λ b. record { size = b.size; last = b.last; owed = b.owed; row = b.row; touched = b.touched.items; later = b.later.items } };
+    ghost view = { λ b. record {
+      size = b.size;
+      last = b.last;
+      owed = b.owed;
+      row = b.row;
+      touched = b.touched.items;
+      later = b.later.items;
+    } };
 
-    ghost invariant = { λ b. IsSound (record { size = b.size; last = b.last; owed = b.owed; row = b.row; touched = b.touched.items; later = b.later.items }) };
+    ghost invariant = { λ b. IsSoundMerge (record {
+      size = b.size;
+      last = b.last;
+      owed = b.owed;
+      row = b.row;
+      touched = b.touched.items;
+      later = b.later.items;
+    }) };
 }
 
 impl MergeBuffer {
-    /// The buffer of size `n`, from 1 to 256, of a slot that joins where the item has `base` events, which made this merged
-    /// state. Where the state is owed and there is an event, the first line tells it. Room for later events is taken as they come.
+    /// The buffer of size `n`, from 1 to [`ls_event::MOST_BUFFER_SIZE`], of a slot that joins where the item has
+    /// `base` events, which made this merged state. Where the state is owed and there is an event, the first line
+    /// tells it. Room for later events is taken as they come.
     pub fn new(
         alloc: Global,
         base: u64,
@@ -48,8 +67,15 @@ impl MergeBuffer {
         owed: bool,
     ) -> Result<MergeBuffer, NoMemory>
         requires some { 0 < n }
-        requires cap { n ≤ 256 }
-        ensures ok { IfOk result (λ b. b ≡ record { size = n; last = base; owed = owed && nat_lt 0 base; row = state; touched = replicate (length state) true; later = [] }) }
+        requires cap { n ≤ MOST_BUFFER_SIZE }
+        ensures ok { IfOk result (λ b. b ≡ record {
+          size = n;
+          last = base;
+          owed = owed && nat_lt 0 base;
+          row = state;
+          touched = replicate (length state) true;
+          later = [];
+        }) }
 
         // It stands for a fresh slot at that number, or with a snapshot at the one before.
         ensures stands { IfOk result (λ b. (p : Plan) (h : List Entry) → IsJoining n base state p h
@@ -81,14 +107,14 @@ impl MergeBuffer {
         self.last
     }
 
-    /// Whether the state or an event isn't told yet.
+    /// Whether the state or an event is in a cut to come.
     pub fn pending(&self) -> bool
-        ensures { result ≡ is_left self.now }
+        ensures { result ≡ merge_is_pending self.now }
     {
         self.owed || self.later.len() > 0
     }
 
-    /// How many updates its cuts will still tell.
+    /// How many updates wait.
     pub fn waiting(&self) -> u64
         ensures { result ≡ length self.now.later }
     {
@@ -97,7 +123,7 @@ impl MergeBuffer {
 
     /// Takes the event of the next number, which has a cell for each field. After `NoMemory` it is as before.
     pub fn enqueue(&mut self, event: &Event) -> Result<(), NoMemory>
-        requires few { self.old.last < 2 ^ 60 }
+        requires few { self.old.last < GREATEST_NUMBER }
         requires fields { HasFields (length self.old.row) event.now }
         ensures ok { OnOk result (self.new ≡ merge_after self.old event.now) }
         ensures err { OnErr result (self.new ≡ self.old) }
@@ -155,7 +181,7 @@ impl MergeBuffer {
 
     /// The cells of the next cut.
     fn next_cells(&self) -> Result<Cells, NoMemory>
-        ensures cells { IfOk result (λ cells. cells ≡ told_cells (due self.now).touched (due self.now).row) }
+        ensures cells { IfOk result (λ cells. cells ≡ flagged_cells (due self.now).touched (due self.now).row) }
         ensures fields { IfOk result (λ cells. length cells ≡ length self.now.row) }
     {
         let row = self.row.as_slice();

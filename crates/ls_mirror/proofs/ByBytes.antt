@@ -9,7 +9,8 @@ use Rattle.std.specs.Ordering.{nat_cmp, eq_by_cmp}
 use Rattle.std.specs.Cmp.{eq_by_cmp_equiv}
 use Rattle.std.specs.Cmp.Lexicographic.{slice_cmp, nat_list_cmp_total}
 use Rattle.std.specs.FinMap as finite
-use Rattle.std.specs.FinMap.{slice_cmp-IsAntisymmetric, nat_cmp-IsAntisymmetric, same_map, get-insert, get-remove, get-from_entries, entries-insert, len-entries, len-empty, put}
+use Rattle.std.specs.FinMap.{slice_cmp-IsAntisymmetric, nat_cmp-IsAntisymmetric, same_map, get-insert, get-remove, get-from_entries, entries-insert}
+use Rattle.std.specs.FinMap.{len-entries, len-empty, put}
 use Rattle.std.specs.List.Sorted.{IsStrictlySortedBy}
 use Rattle.std.specs.BTreeMap.{IsOrdered}
 use Rattle.std.specs.Map.{keys_of}
@@ -17,7 +18,8 @@ use Rattle.std.proofs.lemmas.Map.Text.{btree_map_updates_text, is_eq-slice_cmp}
 use Rattle.ls_value.specs.declared.row.Value.{Value}
 use Rattle.ls_mirror.specs.Keys.{by_bytes, rows_by_key}
 
-found : {Y : Type 0} (q : List ℕ) (es : List (String Y × List Value)) → finite.find (slice_cmp nat_cmp) q (by_bytes es) ≡ lookup (is_at (λ k. slice_cmp nat_cmp q (string_bytes k))) es
+found : {Y : Type 0} (q : List ℕ) (es : List (String Y × List Value)) → finite.find (slice_cmp nat_cmp) q (by_bytes es)
+    ≡ lookup (is_at (λ k. slice_cmp nat_cmp q (string_bytes k))) es
 found q [] = refl
 found q (e ∷ es) = ap (cond (eq_by_cmp (slice_cmp nat_cmp) q (string_bytes e.0)) (Some e.1)) (found q es)
 
@@ -43,7 +45,8 @@ after_remove m n bs h = same_map nat_list_cmp_total (slice_cmp-IsAntisymmetric n
     ∙ ap (λ o. cond (eq_by_cmp (slice_cmp nat_cmp) q bs) None o) (sym (get_rows m q))
     ∙ sym (get-remove nat_list_cmp_total (rows_by_key m) bs q))
 
-put_first : {Y : Type 0} (k : String Y) (v : List Value) (es : List (String Y × List Value)) → IsStrictlySortedBy string_cmp (k ∷ keys_of es) → put (slice_cmp nat_cmp) (string_bytes k) v (by_bytes es) ≡ (string_bytes k, v) ∷ by_bytes es
+put_first : {Y : Type 0} (k : String Y) (v : List Value) (es : List (String Y × List Value)) → IsStrictlySortedBy string_cmp (k ∷ keys_of es)
+    → put (slice_cmp nat_cmp) (string_bytes k) v (by_bytes es) ≡ (string_bytes k, v) ∷ by_bytes es
 unfolding IsStrictlySortedBy
 put_first k v [] sorted = refl
 put_first k v (e ∷ es) sorted = rw sorted.0.0 refl
@@ -52,7 +55,8 @@ none_long : {X : Type 0} (xs : List X) → length xs ≡ 0 → xs ≡ []
 none_long [] e = refl
 none_long (x ∷ xs) e = absurd (omega (arith, e))
 
-kept_entries : {Y : Type 0} (es : List (String Y × List Value)) → IsStrictlySortedBy string_cmp (keys_of es) → finite.entries (finite.from_entries {R = slice_cmp nat_cmp} (by_bytes es)) ≡ by_bytes es
+kept_entries : {Y : Type 0} (es : List (String Y × List Value)) → IsStrictlySortedBy string_cmp (keys_of es)
+    → finite.entries (finite.from_entries {R = slice_cmp nat_cmp} (by_bytes es)) ≡ by_bytes es
 unfolding IsStrictlySortedBy
 kept_entries [] sorted = none_long _ (sym (len-entries finite.empty) ∙ len-empty (slice_cmp nat_cmp) (List Value))
 kept_entries (e ∷ es) sorted =

@@ -4,9 +4,10 @@ use Rattle.std.proofs.lemmas.List.Sums.{sum_by-cons}
 use Rattle.ls_mirror.specs.declared.table.Table.{Table}
 use Rattle.ls_value.specs.declared.row.Value.{Value}
 use Rattle.ls_mirror.specs.Keys.{KeyTable}
-use Rattle.ls_mirror.specs.Client.{What, Row, Lost, Cleared, End, KeyPlaces, Heard, Coded, Missed, Emptied, Ended, Decoded, last_row}
-use Rattle.ls_mirror.specs.Tables.{counted, table_of, table_after, lost_by, updates_by, Tells, Moves}
-use Rattle.ls_mirror.specs.Standing.{Shows}
+use Rattle.ls_mirror.specs.declared.command.KeyPlaces.{KeyPlaces}
+use Rattle.ls_mirror.specs.Client.{What, Row, Lost, Cleared, End, Heard, Coded, Missed, Emptied, Ended, AreDecoded, last_row}
+use Rattle.ls_mirror.specs.Tables.{counted, table_of, table_after, lost_by, updates_by, IsDecoded, IsTableAfter}
+use Rattle.ls_mirror.specs.Standing.{StandsTable}
 
 same_table : (last : Option (List Value)) (keys : KeyTable) (a b m n : ℕ) → a ≡ b → m ≡ n
     → ◌≡◌ {A = Table} (record { last = last; keys = keys; lost = a; updates = m }) (record { last = last; keys = keys; lost = b; updates = n })
@@ -30,7 +31,8 @@ table_more places (Lost k) ws = same_table _ _ _ _ _ _ (counted_more _ k _ (lost
 table_more places Cleared ws = same_table _ _ _ _ _ _ (kept _ _ (lost_sum Cleared ws)) (kept _ _ (updates_sum Cleared ws))
 table_more places End ws = same_table _ _ _ _ _ _ (kept _ _ (lost_sum End ws)) (kept _ _ (updates_sum End ws))
 
-decoded_more : (fields : ℕ) (h : Heard) (hs : List Heard) (w : What) (ws : List What) → Tells fields (last_row ws) h w → Decoded fields hs ws → Decoded fields (h ∷ hs) (w ∷ ws)
+decoded_more : (fields : ℕ) (h : Heard) (hs : List Heard) (w : What) (ws : List What) → IsDecoded fields (last_row ws) h w → AreDecoded fields hs ws
+    → AreDecoded fields (h ∷ hs) (w ∷ ws)
 decoded_more fields (Coded coded) hs (Row row) ws t d = (t, d)
 decoded_more fields (Coded coded) hs (Lost k) ws t d = absurd t
 decoded_more fields (Coded coded) hs Cleared ws t d = absurd t
@@ -48,7 +50,8 @@ decoded_more fields Ended hs (Lost k) ws t d = absurd t
 decoded_more fields Ended hs Cleared ws t d = absurd t
 decoded_more fields Ended hs End ws t d = d
 
-pub shows_more : (fields : ℕ) (places : Option KeyPlaces) (h : Heard) (hs : List Heard) (old new : Table) → Shows fields places hs old → Moves fields places h old new → Shows fields places (h ∷ hs) new
+pub shows_more : (fields : ℕ) (places : Option KeyPlaces) (h : Heard) (hs : List Heard) (old new : Table) → StandsTable fields places hs old
+    → IsTableAfter fields places h old new → StandsTable fields places (h ∷ hs) new
 shows_more fields places h hs old new shown (w, tells, is) = record {
   whats = w ∷ shown.whats;
   decoded = decoded_more fields h hs w shown.whats (rw shown.is at tells) shown.decoded;

@@ -1,5 +1,6 @@
 -- What a client stands for, one line later.
-use Rattle.std.proofs.Common.{◌≡◌, ◌==◌, ℕ, ◌≤◌, ◌<◌, ◌^◌, true, List, ◌∷◌, Option, Some, None, Result, Ok, Err, OnOk, OnErr, sym, refl, ap, ◌∙◌, subst, ⊎_elim, unwrap_or}
+use Rattle.std.proofs.Common.{◌≡◌, ◌==◌, ℕ, ◌≤◌, ◌<◌, ◌^◌, true, List, ◌∷◌, Option, Some, None, Result, Ok, Err, OnOk, OnErr, sym, refl, ap, ◌∙◌, subst, ⊎_elim}
+use Rattle.std.proofs.Common.{unwrap_or}
 use Rattle.std.specs.Option.{option_map}
 use Rattle.std.specs.BTreeMap.{BTreeMap}
 use Rattle.std.proofs.lemmas.Bool.{and_parts, leb-true, le-leb}
@@ -7,10 +8,10 @@ use Rattle.std.proofs.lemmas.Bool.Decides.{eqb_tells}
 use Rattle.ls_line.specs.declared.line.Line.{Line}
 use Rattle.ls_mirror.specs.declared.client.Client.{Client}
 use Rattle.ls_mirror.specs.declared.subscription.Subscription.{Subscription}
-use Rattle.ls_mirror.specs.Client.{Heard, begun, begun_after, heard, heard_of, last_row, Decoded}
+use Rattle.ls_mirror.specs.Client.{Heard, begun, begun_after, heard, heard_of, last_row, AreDecoded}
 use Rattle.ls_mirror.specs.Refusing.{IsBad}
-use Rattle.ls_mirror.specs.Tables.{places_of}
-use Rattle.ls_mirror.specs.Standing.{StandsClient, Shows, IsTableOf, IsSame, AreSame, MapHears, IsBadAt, IsBadHeard, Adds, has_item, begun_of, table_at, subscription_at}
+use Rattle.ls_mirror.specs.Standing.{StandsClient, StandsTable, IsTableOf, IsSame, AreSame, AreSubscriptionsAfter, IsBadAt, IsBadHeard, IsHeardOf, has_item}
+use Rattle.ls_mirror.specs.Standing.{begun_of, table_at, subscription_at}
 use Rattle.ls_mirror.proofs.Counting.{shows_more}
 use Rattle.ls_mirror.proofs.Determined.{one_decoded}
 
@@ -24,14 +25,15 @@ not_none x e = cc
 abbrev pub with : Client → BTreeMap ℕ Subscription → Client
 with c subscriptions = record { alloc = c.alloc; subscriptions = subscriptions; blank = c.blank }
 
-pub begun_at : (c : Client) (lines : List Line) (sub : ℕ) (s : Subscription) → StandsClient c lines → subscription_at c.subscriptions sub ≡ Some s → begun sub lines ≡ Some (begun_of s)
+pub begun_at : (c : Client) (lines : List Line) (sub : ℕ) (s : Subscription) → StandsClient c lines → subscription_at c.subscriptions sub ≡ Some s
+    → begun sub lines ≡ Some (begun_of s)
 begun_at c lines sub s st e = sym (st.live sub) ∙ ap (option_map begun_of) e
 
 begun_kept : (s t : Subscription) → t.items ≡ s.items → t.fields ≡ s.fields → t.places ≡ s.places → begun_of t ≡ begun_of s
-begun_kept s t a b p i = record { items = a i; fields = b i; keyed = places_of (p i) }
+begun_kept s t a b p i = record { items = a i; fields = b i; keyed = p i }
 
 module _ (c : Client) (subs : BTreeMap ℕ Subscription) (l : Line) (lines : List Line) (sub item : ℕ) (h : Heard)
-    (adds : Adds l sub item h) (m : MapHears sub item h c.subscriptions subs) (st : StandsClient c lines) where
+    (adds : IsHeardOf l sub item h) (m : AreSubscriptionsAfter sub item h c.subscriptions subs) (st : StandsClient c lines) where
   live_here : option_map begun_of (subscription_at subs sub) ≡ begun_after sub l (begun sub lines)
   live_here = ap (option_map begun_of) m.is ∙ ap (λ b. Some b) (begun_kept m.before m.after m.hears.items m.hears.fields m.hears.places)
       ∙ sym (begun_at c lines sub m.before st m.was) ∙ sym (adds.begins sub (begun sub lines))
@@ -51,14 +53,15 @@ module _ (c : Client) (subs : BTreeMap ℕ Subscription) (l : Line) (lines : Lis
       (λ no. st.small q s (sym (m.others q no.0) ∙ e))
       (eqb_tells q sub)
 
-  come_here : (i : ℕ) → Shows m.before.fields (places_of m.before.places) (heard_of (i == item) h (heard sub i lines)) (table_at m.after.tables i)
+  come_here : (i : ℕ) → StandsTable m.before.fields m.before.places (heard_of (i == item) h (heard sub i lines)) (table_at m.after.tables i)
   come_here i = ⊎_elim
-      (λ yes. rw yes.0 (subst (λ x. Shows m.before.fields (places_of m.before.places) (h ∷ heard sub x lines) (table_at m.after.tables x)) (sym yes.1)
+      (λ yes. rw yes.0 (subst (λ x. StandsTable m.before.fields m.before.places (h ∷ heard sub x lines) (table_at m.after.tables x)) (sym yes.1)
       (shows_more _ _ h _ _ _ (st.come sub item m.before m.was) m.hears.moves)))
       (λ no. rw (no.0, m.hears.others i no.0) (st.come sub i m.before m.was))
       (eqb_tells i item)
 
-  come_after : (q i : ℕ) (s : Subscription) → subscription_at subs q ≡ Some s → Shows s.fields (places_of s.places) (heard q i (l ∷ lines)) (table_at s.tables i)
+  come_after : (q i : ℕ) (s : Subscription) → subscription_at subs q ≡ Some s → StandsTable s.fields s.places (heard q i (l ∷ lines))
+      (table_at s.tables i)
   come_after q i s e = rw (adds.hears q i (heard q i lines)) (⊎_elim
       (λ yes. rw (yes.0, yes.1, at_here q s yes.1 e, m.hears.fields, m.hears.places) (come_here i))
       (λ no. rw no.0 (st.come q i s (sym (m.others q no.0) ∙ e)))
@@ -80,10 +83,12 @@ same_before None (Some u) t h e = absurd h
 same_before (Some s) None t h e = absurd h
 same_before (Some s) (Some u) t h e = (s, refl, subst (λ x. IsSame s x) (some_one u t e) h)
 
-same_shown : (s t : Subscription) (hs : List Heard) (i : ℕ) → IsSame s t → Shows s.fields (places_of s.places) hs (table_at s.tables i) → Shows t.fields (places_of t.places) hs (table_at t.tables i)
+same_shown : (s t : Subscription) (hs : List Heard) (i : ℕ) → IsSame s t → StandsTable s.fields s.places hs (table_at s.tables i)
+    → StandsTable t.fields t.places hs (table_at t.tables i)
 same_shown s t hs i same shown = rw (same.fields, same.places, same.tables i) shown
 
-pub stands_same : (c : Client) (subs : BTreeMap ℕ Subscription) (lines : List Line) → ((q : ℕ) → AreSame (subscription_at c.subscriptions q) (subscription_at subs q)) → StandsClient c lines → StandsClient (with c subs) lines
+pub stands_same : (c : Client) (subs : BTreeMap ℕ Subscription) (lines : List Line)
+    → ((q : ℕ) → AreSame (subscription_at c.subscriptions q) (subscription_at subs q)) → StandsClient c lines → StandsClient (with c subs) lines
 stands_same c subs lines same st = record {
   blank = st.blank;
   live = λ q. same_begun _ _ (same q) ∙ st.live q;
@@ -92,7 +97,8 @@ stands_same c subs lines same st = record {
 }
 
 -- the table of an item
-pub table_stands : (c : Client) (lines : List Line) (sub item : ℕ) (s : Subscription) → subscription_at c.subscriptions sub ≡ Some s → 1 ≤ item → item ≤ s.items → StandsClient c lines → IsTableOf sub item lines (table_at s.tables item)
+pub table_stands : (c : Client) (lines : List Line) (sub item : ℕ) (s : Subscription) → subscription_at c.subscriptions sub ≡ Some s → 1 ≤ item → item ≤ s.items
+    → StandsClient c lines → IsTableOf sub item lines (table_at s.tables item)
 table_stands c lines sub item s e low high st =
     let shown = st.come sub item s e in
     record {
@@ -104,7 +110,8 @@ table_stands c lines sub item s e low high st =
 item_within : (s : Subscription) (item : ℕ) → has_item (Some (begun_of s)) item ≡ true → (1 ≤ item) × (item ≤ s.items)
 item_within s item e = let parts = and_parts _ _ e in (leb-true 1 item parts.0, leb-true item s.items parts.1)
 
-bad_stands_at : (c : Client) (lines : List Line) (sub item : ℕ) (h : Heard) (o : Option Subscription) → subscription_at c.subscriptions sub ≡ o → StandsClient c lines → IsBadAt o item h → IsBadHeard sub item lines h
+bad_stands_at : (c : Client) (lines : List Line) (sub item : ℕ) (h : Heard) (o : Option Subscription) → subscription_at c.subscriptions sub ≡ o
+    → StandsClient c lines → IsBadAt o item h → IsBadHeard sub item lines h
 bad_stands_at c lines sub item h None e st bad = absurd bad
 bad_stands_at c lines sub item h (Some s) e st bad =
     let within = item_within s item bad.0 in
@@ -115,28 +122,32 @@ bad_stands_at c lines sub item h (Some s) e st bad =
       rw shown.is at bad.1,
     )
 
-pub bad_stands : (c : Client) (lines : List Line) (sub item : ℕ) (h : Heard) → StandsClient c lines → IsBadAt (subscription_at c.subscriptions sub) item h → IsBadHeard sub item lines h
+pub bad_stands : (c : Client) (lines : List Line) (sub item : ℕ) (h : Heard) → StandsClient c lines → IsBadAt (subscription_at c.subscriptions sub) item h
+    → IsBadHeard sub item lines h
 bad_stands c lines sub item h st bad = bad_stands_at c lines sub item h _ refl st bad
 
-bad_known_at : (c : Client) (lines : List Line) (sub item : ℕ) (h : Heard) (o : Option Subscription) → subscription_at c.subscriptions sub ≡ o → StandsClient c lines → IsBadHeard sub item lines h → IsBadAt o item h
-bad_known_at c lines sub item h None e st (ws, come, bad) = absurd (not_none come.subscription (sym come.is_live ∙ sym (st.live sub) ∙ ap (option_map begun_of) e))
+bad_known_at : (c : Client) (lines : List Line) (sub item : ℕ) (h : Heard) (o : Option Subscription) → subscription_at c.subscriptions sub ≡ o
+    → StandsClient c lines → IsBadHeard sub item lines h → IsBadAt o item h
+bad_known_at c lines sub item h None e st (ws, come, bad) =
+    absurd (not_none come.subscription (sym come.is_live ∙ sym (st.live sub) ∙ ap (option_map begun_of) e))
 bad_known_at c lines sub item h (Some s) e st (ws, come, bad) =
     let same : come.subscription ≡ begun_of s = some_one _ _ (sym come.is_live ∙ begun_at c lines sub s st e) in
     let shown = st.come sub item s e in
-    let decoded : Decoded s.fields (heard sub item lines) ws = subst (λ b. Decoded b.fields (heard sub item lines) ws) same come.decoded in
+    let decoded : AreDecoded s.fields (heard sub item lines) ws = subst (λ b. AreDecoded b.fields (heard sub item lines) ws) same come.decoded in
     let one : shown.whats ≡ ws = one_decoded s.fields (heard sub item lines) shown.whats ws (st.small sub s e) shown.decoded decoded in
     let high : item ≤ s.items = subst (λ b. item ≤ b.items) same come.last in (
       rw (le-leb 1 item come.first, le-leb item s.items high) refl,
       rw (shown.is, one) (subst (λ b. IsBad b.fields b.keyed (last_row ws) h) same bad),
     )
 
-pub bad_known : (c : Client) (lines : List Line) (sub item : ℕ) (h : Heard) → StandsClient c lines → IsBadHeard sub item lines h → IsBadAt (subscription_at c.subscriptions sub) item h
+pub bad_known : (c : Client) (lines : List Line) (sub item : ℕ) (h : Heard) → StandsClient c lines → IsBadHeard sub item lines h
+    → IsBadAt (subscription_at c.subscriptions sub) item h
 bad_known c lines sub item h st bad = bad_known_at c lines sub item h _ refl st bad
 
 -- the two answers of a hearing
 pub heard_ok : {X E : Type 0} (answer : Result X E) (c : Client) (subs : BTreeMap ℕ Subscription) (sub item : ℕ) (h : Heard)
-    → OnOk answer (MapHears sub item h c.subscriptions subs)
-    → OnOk answer ((l : Line) (lines : List Line) → Adds l sub item h → StandsClient c lines → StandsClient (with c subs) (l ∷ lines))
+    → OnOk answer (AreSubscriptionsAfter sub item h c.subscriptions subs)
+    → OnOk answer ((l : Line) (lines : List Line) → IsHeardOf l sub item h → StandsClient c lines → StandsClient (with c subs) (l ∷ lines))
 heard_ok (Ok x) c subs sub item h m = λ l lines adds st. stands_heard c subs l lines sub item h adds m st
 heard_ok (Err e) c subs sub item h m = tt
 

@@ -4,13 +4,13 @@ use Rattle.std.specs.BTreeMap.{BTreeMap}
 use Rattle.ls_mirror.specs.declared.subscription.Subscription.{Subscription}
 use Rattle.ls_mirror.specs.declared.table.Table.{Table}
 use Rattle.ls_mirror.specs.Client.{Heard}
-use Rattle.ls_mirror.specs.Tables.{places_of, Moves}
-use Rattle.ls_mirror.specs.Standing.{Hears, table_at}
+use Rattle.ls_mirror.specs.Tables.{IsTableAfter}
+use Rattle.ls_mirror.specs.Standing.{IsSubscriptionAfter, table_at}
 
 pub hears : {X E : Type 0} (answer : Result X E) (item : ℕ) (h : Heard) (s : Subscription) (tables : BTreeMap ℕ Table) (old new : Table)
     → table_at s.tables item ≡ old → table_at tables item ≡ new → ((q : ℕ) → (q == item) ≡ false → table_at tables q ≡ table_at s.tables q)
-    → OnOk answer (Moves s.fields (places_of s.places) h old new)
-    → OnOk answer (Hears item h s (record { items = s.items; fields = s.fields; places = s.places; tables = tables }))
+    → OnOk answer (IsTableAfter s.fields s.places h old new)
+    → OnOk answer (IsSubscriptionAfter item h s (record { items = s.items; fields = s.fields; places = s.places; tables = tables }))
 hears (Ok x) item h s tables old new is then others m = record {
   items = refl;
   fields = refl;

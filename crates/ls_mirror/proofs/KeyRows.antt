@@ -21,7 +21,8 @@ bytes_text (x ∷ xs) (y ∷ ys) = ap (λ v. (x == y) && v) (bytes_text xs ys)
 same_key : (k a : List ℕ) → eq_by_cmp (slice_cmp nat_cmp) k a ≡ text_eq a k
 same_key k a = (eq_by_cmp_equiv nat_list_cmp_total).symm k a ∙ is_eq-slice_cmp a k ∙ bytes_text a k
 
-pub get_inserted : (table : KeyTable) (a : List ℕ) (row : List Value) (k : List ℕ) → finite.get (finite.insert table a row) k ≡ cond (text_eq a k) (Some row) (finite.get table k)
+pub get_inserted : (table : KeyTable) (a : List ℕ) (row : List Value) (k : List ℕ)
+    → finite.get (finite.insert table a row) k ≡ cond (text_eq a k) (Some row) (finite.get table k)
 get_inserted table a row k = get-insert nat_list_cmp_total table a row k ∙ ap (λ v. cond v (Some row) (finite.get table k)) (same_key k a)
 
 pub get_removed : (table : KeyTable) (a k : List ℕ) → finite.get (finite.remove table a) k ≡ cond (text_eq a k) None (finite.get table k)

@@ -1,14 +1,10 @@
 -- What a client knows by the lines that it was given, the newest of which stands first (TLCP 2.1, notifications).
-use Rattle.std.specs.Prelude.{◌≡◌, ◌==◌, ◌≤◌, ℕ, List, [], ◌∷◌, Bool, ◌&&◌, Option, None, Some, if◌then◌else◌}
+use Rattle.std.specs.Prelude.{◌≡◌, ◌==◌, ◌≤◌, ◌-◌, ℕ, List, [], ◌∷◌, Bool, ◌&&◌, Option, None, Some, if◌then◌else◌}
 use Rattle.ls_value.specs.declared.row.Value.{Value}
 use Rattle.ls_line.specs.declared.line.Line.{Line}
 use Rattle.ls_line.specs.declared.line.Line.TheVariants as line
 use Rattle.ls_update.specs.Reading.{Reads, row_before, tokens_of}
-
--- the places of the key and the command in a schema, from 1
-pub record KeyPlaces : Type 0 where
-  pub key : ℕ
-  pub command : ℕ
+use Rattle.ls_mirror.specs.declared.command.KeyPlaces.{KeyPlaces}
 
 -- a subscription that has begun: how many items and fields it has, and in mode COMMAND where its key and command are
 pub record Begun : Type 0 where
@@ -16,11 +12,18 @@ pub record Begun : Type 0 where
   pub fields : ℕ
   pub keyed : Option KeyPlaces
 
+-- the places of the key and the command by what a SUBCMD tells, where they count from 1
+abbrev pub places_of_subcmd : ℕ → ℕ → KeyPlaces
+places_of_subcmd key command = record { key = key - 1; command = command - 1 }
+
 -- the subscription of a number, if there is one, after one line more
 abbrev pub begun_after : ℕ → Line → Option Begun → Option Begun
-begun_after sub (line.SubOk s items fields) before = if s == sub then Some (record { items = items; fields = fields; keyed = None }) else before
+begun_after sub (line.SubOk s items fields) before =
+    if s == sub then Some (record { items = items; fields = fields; keyed = None }) else before
 begun_after sub (line.SubCmd s items fields key command) before =
-    if s == sub then Some (record { items = items; fields = fields; keyed = Some (record { key = key; command = command }) }) else before
+    if s == sub
+    then Some (record { items = items; fields = fields; keyed = Some (places_of_subcmd key command) })
+    else before
 begun_after sub (line.Unsub s) before = if s == sub then None else before
 begun_after sub l before = before
 
@@ -36,6 +39,7 @@ pub data Heard : Type 0 where
   Emptied : Heard
   Ended : Heard
 
+-- what was heard of an item, with one thing more where it is of this item
 abbrev pub heard_of : Bool → Heard → List Heard → List Heard
 heard_of here one before = if here then one ∷ before else before
 
@@ -62,6 +66,7 @@ pub data What : Type 0 where
   Cleared : What
   End : What
 
+-- the row that came, or another one where none did
 abbrev pub row_or : What → Option (List Value) → Option (List Value)
 row_or (Row r) other = Some r
 row_or (Lost k) other = other
@@ -74,13 +79,14 @@ last_row [] = None
 last_row (w ∷ whats) = row_or w (last_row whats)
 
 -- what came is what was heard, decoded: each row of so many fields is read against the row that came before it
-abbrev pub Decoded : ℕ → List Heard → List What → Type 0
-Decoded fields [] [] = Unit {0}
-Decoded fields (Coded coded ∷ hs) (Row row ∷ ws) = Reads (row_before fields (last_row ws)) (tokens_of coded) row × Decoded fields hs ws
-Decoded fields (Missed lost ∷ hs) (Lost k ∷ ws) = (k ≡ lost) × Decoded fields hs ws
-Decoded fields (Emptied ∷ hs) (Cleared ∷ ws) = Decoded fields hs ws
-Decoded fields (Ended ∷ hs) (End ∷ ws) = Decoded fields hs ws
-Decoded fields hs ws = ⊥
+abbrev pub AreDecoded : ℕ → List Heard → List What → Type 0
+AreDecoded fields [] [] = Unit {0}
+AreDecoded fields (Coded coded ∷ hs) (Row row ∷ ws) = Reads (row_before fields (last_row ws)) (tokens_of coded) row
+    × AreDecoded fields hs ws
+AreDecoded fields (Missed lost ∷ hs) (Lost k ∷ ws) = (k ≡ lost) × AreDecoded fields hs ws
+AreDecoded fields (Emptied ∷ hs) (Cleared ∷ ws) = AreDecoded fields hs ws
+AreDecoded fields (Ended ∷ hs) (End ∷ ws) = AreDecoded fields hs ws
+AreDecoded fields hs ws = ⊥
 
 -- what came of an item of a live subscription by these lines
 pub record HasCome (sub item : ℕ) (lines : List Line) (ws : List What) : Type 0 where
@@ -88,4 +94,4 @@ pub record HasCome (sub item : ℕ) (lines : List Line) (ws : List What) : Type 
   pub is_live : begun sub lines ≡ Some subscription
   pub first : 1 ≤ item
   pub last : item ≤ subscription.items
-  pub decoded : Decoded subscription.fields (heard sub item lines) ws
+  pub decoded : AreDecoded subscription.fields (heard sub item lines) ws

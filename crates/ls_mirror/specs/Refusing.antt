@@ -6,7 +6,8 @@ use Rattle.ls_update.specs.declared.reading.ReadRefused.TheVariants as read
 use Rattle.ls_update.specs.Reading.{Reads, FirstFault, row_before, tokens_of}
 use Rattle.ls_mirror.specs.declared.refused.MirrorRefused.{MirrorRefused}
 use Rattle.ls_mirror.specs.declared.refused.MirrorRefused.TheVariants as refused
-use Rattle.ls_mirror.specs.Client.{Heard, Coded, Missed, Emptied, Ended, KeyPlaces}
+use Rattle.ls_mirror.specs.declared.command.KeyPlaces.{KeyPlaces}
+use Rattle.ls_mirror.specs.Client.{Heard, Coded, Missed, Emptied, Ended}
 use Rattle.ls_mirror.specs.Commands.{has_command}
 
 -- the refusal where coded fields were refused
@@ -27,7 +28,8 @@ LacksCommand places prev tokens = (row : List Value) × Reads prev tokens row ×
 
 -- what is heard can't be taken after the last row
 abbrev pub IsBad : ℕ → Option KeyPlaces → Option (List Value) → Heard → Type 0
-IsBad fields places last (Coded coded) = IsFaulty (row_before fields last) (tokens_of coded) ⊎ LacksCommand places (row_before fields last) (tokens_of coded)
+IsBad fields places last (Coded coded) = IsFaulty (row_before fields last) (tokens_of coded)
+    ⊎ LacksCommand places (row_before fields last) (tokens_of coded)
 IsBad fields places last (Missed lost) = ⊥
 IsBad fields places last Emptied = ⊥
 IsBad fields places last Ended = ⊥

@@ -4,10 +4,11 @@ use Rattle.std.specs.FinMap as finite
 use Rattle.ls_value.specs.declared.row.Value.{Value}
 use Rattle.ls_update.specs.Reading.{Reads, row_before, tokens_of}
 use Rattle.ls_mirror.specs.declared.table.Table.{Table}
-use Rattle.ls_mirror.specs.declared.table.KeyFields.{KeyFields}
-use Rattle.ls_mirror.specs.declared.table.Told.{Told}
-use Rattle.ls_mirror.specs.declared.table.Told.TheVariants as told
-use Rattle.ls_mirror.specs.Client.{Heard, Coded, Missed, Emptied, Ended, What, Row, Lost, Cleared, End, KeyPlaces, last_row}
+use Rattle.ls_mirror.specs.declared.table.Heard.{Heard as LentHeard}
+use Rattle.ls_mirror.specs.declared.table.Heard.TheVariants as lent
+use Rattle.ls_mirror.specs.declared.command.KeyPlaces.{KeyPlaces}
+use Rattle.ls_mirror.specs.Client.{Heard, Coded, Missed, Emptied, Ended, What, Row, Lost, Cleared, End}
+use Rattle.ls_mirror.specs.Client.{last_row}
 use Rattle.ls_mirror.specs.Commands.{keys_after, key_table}
 
 -- how many updates were lost by a line
@@ -38,12 +39,27 @@ update_count whats = counted (sum_by updates_by whats)
 
 -- the table of what came
 abbrev pub table_of : Option KeyPlaces → List What → Table
-table_of places whats = record { last = last_row whats; keys = key_table places whats; lost = lost_count whats; updates = update_count whats }
+table_of places whats = record {
+  last = last_row whats;
+  keys = key_table places whats;
+  lost = lost_count whats;
+  updates = update_count whats;
+}
 
 -- a table after one line more
 abbrev pub table_after : What → Option KeyPlaces → Table → Table
-table_after (Row row) places t = record { last = Some row; keys = keys_after (Row row) places t.keys; lost = t.lost; updates = counted (t.updates + 1) }
-table_after (Lost k) places t = record { last = t.last; keys = t.keys; lost = counted (t.lost + k); updates = t.updates }
+table_after (Row row) places t = record {
+  last = Some row;
+  keys = keys_after (Row row) places t.keys;
+  lost = t.lost;
+  updates = counted (t.updates + 1);
+}
+table_after (Lost k) places t = record {
+  last = t.last;
+  keys = t.keys;
+  lost = counted (t.lost + k);
+  updates = t.updates;
+}
 table_after Cleared places t = record { last = t.last; keys = finite.empty; lost = t.lost; updates = t.updates }
 table_after End places t = t
 
@@ -51,37 +67,32 @@ table_after End places t = t
 abbrev pub blank_table : Table
 blank_table = record { last = None; keys = finite.empty; lost = 0; updates = 0 }
 
--- the places of the key and the command, if there are any
-abbrev pub places_of : Option KeyFields → Option KeyPlaces
-places_of None = None
-places_of (Some p) = Some (record { key = p.key; command = p.command })
-
--- what is heard by what a line says
-abbrev pub said : Told → Heard
-said (told.Coded coded) = Coded coded.now
-said (told.Missed lost) = Missed lost
-said told.Emptied = Emptied
-said told.Ended = Ended
+-- what is heard, with the bytes that the program lends
+abbrev pub heard_value : LentHeard → Heard
+heard_value (lent.Coded coded) = Coded coded.now
+heard_value (lent.Missed lost) = Missed lost
+heard_value lent.Emptied = Emptied
+heard_value lent.Ended = Ended
 
 -- what is heard, decoded after the last row
-abbrev pub Tells : ℕ → Option (List Value) → Heard → What → Type 0
-Tells fields last (Coded coded) (Row row) = Reads (row_before fields last) (tokens_of coded) row
-Tells fields last (Coded coded) (Lost k) = ⊥
-Tells fields last (Coded coded) Cleared = ⊥
-Tells fields last (Coded coded) End = ⊥
-Tells fields last (Missed lost) (Row row) = ⊥
-Tells fields last (Missed lost) (Lost k) = k ≡ lost
-Tells fields last (Missed lost) Cleared = ⊥
-Tells fields last (Missed lost) End = ⊥
-Tells fields last Emptied (Row row) = ⊥
-Tells fields last Emptied (Lost k) = ⊥
-Tells fields last Emptied Cleared = Unit {0}
-Tells fields last Emptied End = ⊥
-Tells fields last Ended (Row row) = ⊥
-Tells fields last Ended (Lost k) = ⊥
-Tells fields last Ended Cleared = ⊥
-Tells fields last Ended End = Unit {0}
+abbrev pub IsDecoded : ℕ → Option (List Value) → Heard → What → Type 0
+IsDecoded fields last (Coded coded) (Row row) = Reads (row_before fields last) (tokens_of coded) row
+IsDecoded fields last (Coded coded) (Lost k) = ⊥
+IsDecoded fields last (Coded coded) Cleared = ⊥
+IsDecoded fields last (Coded coded) End = ⊥
+IsDecoded fields last (Missed lost) (Row row) = ⊥
+IsDecoded fields last (Missed lost) (Lost k) = k ≡ lost
+IsDecoded fields last (Missed lost) Cleared = ⊥
+IsDecoded fields last (Missed lost) End = ⊥
+IsDecoded fields last Emptied (Row row) = ⊥
+IsDecoded fields last Emptied (Lost k) = ⊥
+IsDecoded fields last Emptied Cleared = Unit {0}
+IsDecoded fields last Emptied End = ⊥
+IsDecoded fields last Ended (Row row) = ⊥
+IsDecoded fields last Ended (Lost k) = ⊥
+IsDecoded fields last Ended Cleared = ⊥
+IsDecoded fields last Ended End = Unit {0}
 
 -- what is heard takes a table to the next
-abbrev pub Moves : ℕ → Option KeyPlaces → Heard → Table → Table → Type 0
-Moves fields places h old new = (w : What) × Tells fields old.last h w × (new ≡ table_after w places old)
+abbrev pub IsTableAfter : ℕ → Option KeyPlaces → Heard → Table → Table → Type 0
+IsTableAfter fields places h old new = (w : What) × IsDecoded fields old.last h w × (new ≡ table_after w places old)

@@ -1,14 +1,17 @@
 //! The client.
-ghost use Rattle.std.specs.Prelude.{◌≡◌, List, [], ◌∷◌, Option, None, Some, IfOk, OnOk, OnErr, IfErr, IfSome, IsErrOf, is_some};
+ghost use Rattle.std.specs.Prelude.{◌≡◌, List, [], ◌∷◌, Option, None, Some, IfOk, OnOk, OnErr, IfErr, IfSome};
+ghost use Rattle.std.specs.Prelude.{IsErrOf, is_some};
 ghost use Rattle.ls_line.specs.declared.line.Line.{Line as AnyLine};
 ghost use Rattle.ls_mirror.specs.Client.{begun, Begun};
 ghost use Rattle.ls_mirror.specs.Refusing.{AnswersBad};
-ghost use Rattle.ls_mirror.specs.Tables.{places_of, said};
-ghost use Rattle.ls_mirror.specs.Standing.{StandsClient, IsTableOf, has_item, unless_known, unknown_of, AnswersUnknown, IsBadHeard, IsBadLine, Turns, Adds};
+ghost use Rattle.ls_mirror.specs.Tables.{heard_value};
+ghost use Rattle.ls_mirror.specs.Standing.{StandsClient, IsTableOf, has_item, unless_known, unknown_of};
+ghost use Rattle.ls_mirror.specs.Standing.{AnswersUnknown, IsBadHeard, IsBadLine, BeginsOrEnds, IsHeardOf};
 
+use crate::command::{KeyPlaces, places_of_subcmd};
 use crate::refused::MirrorRefused;
 use crate::subscription::{Subscription, hear_at};
-use crate::table::{KeyFields, Table, Told};
+use crate::table::{Heard, Table};
 use ls_line::Line;
 use ls_value::NoMemory;
 use std::alloc::Global;
@@ -34,10 +37,13 @@ impl Client {
         })
     }
 
-    /// The table of an item of a live subscription: `None` exactly where no live subscription has it. No memory is taken.
+    /// The table of an item of a live subscription: `None` exactly where no live subscription has it. No memory is
+    /// taken.
     pub fn table(&self, sub: u32, item: u32) -> Option<&Table>
-        ensures table { IfSome result (λ t. (lines : List AnyLine) → StandsClient self.now lines → IsTableOf sub item lines t.now) }
-        ensures some { (lines : List AnyLine) → StandsClient self.now lines → is_some result ≡ has_item (begun sub lines) item }
+        ensures table { IfSome result (λ t. (lines : List AnyLine) → StandsClient self.now lines
+            → IsTableOf sub item lines t.now) }
+        ensures some { (lines : List AnyLine) → StandsClient self.now lines
+            → is_some result ≡ has_item (begun sub lines) item }
     {
         let Some(subscription) = self.subscriptions.get(&sub) else {
             return None;
@@ -53,16 +59,23 @@ impl Client {
 
     /// Takes a line. After a refusal the client is as before.
     ///
-    /// SUBOK and SUBCMD begin a subscription, anew where its number is live, and UNSUB ends it. U, OV, CS and EOS add to the table of their item.
-    /// CONF, and lines that are no data lines or answer a message, add nothing.
-    /// `Unknown` comes exactly where an UNSUB or CONF names no live subscription, or an EOS, CS, OV or U no live one that has the item;
-    /// `BadFields` where the coded fields of a U line say no row after the item's last row, or in mode COMMAND the row has no key or no command word.
+    /// SUBOK and SUBCMD begin a subscription, anew where its number is live, and UNSUB ends it. U, OV, CS and EOS add
+    /// to the table of their item. CONF, and lines that are no data lines or answer a message, add nothing.
+    ///
+    /// `Unknown` comes exactly where an UNSUB or CONF names no live subscription, or an EOS, CS, OV or U no live one
+    /// that has the item; `BadFields` where the coded fields of a U line say no row after the item's last row, or in
+    /// mode COMMAND the row has no key or no command word.
     pub fn feed(&mut self, line: &Line) -> Result<(), MirrorRefused>
-        ensures ok { OnOk result ((lines : List AnyLine) → StandsClient self.old lines → StandsClient self.new (line.now ∷ lines)) }
-        ensures err { OnErr result ((lines : List AnyLine) → StandsClient self.old lines → StandsClient self.new lines) }
-        ensures unknown { (lines : List AnyLine) → StandsClient self.old lines → AnswersUnknown (unknown_of lines line.now) result }
-        ensures bad { (lines : List AnyLine) → StandsClient self.old lines → IsErrOf result MirrorRefused.BadFields → IsBadLine lines line.now }
-        ensures only_bad { (lines : List AnyLine) → StandsClient self.old lines → IsBadLine lines line.now → AnswersBad result }
+        ensures ok { OnOk result ((lines : List AnyLine) → StandsClient self.old lines
+            → StandsClient self.new (line.now ∷ lines)) }
+        ensures err { OnErr result ((lines : List AnyLine) → StandsClient self.old lines
+            → StandsClient self.new lines) }
+        ensures unknown { (lines : List AnyLine) → StandsClient self.old lines
+            → AnswersUnknown (unknown_of lines line.now) result }
+        ensures bad { (lines : List AnyLine) → StandsClient self.old lines → IsErrOf result MirrorRefused.BadFields
+            → IsBadLine lines line.now }
+        ensures only_bad { (lines : List AnyLine) → StandsClient self.old lines → IsBadLine lines line.now
+            → AnswersBad result }
     {
         match line {
             Line::SubOk { sub, items, fields } => self.begin(*sub, *items, *fields, None),
@@ -73,19 +86,16 @@ impl Client {
                 key,
                 command,
             } => {
-                let places = KeyFields {
-                    key: *key,
-                    command: *command,
-                };
+                let places = places_of_subcmd(*key, *command);
                 self.begin(*sub, *items, *fields, Some(places))
             }
             Line::Unsub { sub } => self.end(*sub),
             Line::Conf { sub, .. } => self.find(*sub),
-            Line::Eos { sub, item } => self.hear(*sub, *item, Told::Ended),
-            Line::Cs { sub, item } => self.hear(*sub, *item, Told::Emptied),
-            Line::Ov { sub, item, lost } => self.hear(*sub, *item, Told::Missed(*lost)),
+            Line::Eos { sub, item } => self.hear(*sub, *item, Heard::Ended),
+            Line::Cs { sub, item } => self.hear(*sub, *item, Heard::Emptied),
+            Line::Ov { sub, item, lost } => self.hear(*sub, *item, Heard::Missed(*lost)),
             Line::U { sub, item, fields } => {
-                self.hear(*sub, *item, Told::Coded(fields.as_slice()))
+                self.hear(*sub, *item, Heard::Coded(fields.as_slice()))
             }
             _ => Ok(()),
         }
@@ -97,10 +107,13 @@ impl Client {
         sub: u32,
         items: u32,
         fields: u32,
-        places: Option<KeyFields>,
+        places: Option<KeyPlaces>,
     ) -> Result<(), MirrorRefused>
-        ensures ok { OnOk result ((l : AnyLine) (lines : List AnyLine) → Turns l sub (Some (record { items = items; fields = fields; keyed = places_of places })) → StandsClient self.old lines → StandsClient self.new (l ∷ lines)) }
-        ensures err { OnErr result ((lines : List AnyLine) → StandsClient self.old lines → StandsClient self.new lines) }
+        ensures ok { OnOk result ((l : AnyLine) (lines : List AnyLine)
+            → BeginsOrEnds l sub (Some (record { items = items; fields = fields; keyed = places }))
+            → StandsClient self.old lines → StandsClient self.new (l ∷ lines)) }
+        ensures err { OnErr result ((lines : List AnyLine) → StandsClient self.old lines
+            → StandsClient self.new lines) }
         ensures refused { IfErr result (λ e. e ≡ MirrorRefused.NoMemory) }
     {
         let tables = BTreeMap::new(self.alloc);
@@ -116,9 +129,12 @@ impl Client {
 
     /// A subscription ends.
     fn end(&mut self, sub: u32) -> Result<(), MirrorRefused>
-        ensures ok { OnOk result ((l : AnyLine) (lines : List AnyLine) → Turns l sub None → StandsClient self.old lines → StandsClient self.new (l ∷ lines)) }
-        ensures err { OnErr result ((lines : List AnyLine) → StandsClient self.old lines → StandsClient self.new lines) }
-        ensures unknown { (lines : List AnyLine) → StandsClient self.old lines → AnswersUnknown (unless_known (is_some (begun sub lines)) sub 0) result }
+        ensures ok { OnOk result ((l : AnyLine) (lines : List AnyLine) → BeginsOrEnds l sub None
+            → StandsClient self.old lines → StandsClient self.new (l ∷ lines)) }
+        ensures err { OnErr result ((lines : List AnyLine) → StandsClient self.old lines
+            → StandsClient self.new lines) }
+        ensures unknown { (lines : List AnyLine) → StandsClient self.old lines
+            → AnswersUnknown (unless_known (is_some (begun sub lines)) sub 0) result }
         ensures refused { IfErr result (λ e. e ≡ MirrorRefused.Unknown sub 0) }
     {
         if self.subscriptions.remove(&sub).is_none() {
@@ -129,7 +145,8 @@ impl Client {
 
     /// Whether a subscription is live.
     fn find(&self, sub: u32) -> Result<(), MirrorRefused>
-        ensures unknown { (lines : List AnyLine) → StandsClient self.now lines → AnswersUnknown (unless_known (is_some (begun sub lines)) sub 0) result }
+        ensures unknown { (lines : List AnyLine) → StandsClient self.now lines
+            → AnswersUnknown (unless_known (is_some (begun sub lines)) sub 0) result }
         ensures refused { IfErr result (λ e. e ≡ MirrorRefused.Unknown sub 0) }
     {
         if self.subscriptions.contains_key(&sub) {
@@ -140,13 +157,18 @@ impl Client {
     }
 
     /// Takes what a line says of an item.
-    fn hear(&mut self, sub: u32, item: u32, told: Told) -> Result<(), MirrorRefused>
-        ensures ok { OnOk result ((l : AnyLine) (lines : List AnyLine) → Adds l sub item (said told.entry) → StandsClient self.old lines → StandsClient self.new (l ∷ lines)) }
-        ensures err { OnErr result ((lines : List AnyLine) → StandsClient self.old lines → StandsClient self.new lines) }
-        ensures unknown { (lines : List AnyLine) → StandsClient self.old lines → AnswersUnknown (unless_known (has_item (begun sub lines) item) sub item) result }
-        ensures bad { (lines : List AnyLine) → StandsClient self.old lines → IsErrOf result MirrorRefused.BadFields → IsBadHeard sub item lines (said told.entry) }
-        ensures only_bad { (lines : List AnyLine) → StandsClient self.old lines → IsBadHeard sub item lines (said told.entry) → AnswersBad result }
+    fn hear(&mut self, sub: u32, item: u32, heard: Heard) -> Result<(), MirrorRefused>
+        ensures ok { OnOk result ((l : AnyLine) (lines : List AnyLine) → IsHeardOf l sub item (heard_value heard.entry)
+            → StandsClient self.old lines → StandsClient self.new (l ∷ lines)) }
+        ensures err { OnErr result ((lines : List AnyLine) → StandsClient self.old lines
+            → StandsClient self.new lines) }
+        ensures unknown { (lines : List AnyLine) → StandsClient self.old lines
+            → AnswersUnknown (unless_known (has_item (begun sub lines) item) sub item) result }
+        ensures bad { (lines : List AnyLine) → StandsClient self.old lines → IsErrOf result MirrorRefused.BadFields
+            → IsBadHeard sub item lines (heard_value heard.entry) }
+        ensures only_bad { (lines : List AnyLine) → StandsClient self.old lines
+            → IsBadHeard sub item lines (heard_value heard.entry) → AnswersBad result }
     {
-        hear_at(&mut self.subscriptions, self.alloc, sub, item, told)
+        hear_at(&mut self.subscriptions, self.alloc, sub, item, heard)
     }
 }

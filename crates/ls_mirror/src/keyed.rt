@@ -8,9 +8,11 @@ use std::alloc::Global;
 use std::collections::BTreeMap;
 use std::marker::Model;
 
-/// The rows of an item in mode COMMAND, by key in byte order (General Concepts, COMMAND). Contracts see a finite map.
+/// The rows of an item in mode COMMAND, by key in byte order (General Concepts, COMMAND). It keeps the allocator
+/// of `new`. Contracts see a finite map.
 #[derive(Drop)]
 pub struct Keyed {
+    alloc: Global,
     rows: BTreeMap<String, Row>,
 }
 
@@ -33,8 +35,14 @@ impl Keyed {
         ensures { result ≡ finite.empty }
     {
         Keyed {
+            alloc,
             rows: BTreeMap::new(alloc),
         }
+    }
+
+    /// The allocator of `new`, by which its rows are made.
+    pub(crate) fn alloc(&self) -> Global {
+        self.alloc
     }
 
     /// The row of a key: `None` exactly where the key has none. No memory is taken.

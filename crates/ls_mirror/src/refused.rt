@@ -13,7 +13,7 @@ pub enum MirrorRefused {
     Unknown {
         /// The subscription's number.
         sub: u32,
-        /// The item's place in the subscription, from 1; 0 where the line names none.
+        /// The item's rank in the subscription, from 1; 0 where the line names none.
         item: u32,
     },
     /// The coded fields of a U line say no row, or in mode COMMAND the row has no key or no command word.

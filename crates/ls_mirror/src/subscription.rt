@@ -2,11 +2,14 @@
 ghost use Rattle.std.specs.Prelude.{◌≡◌, ℕ, OnOk, OnErr, IfErr, IsErrOf};
 ghost use Rattle.std.specs.Option.{option_map};
 ghost use Rattle.ls_mirror.specs.Refusing.{IsBad, RefusedBy, AnswersBad};
-ghost use Rattle.ls_mirror.specs.Tables.{places_of, said};
-ghost use Rattle.ls_mirror.specs.Standing.{Hears, IsSame, AreSame, MapHears, IsBadAt, AnswersUnknown, unless_known, has_item, begun_of, table_at, subscription_at};
+ghost use Rattle.ls_mirror.specs.Tables.{heard_value};
+ghost use Rattle.ls_mirror.specs.Standing.{IsSubscriptionAfter, IsSame, AreSame, AreSubscriptionsAfter, IsBadAt};
+ghost use Rattle.ls_mirror.specs.Standing.{AnswersUnknown, unless_known, has_item, begun_of, table_at};
+ghost use Rattle.ls_mirror.specs.Standing.{subscription_at};
 
+use crate::command::KeyPlaces;
 use crate::refused::MirrorRefused;
-use crate::table::{KeyFields, Table, Told};
+use crate::table::{Heard, Table};
 use std::alloc::Global;
 use std::collections::BTreeMap;
 
@@ -18,21 +21,28 @@ pub(crate) struct Subscription {
     /// How many fields each row has.
     pub(crate) fields: u32,
     /// In mode COMMAND the places of the key and the command.
-    pub(crate) places: Option<KeyFields>,
+    pub(crate) places: Option<KeyPlaces>,
     /// The tables by item. An item of which nothing came may have none.
     pub(crate) tables: BTreeMap<u32, Table>,
 }
 
 impl Subscription {
     /// Takes what a line says of an item. After a refusal the tables are as before.
-    pub(crate) fn hear(&mut self, alloc: Global, item: u32, told: Told) -> Result<(), MirrorRefused>
-        ensures ok { OnOk result (Hears item (said told.entry) self.old self.new) }
+    pub(crate) fn hear(
+        &mut self,
+        alloc: Global,
+        item: u32,
+        heard: Heard,
+    ) -> Result<(), MirrorRefused>
+        ensures ok { OnOk result (IsSubscriptionAfter item (heard_value heard.entry) self.old self.new) }
         ensures err { OnErr result (IsSame self.old self.new) }
-        ensures refused { IfErr result (λ e. RefusedBy e (IsBad self.old.fields (places_of self.old.places) (table_at self.old.tables item).last (said told.entry))) }
-        ensures only_bad { IsBad self.old.fields (places_of self.old.places) (table_at self.old.tables item).last (said told.entry) → AnswersBad result }
+        ensures refused { IfErr result (λ e. RefusedBy e (IsBad self.old.fields self.old.places
+            (table_at self.old.tables item).last (heard_value heard.entry))) }
+        ensures only_bad { IsBad self.old.fields self.old.places
+            (table_at self.old.tables item).last (heard_value heard.entry) → AnswersBad result }
     {
         let table = self.tables.entry(item)?.or_insert(Table::new(alloc));
-        table.hear(alloc, self.fields, self.places, told)
+        table.hear(self.fields, self.places, heard)
     }
 }
 
@@ -42,13 +52,18 @@ pub(crate) fn hear_at(
     alloc: Global,
     sub: u32,
     item: u32,
-    told: Told,
+    heard: Heard,
 ) -> Result<(), MirrorRefused>
-    ensures ok { OnOk result (MapHears sub item (said told.entry) subscriptions.old subscriptions.new) }
-    ensures err { OnErr result ((q : ℕ) → AreSame (subscription_at subscriptions.old q) (subscription_at subscriptions.new q)) }
-    ensures unknown { AnswersUnknown (unless_known (has_item (option_map begun_of (subscription_at subscriptions.old sub)) item) sub item) result }
-    ensures bad { IsErrOf result MirrorRefused.BadFields → IsBadAt (subscription_at subscriptions.old sub) item (said told.entry) }
-    ensures only_bad { IsBadAt (subscription_at subscriptions.old sub) item (said told.entry) → AnswersBad result }
+    ensures ok { OnOk result
+        (AreSubscriptionsAfter sub item (heard_value heard.entry) subscriptions.old subscriptions.new) }
+    ensures err { OnErr result ((q : ℕ) →
+        AreSame (subscription_at subscriptions.old q) (subscription_at subscriptions.new q)) }
+    ensures unknown { AnswersUnknown
+        (unless_known (has_item (option_map begun_of (subscription_at subscriptions.old sub)) item) sub item) result }
+    ensures bad { IsErrOf result MirrorRefused.BadFields
+        → IsBadAt (subscription_at subscriptions.old sub) item (heard_value heard.entry) }
+    ensures only_bad { IsBadAt (subscription_at subscriptions.old sub) item (heard_value heard.entry)
+        → AnswersBad result }
 {
     let Some(subscription) = subscriptions.get_mut(&sub) else {
         return Err(MirrorRefused::Unknown { sub, item });
@@ -56,5 +71,5 @@ pub(crate) fn hear_at(
     if item == 0 || subscription.items < item {
         return Err(MirrorRefused::Unknown { sub, item });
     }
-    subscription.hear(alloc, item, told)
+    subscription.hear(alloc, item, heard)
 }

@@ -34,12 +34,16 @@ rest_all : (p : List ℕ) (i : ℕ) → take (length p - i) (drop i p) ≡ drop 
 rest_all p i = take_all (length p - i) (drop i p) (omega (arith, length-drop i p))
 
 -- a write of a part of the rest
-pub written_on : (a b c : Option (List ℕ)) (p : List ℕ) (i k : ℕ) → i ≤ length p → Appends a b (take i p) → k ≤ length (take (length p - i) (drop i p)) → Appends b c (take k (take (length p - i) (drop i p))) → (i + k ≤ length p) × Appends a c (take (i + k) p)
+pub written_on : (a b c : Option (List ℕ)) (p : List ℕ) (i k : ℕ) → i ≤ length p → Appends a b (take i p) → k ≤ length (take (length p - i) (drop i p))
+    → Appends b c (take k (take (length p - i) (drop i p))) → (i + k ≤ length p) × Appends a c (take (i + k) p)
 written_on a b c p i k within h fits q =
     let rest : take (length p - i) (drop i p) ≡ drop i p = rest_all p i in
     let room : k ≤ length (drop i p) = subst (λ (xs : List ℕ). k ≤ length xs) rest fits in
-    let part : Appends b c (take k (drop i p)) = subst (λ (xs : List ℕ). Appends b c (take k xs)) rest q in
-    (omega (arith, room, length-drop i p), subst (λ (xs : List ℕ). Appends a c xs) (sym (take-add i k p)) (appends_on a b c (take i p) (take k (drop i p)) h part))
+    let part : Appends b c (take k (drop i p)) = subst (λ (xs : List ℕ). Appends b c (take k xs)) rest q in (
+      omega (arith, room, length-drop i p),
+      subst (λ (xs : List ℕ). Appends a c xs) (sym (take-add i k p))
+          (appends_on a b c (take i p) (take k (drop i p)) h part),
+    )
 
 -- a count that did not fall, and then rose
 pub rose_since : (a b c : ℕ) → a ≤ b → Rose b c → Rose a c

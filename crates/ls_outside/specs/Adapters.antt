@@ -29,7 +29,8 @@ Interrupts answers piece (suc n) old new =
     × (e : Error) × answers mid piece (Err e) new × (error_kind e ≡ Interrupted)
 
 -- what came of the last try: how many bytes it took, its error, or that so many were interrupted
-abbrev pub LastTry : {W : Type 0} → (W → List ℕ → Result ℕ Error → W → Type 0) → List ℕ → ℕ → ℕ → W → W → Option ℕ → Type 0
+abbrev pub LastTry : {W : Type 0} → (W → List ℕ → Result ℕ Error → W → Type 0) → List ℕ → ℕ → ℕ → W → W → Option ℕ
+    → Type 0
 LastTry answers piece most n mid new (Some count) = (n < most) × answers mid piece (Ok count) new
 LastTry answers piece most n mid new None =
     ((n ≡ most) × (new ≡ mid))

@@ -19,7 +19,7 @@ RoseBy n before now = min (before + n) (2 ^ 64 - 1) ≤ now
 abbrev pub Rose : ℕ → ℕ → Type 0
 Rose before now = min (before + 1) (2 ^ 64 - 1) ≤ now
 
--- what an answer of a read says of the bytes that were left, the bytes that are left, and the piece
+-- what an answer of a read says of the bytes that weren't read before it and after it, and of the piece
 abbrev pub Gives : Option (List ℕ) → Option (List ℕ) → Got → List ℕ → Type 0
 Gives old new (got.Bytes k) piece = (0 < k) × (k ≤ length piece) × Consumes old new (take k piece)
 Gives old new got.End piece = Keeps old new × IsAtEnd new

@@ -1,5 +1,6 @@
 -- What objects in memory hold, and how their calls go.
-use Rattle.std.specs.Prelude.{◌≡◌, ℕ, ◌+◌, ◌-◌, ◌^◌, min, max, List, [], ◌∷◌, ◌++◌, length, take, drop, nat_lt, ◌==◌, if◌then◌else◌, ⊤}
+use Rattle.std.specs.Prelude.{◌≡◌, ℕ, ◌+◌, ◌-◌, ◌^◌, min, max, List, [], ◌∷◌, ◌++◌, length, take, drop, nat_lt, ◌==◌}
+use Rattle.std.specs.Prelude.{if◌then◌else◌, ⊤}
 use Rattle.ls_outside.specs.Causes.{one_more}
 use Rattle.ls_outside.specs.declared.call.Call.{Call}
 use Rattle.ls_outside.specs.declared.call.Call.TheVariants as call
@@ -8,9 +9,10 @@ use Rattle.ls_outside.specs.declared.source.Got.TheVariants as got
 use Rattle.ls_outside.specs.declared.sink.Put.{Put}
 use Rattle.ls_outside.specs.declared.sink.Put.TheVariants as put
 
--- bytes in memory that are read: those that are left, the place of the next one, and the cuts that were not passed
+-- bytes in memory that are read: those that aren't read yet, the place of the next one, and the cuts that were not
+-- passed
 pub record Supply : Type 0 where
-  pub left : List ℕ
+  pub unread : List ℕ
   pub place : ℕ
   pub cuts : List ℕ
 
@@ -43,12 +45,12 @@ way_to place [] = 2 ^ 64 - 1
 way_to place (cut ∷ cuts) = cut - place
 
 -- how many bytes a read gives for a piece of this length, at most up to a limit
-abbrev pub given : Supply → ℕ → ℕ → ℕ
-given s limit room = min (min limit (way_to s.place (beyond s.place s.cuts))) (min (length s.left) room)
+abbrev pub read_count : Supply → ℕ → ℕ → ℕ
+read_count s limit room = min (min limit (way_to s.place (beyond s.place s.cuts))) (min (length s.unread) room)
 
 -- the answer of a read for a piece of this length, at most up to a limit
 abbrev pub answer_within : Supply → ℕ → ℕ → Got
-answer_within s limit room = if length s.left == 0 then got.End else got.Bytes (given s limit room)
+answer_within s limit room = if length s.unread == 0 then got.End else got.Bytes (read_count s limit room)
 
 -- how many bytes move at most in a call that goes so
 abbrev pub limit_of : Call → ℕ
@@ -63,7 +65,12 @@ answer_by c s room = answer_within s (limit_of c) room
 
 -- the bytes after an answer
 abbrev pub supply_after : Supply → Got → Supply
-supply_after s (got.Bytes count) = record { left = drop count s.left; place = s.place + count; cuts = beyond s.place s.cuts }
+supply_after s (got.Bytes count) = record {
+  unread = drop count s.unread;
+  place = s.place + count;
+  cuts =
+      beyond s.place s.cuts;
+}
 supply_after s answer = s
 
 -- a source in memory after an answer

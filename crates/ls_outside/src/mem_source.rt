@@ -1,14 +1,15 @@
 //! Sources in memory.
 ghost use Rattle.std.specs.Prelude.{◌≡◌, ◌<◌, ◌-◌, ◌^◌, length, take, drop, min, slice_index, Some};
 ghost use Rattle.ls_outside.specs.Causes.{Gives, HasReadCause};
-ghost use Rattle.ls_outside.specs.Memory.{next_call, beyond, way_to, answer_by, answer_within, supply_after, source_after};
+ghost use Rattle.ls_outside.specs.Memory.{next_call, beyond, way_to, answer_by, answer_within, supply_after};
+ghost use Rattle.ls_outside.specs.Memory.{source_after};
 
 use crate::call::{Call, Calls};
 use crate::source::{Got, Source};
 use std::marker::Model;
 
 /// A source of bytes in memory that never fails and never lacks a byte: both its counts are always 0. Contracts see it
-/// as the bytes that are left, the place of the next one, and the cuts that were not passed.
+/// as the bytes that aren't read yet, the place of the next one, and the cuts that were not passed.
 #[derive(Drop)]
 pub struct PlainSource {
     bytes: Vec<u8>,
@@ -23,7 +24,7 @@ impl Model for PlainSource {
 
     ghost Value = { Supply };
 
-    ghost view = { λ s. record { left = drop s.at s.bytes.items; place = s.at; cuts = drop s.cut s.cuts.items } };
+    ghost view = { λ s. record { unread = drop s.at s.bytes.items; place = s.at; cuts = drop s.cut s.cuts.items } };
 
     ghost invariant = { λ s. s.at ≤ length s.bytes.items };
 }
@@ -32,7 +33,7 @@ impl PlainSource {
     /// A source of these bytes. Where the cuts rise, no read passes one: a cut is a place, in bytes from the start. One
     /// that doesn't lie beyond those before it counts for nothing.
     pub fn new(bytes: Vec<u8>, cuts: Vec<usize>) -> PlainSource
-        ensures { result ≡ record { left = bytes.items; place = 0; cuts = cuts.items } }
+        ensures { result ≡ record { unread = bytes.items; place = 0; cuts = cuts.items } }
     {
         PlainSource {
             bytes,
@@ -46,7 +47,7 @@ impl PlainSource {
     fn give(&mut self, piece: &mut [u8], limit: usize) -> Got
         requires piece { 0 < length piece.old }
         requires limit { 0 < limit }
-        ensures bytes { Gives (Some self.old.left) (Some self.new.left) result piece.new }
+        ensures bytes { Gives (Some self.old.unread) (Some self.new.unread) result piece.new }
         ensures answer { result ≡ answer_within self.old limit (length piece.old) }
         ensures after { self.new ≡ supply_after self.old result }
     {
@@ -98,7 +99,7 @@ fn copy_front(piece: &mut [u8], bytes: &[u8], most: usize) -> usize
 }
 
 impl Source for PlainSource {
-    ghost left = { λ s. Some s.left };
+    ghost unread = { λ s. Some s.unread };
 
     ghost faults = { λ _. 0 };
 
@@ -114,7 +115,7 @@ impl Source for PlainSource {
 
     fn read(&mut self, piece: &mut [u8]) -> Got
         requires { 0 < length piece.old }
-        ensures bytes { Gives (Some self.old.left) (Some self.new.left) result piece.new }
+        ensures bytes { Gives (Some self.old.unread) (Some self.new.unread) result piece.new }
         ensures cause { HasReadCause result 0 0 0 0 }
         ensures answer { result ≡ answer_within self.old (2 ^ 64 - 1) (length piece.old) }
         ensures after { self.new ≡ supply_after self.old result }
@@ -123,8 +124,8 @@ impl Source for PlainSource {
     }
 }
 
-/// A source of bytes in memory whose calls go by a list, for tests. Contracts see it as its bytes, the calls to come and
-/// its two counts.
+/// A source of bytes in memory whose calls go by a list, for tests. Contracts see it as its bytes, the calls to come
+/// and its two counts.
 #[derive(Drop)]
 pub struct MemSource {
     plain: PlainSource,
@@ -145,7 +146,7 @@ impl MemSource {
     /// A source of these bytes, cut as in `PlainSource::new`, whose calls of `read` go by the list, the first call by
     /// its first member. Calls past its end go as usual.
     pub fn new(bytes: Vec<u8>, cuts: Vec<usize>, calls: Vec<Call>) -> MemSource
-        ensures supply { result.supply ≡ record { left = bytes.items; place = 0; cuts = cuts.items } }
+        ensures supply { result.supply ≡ record { unread = bytes.items; place = 0; cuts = cuts.items } }
         ensures calls { result.calls ≡ calls.items }
         ensures counts { (result.faults ≡ 0) × (result.idles ≡ 0) }
     {
@@ -159,7 +160,7 @@ impl MemSource {
 }
 
 impl Source for MemSource {
-    ghost left = { λ s. Some s.supply.left };
+    ghost unread = { λ s. Some s.supply.unread };
 
     ghost faults = { λ s. s.faults };
 
@@ -175,7 +176,7 @@ impl Source for MemSource {
 
     fn read(&mut self, piece: &mut [u8]) -> Got
         requires { 0 < length piece.old }
-        ensures bytes { Gives (Some self.old.supply.left) (Some self.new.supply.left) result piece.new }
+        ensures bytes { Gives (Some self.old.supply.unread) (Some self.new.supply.unread) result piece.new }
         ensures cause { HasReadCause result self.old.faults self.new.faults self.old.idles self.new.idles }
         ensures answer { result ≡ answer_by (next_call self.old.calls) self.old.supply (length piece.old) }
         ensures after { self.new ≡ source_after self.old result }

@@ -10,8 +10,8 @@ use std::io::{Read, Result, Write};
 /// What `StdSource` reads from: each reader of std. Beside what std says of a read, contracts can name the answer that
 /// one read gave.
 pub trait Reader {
-    /// The bytes that are left to read, where the reader tells.
-    ghost left: { Self → Option (List ℕ) };
+    /// The bytes that aren't read yet, where the reader tells.
+    ghost unread: { Self → Option (List ℕ) };
 
     /// Whether one read answered so: the reader before it, the piece after it, the answer, and the reader after it.
     ghost answers: { Self → List ℕ → Result ℕ Fault → Self → Type 0 };
@@ -19,12 +19,12 @@ pub trait Reader {
     /// Reads once.
     fn read_once(&mut self, piece: &mut [u8]) -> Result<usize>
         ensures bound { ReadsAtMost result piece.new }
-        ensures bytes { ReadConsumes (left self.old) (left self.new) result piece.new }
+        ensures bytes { ReadConsumes (unread self.old) (unread self.new) result piece.new }
         ensures answer { answers self.old piece.new result self.new };
 }
 
 impl<R: Read> Reader for R {
-    ghost left = { λ r. R.remaining r };
+    ghost unread = { λ r. R.remaining r };
 
     ghost answers = { λ r piece answer s. ReadConsumes (R.remaining r) (R.remaining s) answer piece };
 

@@ -9,7 +9,7 @@ pub enum Got {
     /// The next bytes came, this many, at least one. They stand at the front of the piece.
     Bytes(usize),
 
-    /// No byte is left, and none will come.
+    /// Every byte is read, and none will come.
     End,
 
     /// No byte is there yet. It counts as an idle call.
@@ -21,8 +21,8 @@ pub enum Got {
 
 /// A source of bytes, which counts its faults and its idle calls.
 pub trait Source {
-    /// The bytes that are left to read, where the source tells.
-    ghost left: { Self → Option (List ℕ) };
+    /// The bytes that aren't read yet, where the source tells.
+    ghost unread: { Self → Option (List ℕ) };
 
     /// The count of faults.
     ghost faults: { Self → ℕ };
@@ -39,11 +39,11 @@ pub trait Source {
         ensures { result ≡ waits self.now };
 
     /// Reads the next bytes into the front of a piece, which isn't empty, as many as the source likes to give.
-    /// `End` comes only where no byte is left, if the source tells. Only `Bytes` takes bytes from the source. At
+    /// `End` comes only where every byte is read, if the source tells. Only `Bytes` takes bytes from the source. At
     /// `Failed` `read_faults` rises by one, at `NotYet` `idles` does, and else both counts are as before. So a source
     /// whose counts are always 0 answers neither.
     fn read(&mut self, piece: &mut [u8]) -> Got
         requires { 0 < length piece.old }
-        ensures bytes { Gives (left self.old) (left self.new) result piece.new }
+        ensures bytes { Gives (unread self.old) (unread self.new) result piece.new }
         ensures cause { HasReadCause result (faults self.old) (faults self.new) (waits self.old) (waits self.new) };
 }

@@ -7,14 +7,15 @@ ghost use Rattle.std.specs.Io.KnownBytes.{Keeps, Appends};
 ghost use Rattle.std.specs.declared.io.Error.{Error as Fault};
 ghost use Rattle.ls_outside.specs.Causes.{Gives, HasReadCause, TakesOf, HasWriteCause};
 ghost use Rattle.ls_outside.specs.Adapters.{GotBy, TriedBy, PutBy};
+ghost use Rattle.ls_outside.specs.declared.std_io.TheConstants.{WRITE_TRIES as MOST_TRIES};
 
 use crate::once::{Reader, Writer};
 use crate::sink::{Put, Sink};
 use crate::source::{Got, Source};
 use std::io::{Error, ErrorKind};
 
-/// How often a write that is interrupted is tried, in one call.
-const WRITE_TRIES: u32 = 1000;
+/// How often a write that is interrupted is tried at most, in one call.
+pub const WRITE_TRIES: u32 = 1000;
 
 /// Whether a signal interrupted the call.
 fn is_interrupted(error: &Error) -> bool
@@ -44,7 +45,7 @@ pub struct StdSource<R> {
 impl<R: Reader> StdSource<R> {
     /// A source over this reader, with both counts 0.
     pub fn new(inner: R) -> StdSource<R>
-        ensures left { ⟦<StdSource<R> as Source>⟧.left result ≡ R.left inner }
+        ensures unread { ⟦<StdSource<R> as Source>⟧.unread result ≡ R.unread inner }
         ensures faults { ⟦<StdSource<R> as Source>⟧.faults result ≡ 0 }
         ensures waits { ⟦<StdSource<R> as Source>⟧.waits result ≡ 0 }
     {
@@ -57,7 +58,7 @@ impl<R: Reader> StdSource<R> {
 }
 
 impl<R: Reader> Source for StdSource<R> {
-    ghost left = { λ s. R.left s.inner };
+    ghost unread = { λ s. R.unread s.inner };
 
     ghost faults = { λ s. s.faults };
 
@@ -74,7 +75,7 @@ impl<R: Reader> Source for StdSource<R> {
     /// Reads once. The answer is the reader's own.
     fn read(&mut self, piece: &mut [u8]) -> Got
         requires { 0 < length piece.old }
-        ensures bytes { Gives (R.left self.old.inner) (R.left self.new.inner) result piece.new }
+        ensures bytes { Gives (R.unread self.old.inner) (R.unread self.new.inner) result piece.new }
         ensures cause { HasReadCause result self.old.faults self.new.faults self.old.idles self.new.idles }
         ensures answer { (answer : Answer ℕ Fault) × R.answers self.old.inner piece.new answer self.new.inner
             × GotBy result answer }
@@ -96,8 +97,8 @@ impl<R: Reader> Source for StdSource<R> {
 
 /// A sink over a writer. It tells what the writer tells.
 ///
-/// A write that a signal interrupts is tried again, up to 1,000 times in all. Any other error is answered `Failed`, and
-/// so is a writer that takes no byte of a piece that isn't empty. It doesn't flush the writer.
+/// A write that a signal interrupts is tried again, up to `WRITE_TRIES` times in all. Any other error is answered
+/// `Failed`, and so is a writer that takes no byte of a piece that isn't empty. It doesn't flush the writer.
 #[derive(Drop)]
 pub struct StdSink<W> {
     inner: W,
@@ -119,7 +120,7 @@ fn write_retrying<W: Writer>(writer: &mut W, piece: &[u8]) -> Option<usize>
     ensures bytes { MatchOption result
         (Keeps (W.held writer.old) (W.held writer.new))
         (λ count. (count ≤ length piece.now) × Appends (W.held writer.old) (W.held writer.new) (take count piece.now)) }
-    ensures tried { TriedBy W.answers piece.now 1000 writer.old writer.new result }
+    ensures tried { TriedBy W.answers piece.now MOST_TRIES writer.old writer.new result }
 {
     for _ in 0..WRITE_TRIES {
         match writer.write_once(piece) {
@@ -147,7 +148,8 @@ impl<W: Writer> Sink for StdSink<W> {
     fn write(&mut self, piece: &[u8]) -> Put
         ensures bytes { TakesOf (W.held self.old.inner) (W.held self.new.inner) result piece.now }
         ensures cause { HasWriteCause result self.old.faults self.new.faults }
-        ensures answer { (taken : Optional ℕ) × TriedBy W.answers piece.now 1000 self.old.inner self.new.inner taken
+        ensures answer { (taken : Optional ℕ)
+            × TriedBy W.answers piece.now MOST_TRIES self.old.inner self.new.inner taken
             × PutBy result taken (length piece.now) }
     {
         match write_retrying(&mut self.inner, piece) {

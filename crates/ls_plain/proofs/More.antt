@@ -1,5 +1,6 @@
 -- Lists, one by one.
-use Rattle.std.proofs.Common.{◌≡◌, ℕ, zero, suc, ◌+◌, ◌-◌, ◌<◌, ◌≤◌, ◌++◌, List, [], ◌∷◌, length, map, drop, take, get_or, ◌∙◌, ap, subst, sym, refl, arith, All, true, cond}
+use Rattle.std.proofs.Common.{◌≡◌, ℕ, zero, suc, ◌+◌, ◌-◌, ◌<◌, ◌≤◌, ◌++◌, List, [], ◌∷◌, length, map, drop, take, get_or, ◌∙◌, ap, subst, sym, refl, arith}
+use Rattle.std.proofs.Common.{All, true, cond}
 use Rattle.std.specs.List.{remove}
 use Rattle.std.proofs.lemmas.List.{drop_more, take_more, length-map, drop-map, drop_all, take_all, append-nil, append_assoc}
 use Rattle.std.proofs.lemmas.List.Elements.{All-append}
@@ -28,7 +29,8 @@ pub all_more : {A : Type 0} (P : A → Type 0) (xs : List A) (i : ℕ) (d : A) �
 all_more P xs i d all within p = subst (All P) (sym (take_more xs i d within)) (All-append P (take i xs) (get_or xs i d ∷ []) all (all_one P (get_or xs i d) p))
 
 -- a key that isn't among the first is taken out where it stands next
-pub removed_at : (key : List ℕ) (ks : List KeyedRow) (i : ℕ) (d : KeyedRow) → without key ks ≡ take i ks ++ without key (drop i ks) → i < length ks → text_eq (get_or ks i d).key key ≡ true → remove ks i ≡ without key ks
+pub removed_at : (key : List ℕ) (ks : List KeyedRow) (i : ℕ) (d : KeyedRow) → without key ks ≡ take i ks ++ without key (drop i ks) → i < length ks
+    → text_eq (get_or ks i d).key key ≡ true → remove ks i ≡ without key ks
 removed_at key ks i d first more same =
     sym (
     first
@@ -42,18 +44,23 @@ pub not_there : (key : List ℕ) (ks : List KeyedRow) (i : ℕ) → without key 
 not_there key ks i first all = first ∙ rw (drop_all i ks all, take_all i ks all) (append-nil ks)
 
 -- the values from a place on after an update
-applied_at : (i : ℕ) (row : List Value) (cells : List Cell) (d : Value) → i < length row → applied (drop i row) (drop i cells) ≡ kept_or_taken (get_or row i d) (cell_at cells i) ∷ applied (drop (suc i) row) (drop (suc i) cells)
+applied_at : (i : ℕ) (row : List Value) (cells : List Cell) (d : Value) → i < length row
+    → applied (drop i row) (drop i cells) ≡ kept_or_taken (get_or row i d) (cell_at cells i) ∷ applied (drop (suc i) row) (drop (suc i) cells)
 applied_at i [] cells d more = absurd (omega (arith, more))
 applied_at zero (v ∷ row) [] d more = ap (λ r. v ∷ r) (sym (applied_none row))
 applied_at zero (v ∷ row) (c ∷ cells) d more = refl
-applied_at (suc i) (v ∷ row) [] d more = ap (λ (cs : List Cell). applied (drop i row) cs) (sym (drop_all i [] (omega arith))) ∙ applied_at i row [] d (omega (arith, more))
+applied_at (suc i) (v ∷ row) [] d more = ap (λ (cs : List Cell). applied (drop i row) cs) (sym (drop_all i [] (omega arith)))
+    ∙ applied_at i row [] d (omega (arith, more))
 applied_at (suc i) (v ∷ row) (c ∷ cells) d more = applied_at i row cells d (omega (arith, more))
 
-applied_more : (i : ℕ) (row : List Value) (cells : List Cell) (d : Value) → i < length row → applied (drop i row) (drop i cells) ≡ kept_or_taken (get_or row i d) (cell_at cells i) ∷ applied (drop (i + 1) row) (drop (i + 1) cells)
-applied_more i row cells d more = applied_at i row cells d more ∙ ap (λ n. kept_or_taken (get_or row i d) (cell_at cells i) ∷ applied (drop n row) (drop n cells)) {x = suc i} {y = i + 1} (omega arith)
+applied_more : (i : ℕ) (row : List Value) (cells : List Cell) (d : Value) → i < length row
+    → applied (drop i row) (drop i cells) ≡ kept_or_taken (get_or row i d) (cell_at cells i) ∷ applied (drop (i + 1) row) (drop (i + 1) cells)
+applied_more i row cells d more = applied_at i row cells d more ∙ ap (λ n. kept_or_taken (get_or row i d) (cell_at cells i)
+    ∷ applied (drop n row) (drop n cells)) {x = suc i} {y = i + 1} (omega arith)
 
 -- one value more
-pub values_grown : (done row all : List Value) (cells : List Cell) (i : ℕ) (d v : Value) → done ++ applied (drop i row) (drop i cells) ≡ all → i < length row → v ≡ kept_or_taken (get_or row i d) (cell_at cells i) → (done ++ v ∷ []) ++ applied (drop (i + 1) row) (drop (i + 1) cells) ≡ all
+pub values_grown : (done row all : List Value) (cells : List Cell) (i : ℕ) (d v : Value) → done ++ applied (drop i row) (drop i cells) ≡ all → i < length row
+    → v ≡ kept_or_taken (get_or row i d) (cell_at cells i) → (done ++ v ∷ []) ++ applied (drop (i + 1) row) (drop (i + 1) cells) ≡ all
 values_grown done row all cells i d v inv more is =
     append_assoc done (v ∷ []) (applied (drop (i + 1) row) (drop (i + 1) cells))
     ∙ ap (λ (r : List Value). done ++ r) (ap (λ w. w ∷ applied (drop (i + 1) row) (drop (i + 1) cells)) is ∙ sym (applied_more i row cells d more))

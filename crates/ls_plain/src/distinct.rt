@@ -1,13 +1,13 @@
 //! The next cut of mode DISTINCT from the whole history.
 ghost use Rattle.std.specs.Prelude.{◌≡◌, ◌≤◌, IfOk, length, map, drop, option_map};
 ghost use Rattle.ls_event.specs.declared.event.Taken.TheVariants as taken;
-ghost use Rattle.ls_event.specs.OwnCuts.{distinct_cut, clear_told, first_of_last, row_taken};
+ghost use Rattle.ls_event.specs.OwnCuts.{distinct_cut, clear_cut, first_of_last, row_taken};
 ghost use Rattle.ls_event.specs.Slots.{Slot};
 ghost use Rattle.ls_event.specs.Updates.{recent_rows};
 ghost use Rattle.ls_plain.specs.Plain.{distinct_slot};
 
 use crate::updates::{clear_or, last_clear, own_rows};
-use ls_event::{Entry, OwnRow, Taken};
+use ls_event::{Entry, MOST_SNAPSHOT_ROWS, OwnRow, Taken};
 use ls_value::{NoMemory, Row};
 use std::alloc::Global;
 
@@ -20,8 +20,8 @@ pub struct DistinctSlot {
     pub base: u64,
     /// The last number that was enqueued.
     pub last: u64,
-    /// The number up to which lines told.
-    pub place: u64,
+    /// The number up to which lines tell of the item.
+    pub cursor: u64,
     /// How many rows of the snapshot are owed.
     pub owed: u64,
     /// Whether the end of the snapshot is owed.
@@ -34,28 +34,28 @@ pub fn plain_distinct_cut(
     history: &[Entry],
     slot: &DistinctSlot,
 ) -> Result<Option<Taken>, NoMemory>
-    requires order { slot.now.place ≤ slot.now.last }
+    requires order { slot.now.cursor ≤ slot.now.last }
     requires within { slot.now.last ≤ length history.now }
     requires joined { slot.now.base ≤ length history.now }
     ensures { IfOk result (λ t. t ≡ distinct_cut history.now (distinct_slot slot.now)) }
 {
-    let (place, last) = (slot.place as usize, slot.last as usize);
-    if let Some(clear) = last_clear(history, place, last) {
-        return Ok(Some(clear_told(slot.ends, clear)));
+    let (cursor, last) = (slot.cursor as usize, slot.last as usize);
+    if let Some(clear) = last_clear(history, cursor, last) {
+        return Ok(Some(clear_taken(slot.ends, clear)));
     }
     if slot.owed > 0 {
-        return snapshot_told(alloc, history, slot.base as usize, slot.owed as usize);
+        return snapshot_taken(alloc, history, slot.base as usize, slot.owed as usize);
     }
     if slot.ends {
         return Ok(Some(Taken::EndOfSnapshot));
     }
-    let rows = own_rows(alloc, history, place, last)?;
-    first_told(alloc, &rows, slot.size as usize)
+    let rows = own_rows(alloc, history, cursor, last)?;
+    first_taken(alloc, &rows, slot.size as usize)
 }
 
-/// What a Clear tells: the snapshot's end, where it is owed, and then itself.
-pub fn clear_told(ends: bool, clear: u64) -> Taken
-    ensures { (s : Slot) → s.ends ≡ ends → Some result ≡ clear_told s clear }
+/// What a Clear gives: the snapshot's end, where it is owed, and then itself.
+pub fn clear_taken(ends: bool, clear: u64) -> Taken
+    ensures { (s : Slot) → s.ends ≡ ends → Some result ≡ clear_cut s clear }
 {
     if ends {
         Taken::EndOfSnapshot
@@ -65,7 +65,7 @@ pub fn clear_told(ends: bool, clear: u64) -> Taken
 }
 
 /// The first of the last updates of a size.
-fn first_told(alloc: Global, rows: &[OwnRow], size: usize) -> Result<Option<Taken>, NoMemory>
+fn first_taken(alloc: Global, rows: &[OwnRow], size: usize) -> Result<Option<Taken>, NoMemory>
     ensures { IfOk result (λ t. t ≡ option_map row_taken (first_of_last size rows.now)) }
 {
     match rows.get(rows.len().saturating_sub(size)) {
@@ -78,14 +78,15 @@ fn first_told(alloc: Global, rows: &[OwnRow], size: usize) -> Result<Option<Take
 }
 
 /// The next row of the snapshot, of which so many of the last are owed.
-fn snapshot_told(
+fn snapshot_taken(
     alloc: Global,
     history: &[Entry],
     base: usize,
     owed: usize,
 ) -> Result<Option<Taken>, NoMemory>
     requires { base ≤ length history.now }
-    ensures { IfOk result (λ t. t ≡ option_map (λ row. taken.Row row base) (first_of_last owed (recent_rows history.now base))) }
+    ensures { IfOk result (λ t. t
+        ≡ option_map (λ row. taken.Row row base) (first_of_last owed (recent_rows history.now base))) }
 {
     let rows = plain_recent_rows(alloc, history, base)?;
     match rows.get(rows.len().saturating_sub(owed)) {
@@ -97,14 +98,15 @@ fn snapshot_told(
     }
 }
 
-/// The state of a DISTINCT item after the first i entries of its history: the last 32 own rows since the last Clear.
+/// The state of a DISTINCT item after the first i entries of its history: the own rows since the last
+/// Clear, as many of the last as are kept.
 #[tactic(auto, using(crate::proofs::More::last_rows))]
 pub fn plain_recent_rows(alloc: Global, history: &[Entry], i: usize) -> Result<Vec<Row>, NoMemory>
     requires { i ≤ length history.now }
     ensures { IfOk result (λ rows. rows.items ≡ recent_rows history.now i) }
 {
     let own = own_rows(alloc, history, clear_or(history, 0, i), i)?;
-    rows_from(alloc, &own, own.len().saturating_sub(32))
+    rows_from(alloc, &own, own.len().saturating_sub(MOST_SNAPSHOT_ROWS))
 }
 
 /// The rows of these updates behind the first so many.

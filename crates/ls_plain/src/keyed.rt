@@ -1,17 +1,20 @@
 //! The state of a COMMAND item from its whole history (General Concepts, mode COMMAND).
-ghost use Rattle.std.specs.Prelude.{◌≡◌, ◌≤◌, ◌<◌, IfOk, IfSome, IfNone, OnOk, IsTrue, length, slice_get, set, unwrap_or};
+ghost use Rattle.std.specs.Prelude.{◌≡◌, ◌≤◌, ◌<◌, IfOk, IfSome, IfNone, OnOk, IsTrue, length, slice_get, set};
+ghost use Rattle.std.specs.Prelude.{unwrap_or};
 ghost use Rattle.std.specs.List.{remove as list_without};
 ghost use Rattle.ls_value.specs.declared.row.Value.TheVariants as value;
 ghost use Rattle.ls_value.specs.Values.{applied, nulls, cell_at, kept_or_taken, text_eq};
-ghost use Rattle.ls_event.specs.Keyed.{is_before, text_of, deletes, row_at, with_row, without, row_with, keyed_after, keyed};
-ghost use Rattle.ls_item.specs.Keys.{place_in, has_key};
+ghost use Rattle.ls_event.specs.Keyed.{is_before, text_of_cell, deletes, row_at, with_row, without, row_with};
+ghost use Rattle.ls_event.specs.Keyed.{keyed_after, keyed};
+ghost use Rattle.ls_item.specs.Keys.{index_in, has_key};
 ghost use Rattle.ls_plain.specs.Shapes.{command_shape};
 
-use ls_event::{Entry, Event, KeyedRow};
+use ls_event::{Entry, Event, KeyedRow, Order};
 use ls_value::{Cell, NoMemory, Row, Text, Value, same_bytes};
 use std::alloc::Global;
 
-/// What the definition of a COMMAND item settles: how many fields it has, and the places of its key and its command among them.
+/// What the definition of a COMMAND item settles: how many fields it has, and the places of its key and its command
+/// among them.
 #[derive(Clone, Copy, Debug)]
 pub struct CommandShape {
     pub fields: usize,
@@ -19,7 +22,8 @@ pub struct CommandShape {
     pub command: usize,
 }
 
-/// The keys of a COMMAND item with their rows after the first i entries of its history, in the order of the keys' bytes.
+/// The keys of a COMMAND item with their rows after the first i entries of its history, in the order of the keys'
+/// bytes.
 pub fn plain_keyed(
     alloc: Global,
     history: &[Entry],
@@ -61,7 +65,8 @@ fn update(
     shape: &CommandShape,
     cells: &[Cell],
 ) -> Result<(), NoMemory>
-    ensures { OnOk result (rows.new.items ≡ keyed_after (command_shape shape.now) rows.old.items (Event.Update cells.now)) }
+    ensures { OnOk result (rows.new.items
+        ≡ keyed_after (command_shape shape.now) rows.old.items (Event.Update cells.now)) }
 {
     let key = text_at(alloc, cells, shape.key)?;
     if deletes(cells, shape) {
@@ -74,7 +79,7 @@ fn update(
 
 /// The text of the cell at a place, or the empty one.
 pub fn text_at(alloc: Global, cells: &[Cell], place: usize) -> Result<Text, NoMemory>
-    ensures { IfOk result (λ text. text ≡ text_of (cell_at cells.now place)) }
+    ensures { IfOk result (λ text. text ≡ text_of_cell (cell_at cells.now place)) }
 {
     match cells.get(place) {
         Some(Cell::Text(text)) => text.copy(alloc),
@@ -87,7 +92,7 @@ fn deletes(cells: &[Cell], shape: &CommandShape) -> bool
     ensures { result ≡ deletes (command_shape shape.now) cells.now }
 {
     match cells.get(shape.command) {
-        Some(Cell::Text(text)) => same_bytes(text.as_bytes(), b"DELETE"),
+        Some(Cell::Text(text)) => same_bytes(text.as_bytes(), Order::Delete.word().as_bytes()),
         _ => false,
     }
 }
@@ -131,7 +136,7 @@ fn put(rows: &mut Vec<KeyedRow>, new: KeyedRow) -> Result<(), NoMemory>
 
 /// The number of keys before this one, in their order.
 fn place_for(rows: &[KeyedRow], key: &[u8]) -> usize
-    ensures place { result ≡ place_in key.now rows.now }
+    ensures place { result ≡ index_in key.now rows.now }
     ensures within { result ≤ length rows.now }
 {
     for i in 0..rows.len() {

@@ -1,6 +1,8 @@
 //! The state of an item and the cuts of mode MERGE, from whole histories.
-ghost use Rattle.std.specs.Prelude.{◌≡◌, ◌<◌, ◌≤◌, ◌||◌, ℕ, List, Bool, All, IfOk, OnOk, length, replicate, not, if◌then◌else◌};
-ghost use Rattle.ls_event.specs.Cuts.{merge_cut, says, told, told_cells, touched_after, touched_after_all, touched_cells};
+ghost use Rattle.std.specs.Prelude.{◌≡◌, ◌<◌, ◌≤◌, ◌||◌, ℕ, List, Bool, All, IfOk, OnOk, length, replicate, not};
+ghost use Rattle.std.specs.Prelude.{if◌then◌else◌};
+ghost use Rattle.ls_event.specs.Cuts.{merge_cut, says, cell_saying, flagged_cells, touched_after, touched_after_all};
+ghost use Rattle.ls_event.specs.Cuts.{touched_cells};
 ghost use Rattle.ls_event.specs.History.{HasFields, between, merged, row_after};
 ghost use Rattle.ls_plain.specs.Plain.{merge_slot};
 
@@ -8,8 +10,8 @@ use ls_event::{Entry, Event, Taken};
 use ls_value::{Cell, Cells, NoMemory, Row, Value, apply};
 use std::alloc::Global;
 
-/// The merged state of an item of so many fields after the first i entries of its history (General Concepts, mode MERGE).
-/// Each update has a cell for each field.
+/// The merged state of an item of so many fields after the first i entries of its history (General Concepts, mode
+/// MERGE). Each update has a cell for each field.
 #[tactic(auto, using(ls_event::proofs::Merged::row_after_length))]
 pub fn merged_row(
     alloc: Global,
@@ -42,57 +44,69 @@ fn step_row(alloc: Global, row: &mut Row, event: &Event) -> Result<(), NoMemory>
     }
 }
 
-/// The next cut of a slot of mode MERGE, where `last` is the last number that was enqueued and `place` the number up to which
-/// lines told; `None` where there is none (General Concepts, mode MERGE and buffers). The size is at least 1.
+/// The numbers of a slot of mode MERGE.
+#[derive(Clone, Copy, Debug)]
+pub struct MergeSlot {
+    /// How many fields the item has.
+    pub fields: usize,
+    /// The buffer's size.
+    pub size: u64,
+    /// The last number that was enqueued.
+    pub last: u64,
+    /// The number up to which lines tell of the item.
+    pub cursor: u64,
+    /// Whether a first line was given.
+    pub has_started: bool,
+}
+
+/// The next cut of a slot of mode MERGE; `None` where there is none (General Concepts, mode MERGE and buffers). The
+/// size is at least 1.
 #[tactic(auto, using(ls_event::proofs::Merged::merged_length))]
 pub fn plain_merge_cut(
     alloc: Global,
     history: &[Entry],
-    last: u64,
-    place: u64,
-    size: u64,
-    fields: usize,
-    given: bool,
+    slot: &MergeSlot,
 ) -> Result<Option<Taken>, NoMemory>
-    requires within { last ≤ length history.now }
-    requires size { 0 < size }
-    requires cells { All (λ e. HasFields fields e.event) history.now }
-    ensures { IfOk result (λ t. t ≡ merge_cut history.now (merge_slot fields size last place given)) }
+    requires within { slot.now.last ≤ length history.now }
+    requires size { 0 < slot.now.size }
+    requires cells { All (λ e. HasFields slot.now.fields e.event) history.now }
+    ensures { IfOk result (λ t. t ≡ merge_cut history.now (merge_slot slot.now)) }
 {
-    if place >= last {
+    if slot.cursor >= slot.last {
         return Ok(None);
     }
-    let upto = place.max(last.saturating_sub(size)) + 1;
+    let upto = slot.cursor.max(slot.last.saturating_sub(slot.size)) + 1;
     let flags = touched_between(
         alloc,
-        fields,
+        slot.fields,
         history,
-        place as usize,
+        slot.cursor as usize,
         upto as usize,
-        !given,
+        !slot.has_started,
     )?;
-    let row = merged_row(alloc, fields, history, upto as usize)?;
+    let row = merged_row(alloc, slot.fields, history, upto as usize)?;
     let cells = Cells::of(cells_at(alloc, &flags, row.as_slice())?);
     Ok(Some(Taken::Change { cells, upto }))
 }
 
-/// Which fields the entries numbered `place` + 1 to `upto` touch, where each began with this flag.
+/// Which fields the entries numbered `cursor` + 1 to `upto` touch, where each began with this flag.
 #[tactic(auto, using(ls_event::proofs::Cuts::touched_after_length))]
 fn touched_between(
     alloc: Global,
     fields: usize,
     history: &[Entry],
-    place: usize,
+    cursor: usize,
     upto: usize,
     flag: bool,
 ) -> Result<Vec<bool>, NoMemory>
-    requires order { place ≤ upto }
+    requires order { cursor ≤ upto }
     requires within { upto ≤ length history.now }
     requires cells { All (λ e. HasFields fields e.event) history.now }
-    ensures { IfOk result (λ touched. (length touched.items ≡ fields) × (touched.items ≡ touched_after_all (replicate fields flag) (between history.now place upto))) }
+    ensures { IfOk result (λ touched. (length touched.items ≡ fields)
+        × (touched.items ≡ touched_after_all (replicate fields flag) (between history.now cursor upto))) }
 {
     let mut touched = flags(alloc, fields, flag)?;
-    for i in place..upto {
+    for i in cursor..upto {
         touched = touched_by(alloc, &touched, &history[i].event)?;
     }
     Ok(touched)
@@ -142,7 +156,7 @@ fn touched_flag(flag: bool, cell: &Cell) -> bool
 /// The cells that tell the values of the fields whose flag is set.
 fn cells_at(alloc: Global, flags: &[bool], row: &[Value]) -> Result<Vec<Cell>, NoMemory>
     requires { length flags.now ≡ length row.now }
-    ensures { IfOk result (λ cells. cells.items ≡ told_cells flags.now row.now) }
+    ensures { IfOk result (λ cells. cells.items ≡ flagged_cells flags.now row.now) }
 {
     let mut cells = Vec::new(alloc);
     for i in 0..flags.len() {
@@ -153,7 +167,7 @@ fn cells_at(alloc: Global, flags: &[bool], row: &[Value]) -> Result<Vec<Cell>, N
 
 /// The cell of a field.
 fn cell_at(alloc: Global, flag: bool, value: &Value) -> Result<Cell, NoMemory>
-    ensures { IfOk result (λ cell. cell ≡ (if flag then told value.now else Cell.Same)) }
+    ensures { IfOk result (λ cell. cell ≡ (if flag then cell_saying value.now else Cell.Same)) }
 {
     if !flag {
         return Ok(Cell::Same);

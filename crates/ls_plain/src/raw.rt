@@ -4,35 +4,35 @@ ghost use Rattle.ls_event.specs.OwnCuts.{raw_cut, raw_taken};
 ghost use Rattle.ls_plain.specs.Plain.{raw_slot};
 
 use crate::updates::own_rows;
-use ls_event::{Entry, OwnRow, Taken};
+use ls_event::{Entry, OwnRow, RAW_KEEPS, Taken};
 use ls_value::NoMemory;
 use std::alloc::Global;
 
-/// The next cut of a slot of mode RAW, where `last` is the last number that was enqueued and `place` the number up to which
-/// lines told; `None` where there is none (General Concepts, mode RAW and buffers).
+/// The next cut of a slot of mode RAW, where `last` is the last number that was enqueued and `cursor` the number up to
+/// which lines tell of the item; `None` where there is none (General Concepts, mode RAW and buffers).
 pub fn plain_raw_cut(
     alloc: Global,
     history: &[Entry],
     last: u64,
-    place: u64,
+    cursor: u64,
 ) -> Result<Option<Taken>, NoMemory>
-    requires order { place ≤ last }
+    requires order { cursor ≤ last }
     requires within { last ≤ length history.now }
-    ensures { IfOk result (λ t. t ≡ raw_cut history.now (raw_slot last place)) }
+    ensures { IfOk result (λ t. t ≡ raw_cut history.now (raw_slot last cursor)) }
 {
-    let rows = own_rows(alloc, history, place as usize, last as usize)?;
-    let lost = rows.len().saturating_sub(256);
+    let rows = own_rows(alloc, history, cursor as usize, last as usize)?;
+    let lost = rows.len().saturating_sub(RAW_KEEPS);
     match rows.get(lost) {
         None => Ok(None),
         Some(own) => {
-            let taken = told(alloc, own, lost as u64)?;
+            let taken = taken_of(alloc, own, lost as u64)?;
             Ok(Some(taken))
         }
     }
 }
 
-/// What is told of an update, where so many before it were lost.
-fn told(alloc: Global, own: &OwnRow, lost: u64) -> Result<Taken, NoMemory>
+/// The cut of an update, where so many before it were lost.
+fn taken_of(alloc: Global, own: &OwnRow, lost: u64) -> Result<Taken, NoMemory>
     ensures { IfOk result (λ t. t ≡ raw_taken lost own.now) }
 {
     if lost > 0 {

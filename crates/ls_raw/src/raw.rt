@@ -1,57 +1,57 @@
 //! The buffer of a slot in mode RAW.
-ghost use Rattle.std.specs.Prelude.{◌≡◌, ◌+◌, ◌-◌, ◌<◌, ◌≤◌, ◌^◌, ℕ, List, [], IfOk, OnOk, OnErr, IsSome, length, nat_lt};
+ghost use Rattle.std.specs.Prelude.{◌≡◌, ◌+◌, ◌-◌, ◌<◌, ◌≤◌, ℕ, List, [], IfOk, OnOk, OnErr, IsSome, length, nat_lt};
+ghost use Rattle.ls_value.specs.declared.limits.TheConstants.{GREATEST_NUMBER};
 ghost use Rattle.ls_event.specs.Slots.{Plan, fresh};
 ghost use Rattle.ls_event.specs.OwnCuts.{raw_taken};
 ghost use Rattle.ls_event.specs.Updates.{own_row};
 ghost use Rattle.ls_event.specs.declared.event.Entry.{Entry};
-ghost use Rattle.ls_raw.specs.Raw.{StandsRaw, IsJoining, raw_head, raw_after, raw_passed, first_no, kept_more};
+ghost use Rattle.ls_raw.specs.Raw.{StandsRaw, IsJoining, raw_head, raw_after, raw_passed, raw_first_no, raw_updated};
 
 use circular_buffer::HeapCircularBuffer;
-use ls_event::{Event, OwnRow, Taken, own_row};
+use ls_event::{Event, OwnRow, RAW_KEEPS, Taken, own_row};
 use ls_ring::push;
 use ls_value::{NoMemory, Row};
 use std::alloc::Global;
 use std::marker::Model;
 
-/// The most updates that are kept (this project's profile).
-const MOST: usize = 256;
-
-/// What a slot in mode RAW still has to tell: the last 256 updates, each with its own row, and how many older ones were lost.
-/// It keeps the allocator that `new` took, for all that its later calls take.
+/// What a slot in mode RAW still has to tell: the last [`RAW_KEEPS`] updates, each with its own row, and how many older
+/// ones were lost. It keeps the allocator that `new` took, for all that its later calls take.
 #[derive(Drop)]
 pub struct RawBuffer {
     alloc: Global,
     kept: HeapCircularBuffer<OwnRow>,
     lost: u64,
-    place: u64,
+    cursor: u64,
     last: u64,
 }
 
 impl Model for RawBuffer {
     ghost use Rattle.std.specs.Prelude.{◌≤◌};
+    ghost use Rattle.ls_event.specs.declared.limits.TheConstants.{RAW_KEEPS as AS_MANY};
     ghost use Rattle.ls_raw.specs.Raw.{Raw};
 
     ghost Value = { Raw };
 
-    ghost view = { λ b. record { kept = b.kept.items; lost = b.lost; place = b.place; last = b.last } };
+    ghost view = { λ b. record { kept = b.kept.items; lost = b.lost; cursor = b.cursor; last = b.last } };
 
-    ghost invariant = { λ b. (b.kept.capacity ≤ 256) × (b.lost ≤ b.last) };
+    ghost invariant = { λ b. (b.kept.capacity ≤ AS_MANY) × (b.lost ≤ b.last) };
 }
 
 impl RawBuffer {
     /// The buffer of a slot that joins where the item has `base` events. Room for updates is taken as they come.
     pub fn new(alloc: Global, base: u64) -> Result<RawBuffer, NoMemory>
-        ensures ok { IfOk result (λ b. b ≡ record { kept = []; lost = 0; place = base; last = base }) }
+        ensures ok { IfOk result (λ b. b ≡ record { kept = []; lost = 0; cursor = base; last = base }) }
 
         // It stands for a fresh slot at that number.
-        ensures stands { IfOk result (λ b. (p : Plan) (h : List Entry) → IsJoining base p h → StandsRaw b (fresh p base) h) }
+        ensures stands { IfOk result (λ b. (p : Plan) (h : List Entry) → IsJoining base p h
+            → StandsRaw b (fresh p base) h) }
     {
         let kept = HeapCircularBuffer::with_capacity(alloc, 0)?;
         Ok(RawBuffer {
             alloc,
             kept,
             lost: 0,
-            place: base,
+            cursor: base,
             last: base,
         })
     }
@@ -63,14 +63,14 @@ impl RawBuffer {
         self.last
     }
 
-    /// Whether an event is enqueued that no line told; a Clear counts too.
+    /// Whether an event is enqueued that no cut took; a Clear counts too.
     pub fn pending(&self) -> bool
-        ensures { result ≡ nat_lt self.now.place self.now.last }
+        ensures { result ≡ nat_lt self.now.cursor self.now.last }
     {
-        self.place < self.last
+        self.cursor < self.last
     }
 
-    /// How many updates its cuts will still tell.
+    /// How many updates wait.
     pub fn waiting(&self) -> u64
         ensures { result ≡ length self.now.kept }
     {
@@ -79,7 +79,7 @@ impl RawBuffer {
 
     /// Takes the event of the next number. After `NoMemory` it is as before.
     pub fn enqueue(&mut self, event: &Event) -> Result<(), NoMemory>
-        requires { self.old.last < 2 ^ 60 }
+        requires { self.old.last < GREATEST_NUMBER }
         ensures ok { OnOk result (self.new ≡ raw_after self.old event.now) }
         ensures err { OnErr result (self.new ≡ self.old) }
     {
@@ -94,20 +94,20 @@ impl RawBuffer {
 
     /// Keeps the own row of the update of the next number.
     fn keep(&mut self, row: Row) -> Result<(), NoMemory>
-        requires { self.old.last < 2 ^ 60 }
-        ensures ok { OnOk result (self.new ≡ kept_more self.old row) }
+        requires { self.old.last < GREATEST_NUMBER }
+        ensures ok { OnOk result (self.new ≡ raw_updated self.old row) }
         ensures err { OnErr result (self.new ≡ self.old) }
     {
         let no = self.last + 1;
-        if push(&mut self.kept, OwnRow { row, no }, MOST)? {
+        if push(&mut self.kept, OwnRow { row, no }, RAW_KEEPS)? {
             self.lost += 1;
         }
         self.last = no;
         Ok(())
     }
 
-    /// The next cut: how many updates were lost, where some were, and else the own row of the first that is kept. `None` where
-    /// no update is left.
+    /// The next cut: how many updates were lost, where some were, and else the own row of the first that is kept.
+    /// `None` where no update is kept.
     pub fn look(&self) -> Result<Option<Taken>, NoMemory>
         ensures { IfOk result (λ t. t ≡ raw_head self.now) }
     {
@@ -125,19 +125,19 @@ impl RawBuffer {
         requires { IsSome (raw_head self.old) }
         ensures { self.new ≡ raw_passed self.old }
     {
-        let no = self.first_no();
+        let no = self.raw_first_no();
         if self.lost > 0 {
             self.lost = 0;
-            self.place = no.saturating_sub(1);
+            self.cursor = no.saturating_sub(1);
         } else {
-            let _told = self.kept.pop_front();
-            self.place = no;
+            let _taken = self.kept.pop_front();
+            self.cursor = no;
         }
     }
 
     /// The number of the first update that is kept, 0 where none is.
-    fn first_no(&self) -> u64
-        ensures { result ≡ first_no self.now }
+    fn raw_first_no(&self) -> u64
+        ensures { result ≡ raw_first_no self.now }
     {
         match self.kept.front() {
             None => 0,
@@ -146,7 +146,7 @@ impl RawBuffer {
     }
 }
 
-/// What is told of the first update that is kept, where so many before it were lost.
+/// The cut of the first update that is kept, where so many before it were lost.
 fn taken_of(alloc: Global, own: &OwnRow, lost: u64) -> Result<Taken, NoMemory>
     ensures { IfOk result (λ t. t ≡ raw_taken lost own.now) }
 {

@@ -5,7 +5,7 @@ ghost use Rattle.ls_form.specs.Forms.{text_under};
 ghost use Rattle.ls_event.specs.declared.event.Snap.TheVariants as snap;
 ghost use Rattle.ls_request.specs.Values.{sub_of, mode_of, all_named, names_of, snap_of, size_of, frequency_of};
 ghost use Rattle.ls_request.specs.Requests.{or_absent, needed, says_more, add_of};
-ghost use Rattle.ls_request.specs.Ranges.{IsCount, IsRate, SnapFits, AddFits};
+ghost use Rattle.ls_request.specs.Ranges.{IsOrdinal, IsRate, SnapFits, AddFits};
 
 use crate::request::Add;
 use crate::values;
@@ -17,7 +17,7 @@ use std::alloc::{AllocError, Global};
 /// The subscription's number.
 pub(crate) fn sub(params: &Params) -> Option<u32>
     ensures value { result ≡ needed sub_of (text_under params.now (codes "LS_subId")) }
-    ensures fits { IfSome result IsCount }
+    ensures fits { IfSome result IsOrdinal }
 {
     match params.find(b"LS_subId") {
         Some(text) => values::sub(text.as_bytes()),
@@ -59,7 +59,7 @@ fn snapshot(mode: Mode, params: &Params) -> Option<Snap>
 /// The size of the buffers: the mode's default where it is absent.
 fn size(params: &Params) -> Option<Option<u32>>
     ensures value { result ≡ or_absent None size_of (text_under params.now (codes "LS_requested_buffer_size")) }
-    ensures fits { IfSome result (λ r. IfSome r IsCount) }
+    ensures fits { IfSome result (λ r. IfSome r IsOrdinal) }
 {
     match params.find(b"LS_requested_buffer_size") {
         Some(text) => values::size(text.as_bytes()),
@@ -85,14 +85,6 @@ fn words<'a>(alloc: Global, text: &'a str) -> Result<Vec<&'a str>, AllocError>
     text.split(' ').collect(alloc)
 }
 
-/// The text of a `str`.
-fn text_of(alloc: Global, word: &str) -> Result<Text, NoMemory>
-    ensures { IfOk result (λ text. text ≡ word.now) }
-{
-    let string = String::from_str(alloc, word)?;
-    Ok(Text::from_string(string))
-}
-
 /// The names that words say: `None` exactly where one of them is empty.
 fn names_from(alloc: Global, words: &[&str]) -> Result<Option<Names>, NoMemory>
     ensures { IfOk result (λ names. names ≡ all_named (map (λ w. w.now) words.now)) }
@@ -102,7 +94,7 @@ fn names_from(alloc: Global, words: &[&str]) -> Result<Option<Names>, NoMemory>
         if word.is_empty() {
             return Ok(None);
         }
-        names.push(text_of(alloc, word)?)?;
+        names.push(Text::from_str(alloc, word)?)?;
     }
     Ok(Some(Names::of(names)))
 }

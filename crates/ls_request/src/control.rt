@@ -1,21 +1,23 @@
 //! Control requests (TLCP 2.1, control).
-ghost use Rattle.std.specs.Prelude.{◌≡◌, ◌≤◌, ◌^◌, IfOk, IfSome, codes, length as list_length};
+ghost use Rattle.std.specs.Prelude.{◌≡◌, ◌≤◌, IfOk, IfSome, codes, length as list_length};
 ghost use Rattle.ls_form.specs.Forms.{text_under};
 ghost use Rattle.ls_request.specs.Values.{req_of, frequency_of, bandwidth_of};
-ghost use Rattle.ls_request.specs.Requests.{needed, delete_of, reconf_of, constrain_of, plain_op_of, op_of, control_session, control_req, control_of};
+ghost use Rattle.ls_request.specs.Requests.{needed, delete_of, reconf_of, constrain_of, plain_op_of, op_of};
+ghost use Rattle.ls_request.specs.Requests.{control_session, control_req, control_of};
 ghost use Rattle.ls_request.specs.Ranges.{IsRate, OpFits, ControlFits};
 
 use crate::add::{add, sub};
+use crate::limits::MOST_OWN_NAME;
 use crate::request::{Control, LinkKind, Op};
 use crate::values;
 use ls_form::Params;
-use ls_value::{NoMemory, Text, same_bytes};
+use ls_value::{GREATEST_NUMBER, NoMemory, Text, same_bytes};
 use std::alloc::Global;
 
 /// The request's own name, where it can be read.
 pub(crate) fn req(alloc: Global, params: &Params) -> Result<Option<Text>, NoMemory>
     ensures value { IfOk result (λ r. r ≡ control_req params.now) }
-    ensures fits { IfOk result (λ r. IfSome r (λ t. (1 ≤ list_length t) × (list_length t ≤ 32))) }
+    ensures fits { IfOk result (λ r. IfSome r (λ t. (1 ≤ list_length t) × (list_length t ≤ MOST_OWN_NAME))) }
 {
     match params.find(b"LS_reqId") {
         Some(text) => checked_req(alloc, text),
@@ -26,7 +28,7 @@ pub(crate) fn req(alloc: Global, params: &Params) -> Result<Option<Text>, NoMemo
 /// A copy of a text that is 1 to 32 ASCII letters or digits.
 fn checked_req(alloc: Global, text: &Text) -> Result<Option<Text>, NoMemory>
     ensures value { IfOk result (λ r. r ≡ req_of text.now) }
-    ensures fits { IfOk result (λ r. IfSome r (λ t. (1 ≤ list_length t) × (list_length t ≤ 32))) }
+    ensures fits { IfOk result (λ r. IfSome r (λ t. (1 ≤ list_length t) × (list_length t ≤ MOST_OWN_NAME))) }
 {
     if !values::is_req(text.as_bytes()) {
         return Ok(None);
@@ -37,7 +39,7 @@ fn checked_req(alloc: Global, text: &Text) -> Result<Option<Text>, NoMemory>
 /// The session of a control request: over HTTP it is needed.
 fn session(link: LinkKind, params: &Params) -> Option<Option<u64>>
     ensures value { result ≡ control_session link (text_under params.now (codes "LS_session")) }
-    ensures fits { IfSome result (λ r. IfSome r (λ n. n ≤ 2 ^ 60)) }
+    ensures fits { IfSome result (λ r. IfSome r (λ n. n ≤ GREATEST_NUMBER)) }
 {
     match params.find(b"LS_session") {
         Some(text) => Some(Some(values::session(text.as_bytes()))),

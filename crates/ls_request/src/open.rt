@@ -1,14 +1,15 @@
 //! Requests that open a stream: create_session and bind_session (TLCP 2.1).
-ghost use Rattle.std.specs.Prelude.{◌≡◌, ◌≤◌, ◌^◌, None, Some, IfOk, IfSome, codes};
+ghost use Rattle.std.specs.Prelude.{◌≡◌, ◌≤◌, None, Some, IfOk, IfSome, codes};
 ghost use Rattle.ls_form.specs.Forms.{text_under};
 ghost use Rattle.ls_request.specs.Values.{keepalive_of, bandwidth_of, recovery_of};
 ghost use Rattle.ls_request.specs.Requests.{or_absent, says, content_length, create_of, bind_of};
 ghost use Rattle.ls_request.specs.Ranges.{IsKeepalive, IsLength, IsRate, CreateFits, BindFits};
 
+use crate::limits::{DEFAULT_KEEPALIVE, DEFAULT_LENGTH};
 use crate::request::{Bind, Create, LinkKind};
 use crate::values;
 use ls_form::Params;
-use ls_value::{NoMemory, Text, same_bytes};
+use ls_value::{GREATEST_NUMBER, NoMemory, Text, same_bytes};
 use std::alloc::Global;
 
 /// Whether the client would poll, which isn't served.
@@ -23,12 +24,13 @@ fn polls(params: &Params) -> bool
 
 /// The keep-alive time: 5,000 where it is absent.
 fn keepalive(params: &Params) -> Option<u32>
-    ensures value { result ≡ or_absent 5000 keepalive_of (text_under params.now (codes "LS_keepalive_millis")) }
+    ensures value { result
+        ≡ or_absent DEFAULT_KEEPALIVE keepalive_of (text_under params.now (codes "LS_keepalive_millis")) }
     ensures fits { IfSome result IsKeepalive }
 {
     match params.find(b"LS_keepalive_millis") {
         Some(text) => values::keepalive(text.as_bytes()),
-        None => Some(5000),
+        None => Some(DEFAULT_KEEPALIVE),
     }
 }
 
@@ -50,7 +52,7 @@ fn http_length(params: &Params) -> Option<Option<u64>>
 {
     match params.find(b"LS_content_length") {
         Some(text) => values::length(text.as_bytes()),
-        None => Some(Some(50_000_000)),
+        None => Some(Some(DEFAULT_LENGTH)),
     }
 }
 
@@ -68,7 +70,7 @@ fn bandwidth(params: &Params) -> Option<Option<u64>>
 /// The number of data lines that the client has: none where it is absent.
 fn recovery(params: &Params) -> Option<Option<u64>>
     ensures value { result ≡ or_absent None recovery_of (text_under params.now (codes "LS_recovery_from")) }
-    ensures fits { IfSome result (λ r. IfSome r (λ n. n ≤ 2 ^ 60)) }
+    ensures fits { IfSome result (λ r. IfSome r (λ n. n ≤ GREATEST_NUMBER)) }
 {
     match params.find(b"LS_recovery_from") {
         Some(text) => values::recovery(text.as_bytes()),

@@ -11,7 +11,8 @@ use ls_form::{FormRefused, Params, pairs};
 use ls_value::{NoMemory, Text, same_bytes};
 use std::alloc::Global;
 
-/// A request, by its name and the form text of its parameters (TLCP 2.1, requests; forms and limits are this project's profile).
+/// A request, by its name and the form text of its parameters (TLCP 2.1, requests; forms and limits are this project's
+/// profile).
 ///
 /// `Malformed` exactly where they say no request.
 pub fn read(
@@ -22,7 +23,8 @@ pub fn read(
 ) -> Result<Request, RequestRefused>
     ensures read { IfOk result (λ request. read_of link name.now params.now ≡ Some request) }
     ensures fits { IfOk result RequestFits }
-    ensures refused { IfErr result (λ e. (e ≡ RequestRefused.NoMemory) ⊎ ((read_of link name.now params.now ≡ None) × (e ≡ RequestRefused.Malformed (req_read name.now params.now)))) }
+    ensures refused { IfErr result (λ e. (e ≡ RequestRefused.NoMemory)
+        ⊎ ((read_of link name.now params.now ≡ None) × (e ≡ RequestRefused.Malformed (req_read name.now params.now)))) }
 {
     let Some(params) = form(alloc, params)? else {
         return Err(RequestRefused::Malformed { req: None });
@@ -30,8 +32,8 @@ pub fn read(
     read_pairs(alloc, link, name, &params)
 }
 
-/// A request, by its name and the pairs of its parameters, of which the first with a name counts (TLCP 2.1, requests; forms and
-/// limits are this project's profile).
+/// A request, by its name and the pairs of its parameters, of which the first with a name counts (TLCP 2.1, requests;
+/// forms and limits are this project's profile).
 ///
 /// `Malformed` exactly where they say no request.
 pub fn read_pairs(
@@ -42,7 +44,9 @@ pub fn read_pairs(
 ) -> Result<Request, RequestRefused>
     ensures read { IfOk result (λ request. request_of link name.now params.now ≡ Some request) }
     ensures fits { IfOk result RequestFits }
-    ensures refused { IfErr result (λ e. (e ≡ RequestRefused.NoMemory) ⊎ ((request_of link name.now params.now ≡ None) × (e ≡ RequestRefused.Malformed (req_behind name.now params.now)))) }
+    ensures refused { IfErr result (λ e. (e ≡ RequestRefused.NoMemory)
+        ⊎ ((request_of link name.now params.now ≡ None)
+        × (e ≡ RequestRefused.Malformed (req_behind name.now params.now)))) }
 {
     match request(alloc, link, name, params)? {
         Some(request) => Ok(request),

@@ -61,7 +61,8 @@ pub struct Control {
     pub op: Op,
 }
 
-/// What a control request asks for (TLCP 2.1, LS_op). Subscription numbers are from 1 to 999,999,999.
+/// What a control request asks for (TLCP 2.1, LS_op). A subscription's number is an ordinal, from 1
+/// to `GREATEST_ORDINAL` (ls_value).
 #[derive(Drop)]
 pub enum Op {
     /// A new subscription.
@@ -81,7 +82,7 @@ pub enum Op {
 /// A new subscription (TLCP 2.1, control with LS_op add). What its mode ignores stands here as it was read.
 #[derive(Drop)]
 pub struct Add {
-    /// The subscription's number, from 1 to 999,999,999.
+    /// The subscription's number, an ordinal.
     pub sub: u32,
     /// How its slots tell of their items.
     pub mode: Mode,
@@ -89,9 +90,9 @@ pub struct Add {
     pub group: Names,
     /// The names of the fields, none of them empty.
     pub schema: Names,
-    /// The snapshot that is asked for. The last so many rows only in mode DISTINCT, and then from 1 to 999,999,999.
+    /// The snapshot that is asked for. The last so many rows only in mode DISTINCT; how many is an ordinal.
     pub snapshot: Snap,
-    /// The size of the buffers, from 1 to 999,999,999, where `unlimited` is the greatest. `None` is the mode's default.
+    /// The size of the buffers, an ordinal; `unlimited` is the greatest. `None` is the mode's default.
     pub size: Option<u32>,
     /// The most updates of an item, in thousandths per second, above 0. `None` is unlimited.
     pub frequency: Option<u64>,
@@ -100,7 +101,8 @@ pub struct Add {
 /// Why a request isn't read.
 #[derive(Drop)]
 pub enum RequestRefused {
-    /// It is outside the form of requests. The request's own name is told exactly where it is a control request whose name was read.
+    /// It is outside the form of requests. The request's own name is told exactly where it is a control request whose
+    /// name was read.
     Malformed { req: Option<Text> },
     /// Memory was refused.
     NoMemory,

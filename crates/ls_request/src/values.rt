@@ -1,30 +1,34 @@
 //! The values of requests' parameters (TLCP 2.1, requests; forms and limits are this project's profile).
-ghost use Rattle.std.specs.Prelude.{◌≡◌, ◌≤◌, ◌^◌, IfSome};
-ghost use Rattle.ls_request.specs.Values.{decimal_of, capped, milli_above_0, bandwidth_of, frequency_of, keepalive_of, length_of, recovery_of, session_of, is_req_byte, is_req, sub_of, mode_of, snap_by, snap_of, size_of};
-ghost use Rattle.ls_request.specs.Ranges.{IsRate, IsKeepalive, IsLength, IsCount, SnapFits};
+ghost use Rattle.std.specs.Prelude.{◌≡◌, ◌≤◌, IfSome};
+ghost use Rattle.ls_request.specs.Values.{decimal_of, capped, milli_above_0, bandwidth_of, frequency_of, keepalive_of};
+ghost use Rattle.ls_request.specs.Values.{length_of, recovery_of, session_of, is_req_byte, is_req, sub_of, mode_of};
+ghost use Rattle.ls_request.specs.Values.{snap_by, snap_of, size_of};
+ghost use Rattle.ls_request.specs.Ranges.{IsRate, IsKeepalive, IsLength, IsOrdinal, SnapFits};
 
+use crate::limits::{GREATEST_KEEPALIVE, LEAST_KEEPALIVE, LEAST_LENGTH, MOST_OWN_NAME};
 use ls_event::{Mode, Snap};
 use ls_form::read_milli;
-use ls_value::same_bytes;
+use ls_value::{GREATEST_NUMBER, GREATEST_ORDINAL, same_bytes};
 use ls_words::number_in;
 
-/// The greatest size of a buffer, and the greatest number of rows of a snapshot.
-const MOST: u32 = 999_999_999;
-
-/// The number of a decimal of at most 2^60.
+/// The number of a decimal that isn't above the greatest number.
 fn decimal(text: &[u8]) -> Option<u64>
     ensures number { result ≡ decimal_of text.now }
-    ensures most { IfSome result (λ n. n ≤ 2 ^ 60) }
+    ensures most { IfSome result (λ n. n ≤ GREATEST_NUMBER) }
 {
-    number_in(text, 0, 1_152_921_504_606_846_976)
+    number_in(text, 0, GREATEST_NUMBER)
 }
 
-/// A number, or the greatest where it is above that.
+/// An ordinal: the greatest, where a number is above it.
 fn cap(n: u64) -> u32
     ensures number { result ≡ capped n }
-    ensures fits { 1 ≤ n → IsCount result }
+    ensures fits { 1 ≤ n → IsOrdinal result }
 {
-    if n < 999_999_999 { n as u32 } else { MOST }
+    if n < GREATEST_ORDINAL as u64 {
+        n as u32
+    } else {
+        GREATEST_ORDINAL
+    }
 }
 
 /// The thousandths of a decimal above 0.
@@ -64,7 +68,7 @@ pub(crate) fn keepalive(text: &[u8]) -> Option<u32>
     ensures fits { IfSome result IsKeepalive }
 {
     let n = decimal(text)?;
-    Some(n.max(1000).min(30_000) as u32)
+    Some(n.max(LEAST_KEEPALIVE).min(GREATEST_KEEPALIVE) as u32)
 }
 
 /// LS_content_length: from 1,000.
@@ -73,13 +77,13 @@ pub(crate) fn length(text: &[u8]) -> Option<Option<u64>>
     ensures fits { IfSome result (λ r. IfSome r IsLength) }
 {
     let n = decimal(text)?;
-    Some(Some(n.max(1000)))
+    Some(Some(n.max(LEAST_LENGTH)))
 }
 
 /// LS_recovery_from.
 pub(crate) fn recovery(text: &[u8]) -> Option<Option<u64>>
     ensures value { result ≡ recovery_of text.now }
-    ensures fits { IfSome result (λ r. IfSome r (λ n. n ≤ 2 ^ 60)) }
+    ensures fits { IfSome result (λ r. IfSome r (λ n. n ≤ GREATEST_NUMBER)) }
 {
     let n = decimal(text)?;
     Some(Some(n))
@@ -88,7 +92,7 @@ pub(crate) fn recovery(text: &[u8]) -> Option<Option<u64>>
 /// LS_session: `S` and a decimal, or 0 of another text.
 pub(crate) fn session(text: &[u8]) -> u64
     ensures value { result ≡ session_of text.now }
-    ensures fits { result ≤ 2 ^ 60 }
+    ensures fits { result ≤ GREATEST_NUMBER }
 {
     match text {
         [b'S', digits @ ..] => decimal(digits).unwrap_or(0),
@@ -107,7 +111,7 @@ fn is_req_byte(byte: u8) -> bool
 pub(crate) fn is_req(text: &[u8]) -> bool
     ensures { result ≡ is_req text.now }
 {
-    if text.is_empty() || text.len() > 32 {
+    if text.is_empty() || text.len() > MOST_OWN_NAME {
         return false;
     }
     for byte in text {
@@ -118,16 +122,17 @@ pub(crate) fn is_req(text: &[u8]) -> bool
     true
 }
 
-/// LS_subId: from 1 to 999,999,999.
+/// LS_subId: an ordinal.
 pub(crate) fn sub(text: &[u8]) -> Option<u32>
     ensures value { result ≡ sub_of text.now }
-    ensures fits { IfSome result IsCount }
+    ensures fits { IfSome result IsOrdinal }
 {
-    let n = number_in(text, 1, 999_999_999)?;
+    let n = number_in(text, 1, GREATEST_ORDINAL as u64)?;
     Some(n as u32)
 }
 
-/// The mode that a word says: `RAW`, `MERGE`, `DISTINCT` or `COMMAND`, and `None` exactly for other words (TLCP 2.1, LS_mode).
+/// The mode that a word says: `RAW`, `MERGE`, `DISTINCT` or `COMMAND`, and `None` exactly for other words (TLCP 2.1,
+/// LS_mode).
 pub fn mode_of(text: &[u8]) -> Option<Mode>
     ensures { result ≡ mode_of text.now }
 {
@@ -176,11 +181,11 @@ fn snapshot_of_rows(mode: Mode, n: u64) -> Snap
 /// LS_requested_buffer_size: `unlimited` or a decimal from 1.
 pub(crate) fn size(text: &[u8]) -> Option<Option<u32>>
     ensures value { result ≡ size_of text.now }
-    ensures fits { IfSome result (λ r. IfSome r IsCount) }
+    ensures fits { IfSome result (λ r. IfSome r IsOrdinal) }
 {
     if same_bytes(text, b"unlimited") {
-        return Some(Some(MOST));
+        return Some(Some(GREATEST_ORDINAL));
     }
-    let n = number_in(text, 1, 1_152_921_504_606_846_976)?;
+    let n = number_in(text, 1, GREATEST_NUMBER)?;
     Some(Some(cap(n)))
 }

@@ -1,4 +1,0 @@
-pub mod Grammar
-pub mod Adding
-pub mod Ranges
-pub mod Notes

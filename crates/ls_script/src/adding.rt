@@ -1,19 +1,21 @@
-//! The parameters that an `add` line's words are handed on as (this project's profile; TLCP 2.1, control with LS_op add).
+//! The parameters that an `add` line's words are handed on as (this project's profile; TLCP 2.1, control with LS_op
+//! add).
 ghost use Rattle.std.specs.Prelude.{◌≡◌, [], ◌∷◌, ◌++◌, IfOk, true, option_map};
 ghost use Rattle.std.specs.Str.{is_utf8};
-ghost use Rattle.ls_script.specs.Adding.{is_utf8_word, are_utf8, spaced, mode_word, parameter, given, needed_pairs, add_pairs};
+ghost use Rattle.ls_step.specs.Adding.{is_utf8_word, are_utf8, spaced, mode_word, parameter, extra_parameter};
+ghost use Rattle.ls_step.specs.Adding.{needed_pairs, add_pairs};
 
-use crate::step::AddWords;
 use ls_event::Mode;
 use ls_form::{Pair, Params};
-use ls_value::{Bytes, NoMemory, Text, TextRefused};
+use ls_step::AddWords;
+use ls_value::{Bytes, NoMemory, Text};
 use std::alloc::{AllocError, Global};
 
-/// The parameters of the control request that an `add` line says, the line's number being the request's own name: `None`
-/// exactly where one of its words isn't UTF-8.
+/// The parameters of the control request that an `add` line says, the line's number being the request's own name:
+/// `None` exactly where one of its words isn't UTF-8.
 ///
-/// Each word is a parameter's text as it stands, so `+`, `%` and `&` stand for themselves; in items and fields a comma is a
-/// space (this project's profile).
+/// Each word is a parameter's text as it stands, so `+`, `%` and `&` stand for themselves; in items and fields a comma
+/// is a space (this project's profile).
 pub fn add_params(alloc: Global, line: u64, words: &AddWords) -> Result<Option<Params>, NoMemory>
     ensures { IfOk result (λ params. params ≡ add_pairs line words.now) }
 {
@@ -67,13 +69,13 @@ fn needed_pairs(alloc: Global, line: u64, words: &AddWords) -> Result<Vec<Pair>,
 {
     let number = Text::from_string(format!(in alloc; "{line}")?);
     let pairs = with(alloc, Vec::new(alloc), "LS_reqId", number)?;
-    let pairs = with(alloc, pairs, "LS_op", known(alloc, "add")?)?;
+    let pairs = with(alloc, pairs, "LS_op", Text::from_str(alloc, "add")?)?;
     let pairs = with(alloc, pairs, "LS_subId", text(alloc, words.sub.as_slice())?)?;
     let pairs = with(
         alloc,
         pairs,
         "LS_mode",
-        known(alloc, mode_word(words.mode))?,
+        Text::from_str(alloc, mode_word(words.mode))?,
     )?;
     let pairs = with(alloc, pairs, "LS_group", names(alloc, &words.items)?)?;
     let pairs = with(alloc, pairs, "LS_schema", names(alloc, &words.fields)?)?;
@@ -84,7 +86,7 @@ fn needed_pairs(alloc: Global, line: u64, words: &AddWords) -> Result<Vec<Pair>,
 fn with(alloc: Global, mut pairs: Vec<Pair>, name: &str, text: Text) -> Result<Vec<Pair>, NoMemory>
     ensures { IfOk result (λ more. more.items ≡ pairs.items ++ parameter name.now text ∷ []) }
 {
-    let name = known(alloc, name)?;
+    let name = Text::from_str(alloc, name)?;
     pairs.push(Pair { name, text })?;
     Ok(pairs)
 }
@@ -97,7 +99,7 @@ fn with_extra(
     word: &Option<Bytes>,
 ) -> Result<Vec<Pair>, NoMemory>
     requires { is_utf8_word word.now ≡ true }
-    ensures { IfOk result (λ more. more.items ≡ pairs.items ++ given name.now word.now) }
+    ensures { IfOk result (λ more. more.items ≡ pairs.items ++ extra_parameter name.now word.now) }
 {
     match word {
         Some(word) => {
@@ -120,24 +122,12 @@ fn mode_word(mode: Mode) -> &'static str
     }
 }
 
-/// A text that is known.
-fn known(alloc: Global, text: &str) -> Result<Text, NoMemory>
-    ensures { IfOk result (λ t. t ≡ text.now) }
-{
-    let string = String::from_str(alloc, text)?;
-    Ok(Text::from_string(string))
-}
-
 /// The text of these bytes.
 fn text(alloc: Global, bytes: &[u8]) -> Result<Text, NoMemory>
     requires { is_utf8 bytes.now ≡ true }
     ensures { IfOk result (λ t. t ≡ bytes.now) }
 {
-    match Text::of(alloc, bytes) {
-        Ok(text) => Ok(text),
-        Err(TextRefused::NoMemory) => Err(NoMemory),
-        Err(TextRefused::NotUtf8) => unreachable!(),
-    }
+    Text::of_utf8(alloc, bytes)
 }
 
 /// The text of names, divided by spaces, of a word that divides them by commas.

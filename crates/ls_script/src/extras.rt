@@ -1,18 +1,11 @@
 //! The words behind an `add` line's mode.
 ghost use Rattle.std.specs.Prelude.{◌≡◌, ◌∷◌, Some, None, IfOk, map, option_map};
-ghost use Rattle.ls_script.specs.Grammar.{extras, first_extra};
+ghost use Rattle.ls_step.specs.Grammar.{extras, first_extra};
 
 use crate::words::behind;
+use ls_step::Extras;
 use ls_value::{Bytes, NoMemory};
 use std::alloc::Global;
-
-/// The texts behind `snapshot=`, `buffer=` and `frequency=`.
-#[derive(Drop)]
-pub struct Extras {
-    pub snapshot: Option<Bytes>,
-    pub buffer: Option<Bytes>,
-    pub frequency: Option<Bytes>,
-}
 
 /// The text behind a beginning, where the first word has it, and the words that are left.
 fn first_extra<'w, 'a>(begin: &[u8], words: &'w [&'a [u8]]) -> (Option<&'a [u8]>, &'w [&'a [u8]])

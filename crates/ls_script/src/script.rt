@@ -1,25 +1,25 @@
 //! A script's lines: what each asks for, by the names that the lines before it declared (this project's profile).
-ghost use Rattle.std.specs.Prelude.{◌≡◌, ◌<◌, ◌≤◌, [], ◌∷◌, ◌++◌, Option, Some, None, Ok, Err, IfOk, IfSome, OnOk, OnErr, IsErrOf, length, map, true, false, option_map, if◌then◌else◌};
+ghost use Rattle.std.specs.Prelude.{◌≡◌, ◌<◌, ◌≤◌, [], ◌∷◌, ◌++◌, Option, Some, None, Ok, Err, IfOk, IfSome, OnOk};
+ghost use Rattle.std.specs.Prelude.{OnErr, IsErrOf, length, map, true, false, option_map, if◌then◌else◌};
 ghost use Rattle.ls_event.specs.EventText.{event_of};
-ghost use Rattle.ls_words.specs.Words.{split_once};
-ghost use Rattle.ls_words.specs.Numbers.{number_in};
-ghost use Rattle.ls_script.specs.Grammar.{Known, nothing, item_of, connection_of, fields_of, add_said, set_line, item_line, tick_line, conn_line, is_new, open_line, add_line, request_line, update_in, publish_line, clear_line, enqueue_line, take_line, lose_line, two_words, three_words, four_words, five_words, six_words, more_words, words_of, request_on, line_of, is_skipped, known_after};
-ghost use Rattle.ls_script.specs.Ranges.{Fits, RepeatFits};
+ghost use Rattle.ls_words.specs.Words.{divided, pieces_behind, split_once};
+ghost use Rattle.ls_step.specs.Grammar.{Known, nothing, item_of, connection_of, fields_of, add_said, set_line};
+ghost use Rattle.ls_step.specs.Grammar.{item_line, tick_line, conn_line, is_new, open_line, add_line, request_line};
+ghost use Rattle.ls_step.specs.Grammar.{update_in, publish_line, clear_line, enqueue_line, take_line, lose_line};
+ghost use Rattle.ls_step.specs.Grammar.{two_words, three_words, four_words, five_words, six_words, more_words};
+ghost use Rattle.ls_step.specs.Grammar.{words_of, request_on, line_of, is_skipped, known_after};
+ghost use Rattle.ls_step.specs.Ranges.{Fits, RepeatFits};
 
 use crate::extras::read_extras;
-use crate::names::copied_names;
-use crate::step::{AddWords, Repeat, Step};
-use crate::words::{behind, is_word, link_of, number_from, once, so_often, times_of};
+use crate::words::{adapter_of, behind, link_of, number_from, once, so_often, times_of};
 use ls_config::{Declared, Items, is_skipped, item_said};
 use ls_event::{Event, EventRefused, ItemDef, Kind, read_event};
 use ls_request::mode_of;
+use ls_step::{AddWords, MOST_CONNECTIONS, Repeat, Step};
 use ls_value::{Bytes, Cells, Names, NoMemory, Text, same_bytes};
-use ls_words::{divided, name_of, number_in, split_once};
+use ls_words::{divided, first_piece, name_of, split_once};
 use std::alloc::Global;
 use std::marker::Model;
-
-/// The most connections of a script (this project's profile).
-const MOST_CONNECTIONS: usize = 65_536;
 
 /// Why there is no step of a line.
 #[derive(Clone, Copy, Debug, PartialEq, Eq)]
@@ -56,13 +56,14 @@ pub struct Script {
 
 impl Model for Script {
     ghost use Rattle.std.specs.Prelude.{◌≤◌, length};
-    ghost use Rattle.ls_script.specs.Grammar.{Known};
+    ghost use Rattle.ls_step.specs.declared.limits.TheConstants.{MOST_CONNECTIONS as AS_MANY};
+    ghost use Rattle.ls_step.specs.Grammar.{Known};
 
     ghost Value = { Known };
 
     ghost view = { λ s. record { items = s.items; connections = s.connections; tick = s.tick } };
 
-    ghost invariant = { λ s. length s.connections ≤ 65536 };
+    ghost invariant = { λ s. length s.connections ≤ AS_MANY };
 }
 
 impl Script {
@@ -78,17 +79,20 @@ impl Script {
         })
     }
 
-    /// What a line without its line end asks for: `None` exactly for an empty line and for a comment, which begins with `#`.
-    /// A step's names are declared, those that it declares are new, and its numbers keep their ranges. `BadLine` exactly
-    /// where a line is outside the grammar. After an error, and after `None`, nothing more is declared than before.
+    /// What a line without its line end asks for: `None` exactly for an empty line and for a comment, which begins with
+    /// `#`. A step's names are declared, those that it declares are new, and its numbers keep their ranges. `BadLine`
+    /// exactly where a line is outside the grammar. After an error, and after `None`, nothing more is declared than
+    /// before.
     pub fn read(&mut self, line: &[u8]) -> Result<Option<Repeat>, ScriptRefused>
         ensures skips { is_skipped line.now ≡ true → result ≡ Ok None }
         ensures skipped { result ≡ Ok None → is_skipped line.now ≡ true }
-        ensures read { IfOk result (λ r. IfSome r (λ asked. (is_skipped line.now ≡ false) × (line_of self.old line.now ≡ Some asked))) }
+        ensures read { IfOk result (λ r. IfSome r (λ asked. (is_skipped line.now ≡ false)
+            × (line_of self.old line.now ≡ Some asked))) }
         ensures fits { IfOk result (λ r. IfSome r (RepeatFits self.old)) }
         ensures after { IfOk result (λ r. IfSome r (λ asked. self.new ≡ known_after self.old asked.step)) }
         ensures stays { result ≡ Ok None → self.new ≡ self.old }
-        ensures bad { IsErrOf result ScriptRefused.BadLine → (is_skipped line.now ≡ false) × (line_of self.old line.now ≡ None) }
+        ensures bad { IsErrOf result ScriptRefused.BadLine
+            → (is_skipped line.now ≡ false) × (line_of self.old line.now ≡ None) }
         ensures err { OnErr result (self.new ≡ self.old) }
     {
         if is_skipped(line) {
@@ -130,7 +134,7 @@ impl Script {
         let item = ItemDef {
             name: name.copy(self.alloc)?,
             kind,
-            fields: copied_names(self.alloc, fields)?,
+            fields: fields.copy(self.alloc)?,
         };
         self.items.add(item)?;
         Ok(())
@@ -151,24 +155,81 @@ impl Script {
     {
         match behind(b"req ", line) {
             Some(rest) => Ok(once(self.request(rest)?)),
-            None => {
-                let words = divided(self.alloc, b' ', line)?;
-                self.words(&words)
-            }
+            None => self.words(line),
         }
     }
 
-    /// What a line of these words asks for.
-    fn words(&self, words: &[&[u8]]) -> Result<Option<Repeat>, NoMemory>
-        ensures { IfOk result (λ asked. asked ≡ words_of self.now (map (λ w. w.now) words.now)) }
+    /// What a line asks for by its words. They are taken from its front one by one: no list of them is made.
+    fn words(&self, line: &[u8]) -> Result<Option<Repeat>, NoMemory>
+        ensures { IfOk result (λ asked. asked ≡ words_of self.now (divided 32 line.now)) }
     {
-        match words {
-            [word, a] => Ok(once(self.two_words(word, a)?)),
-            [word, a, b] => self.three_words(word, a, b),
-            [word, a, b, c] => Ok(once(self.four_words(word, a, b, c)?)),
-            [word, a, b, c, d] => self.five_words(word, a, b, c, d),
-            [_, _, _, _, _, _, ..] => Ok(once(self.more_words(words)?)),
-            _ => Ok(None),
+        match first_piece(b' ', line) {
+            (_, None) => Ok(None),
+            (word, Some(rest)) => self.behind_one(word, rest),
+        }
+    }
+
+    /// What a line asks for, by its first word and the rest.
+    fn behind_one(&self, word: &[u8], rest: &[u8]) -> Result<Option<Repeat>, NoMemory>
+        ensures { IfOk result (λ asked. asked ≡ words_of self.now (word.now ∷ divided 32 rest.now)) }
+    {
+        match first_piece(b' ', rest) {
+            (a, None) => Ok(once(self.two_words(word, a)?)),
+            (a, Some(rest)) => self.behind_two(word, a, rest),
+        }
+    }
+
+    /// What a line asks for, by its first two words and the rest.
+    fn behind_two(&self, word: &[u8], a: &[u8], rest: &[u8]) -> Result<Option<Repeat>, NoMemory>
+        ensures { IfOk result (λ asked. asked ≡ words_of self.now (word.now ∷ a.now ∷ divided 32 rest.now)) }
+    {
+        match first_piece(b' ', rest) {
+            (b, None) => self.three_words(word, a, b),
+            (b, Some(rest)) => self.behind_three(word, a, b, rest),
+        }
+    }
+
+    /// What a line asks for, by its first three words and the rest.
+    fn behind_three(
+        &self,
+        word: &[u8],
+        a: &[u8],
+        b: &[u8],
+        rest: &[u8],
+    ) -> Result<Option<Repeat>, NoMemory>
+        ensures { IfOk result (λ asked. asked
+            ≡ words_of self.now (word.now ∷ a.now ∷ b.now ∷ divided 32 rest.now)) }
+    {
+        match first_piece(b' ', rest) {
+            (c, None) => Ok(once(self.four_words(word, a, b, c)?)),
+            (c, Some(rest)) => self.behind_four(word, a, b, c, rest),
+        }
+    }
+
+    /// What a line asks for, by its first four words and the rest.
+    fn behind_four(
+        &self,
+        word: &[u8],
+        a: &[u8],
+        b: &[u8],
+        c: &[u8],
+        rest: &[u8],
+    ) -> Result<Option<Repeat>, NoMemory>
+        ensures { IfOk result (λ asked. asked
+            ≡ words_of self.now (word.now ∷ a.now ∷ b.now ∷ c.now ∷ divided 32 rest.now)) }
+    {
+        match first_piece(b' ', rest) {
+            (d, None) => self.five_words(word, a, b, c, d),
+            (d, Some(rest)) => {
+                let (e, rest) = first_piece(b' ', rest);
+                let texts = AddTexts {
+                    sub: b,
+                    items: c,
+                    fields: d,
+                    mode: e,
+                };
+                Ok(once(self.six_words(word, a, &texts, rest)?))
+            }
         }
     }
 
@@ -245,41 +306,38 @@ impl Script {
         }
     }
 
-    /// A line of six words and more.
-    fn more_words(&self, words: &[&[u8]]) -> Result<Option<Step>, NoMemory>
-        requires { 6 ≤ length words.now }
-        ensures { IfOk result (λ step. step ≡ more_words self.now (map (λ w. w.now) words.now)) }
-    {
-        let (first, rest) = words.split_at(6);
-        match first {
-            [word, connection, sub, items, fields, mode] => {
-                let texts = AddTexts {
-                    sub,
-                    items,
-                    fields,
-                    mode,
-                };
-                self.six_words(word, connection, &texts, rest)
-            }
-            _ => Ok(None),
-        }
-    }
-
-    /// A line of six words, and those behind them.
+    /// A line of six words, and what stands behind them.
     fn six_words(
         &self,
         word: &[u8],
         connection: &[u8],
         texts: &AddTexts<'_>,
-        rest: &[&[u8]],
+        rest: Option<&[u8]>,
     ) -> Result<Option<Step>, NoMemory>
-        ensures { IfOk result (λ step. step ≡ six_words self.now word.now connection.now texts.now.sub.now texts.now.items.now texts.now.fields.now texts.now.mode.now (map (λ w. w.now) rest.now)) }
+        ensures { IfOk result (λ step. step
+            ≡ six_words self.now word.now connection.now texts.now.sub.now texts.now.items.now texts.now.fields.now
+            texts.now.mode.now (pieces_behind 32 rest.entry)) }
     {
         if same_bytes(word, b"add") {
-            self.add_line(connection, texts, rest)
+            self.add_behind(connection, texts, rest)
         } else {
             Ok(None)
         }
+    }
+
+    /// `add`, and what stands behind its mode.
+    fn add_behind(
+        &self,
+        connection: &[u8],
+        texts: &AddTexts<'_>,
+        rest: Option<&[u8]>,
+    ) -> Result<Option<Step>, NoMemory>
+        ensures { IfOk result (λ step. step
+            ≡ add_line self.now connection.now texts.now.sub.now texts.now.items.now texts.now.fields.now
+            texts.now.mode.now (pieces_behind 32 rest.entry)) }
+    {
+        let words = pieces(self.alloc, rest)?;
+        self.add_line(connection, texts, &words)
     }
 
     /// What stands behind `req`: a connection, a name, and the rest of the line, which may be absent.
@@ -391,7 +449,9 @@ impl Script {
         texts: &AddTexts<'_>,
         rest: &[&[u8]],
     ) -> Result<Option<Step>, NoMemory>
-        ensures { IfOk result (λ step. step ≡ add_line self.now connection.now texts.now.sub.now texts.now.items.now texts.now.fields.now texts.now.mode.now (map (λ w. w.now) rest.now)) }
+        ensures { IfOk result (λ step. step
+            ≡ add_line self.now connection.now texts.now.sub.now texts.now.items.now texts.now.fields.now
+            texts.now.mode.now (map (λ w. w.now) rest.now)) }
     {
         let Some(connection) = self.connection(connection) else {
             return Ok(None);
@@ -448,16 +508,16 @@ impl Script {
     }
 
     /// `enq`.
-    fn enqueue_line(&self, connection: &[u8], sub: &[u8], place: &[u8]) -> Option<Step>
-        ensures { result ≡ enqueue_line self.now connection.now sub.now place.now }
+    fn enqueue_line(&self, connection: &[u8], sub: &[u8], rank: &[u8]) -> Option<Step>
+        ensures { result ≡ enqueue_line self.now connection.now sub.now rank.now }
     {
         let connection = self.connection(connection)?;
         let sub = number_from(0, sub)?;
-        let place = number_from(0, place)?;
+        let rank = number_from(0, rank)?;
         Some(Step::Enqueue {
             connection,
             sub,
-            place,
+            rank,
         })
     }
 
@@ -494,6 +554,16 @@ impl Script {
     }
 }
 
+/// The words of what may stand behind others.
+fn pieces<'a>(alloc: Global, rest: Option<&'a [u8]>) -> Result<Vec<&'a [u8]>, NoMemory>
+    ensures { IfOk result (λ words. map (λ w. w.now) words.items ≡ pieces_behind 32 rest.entry) }
+{
+    match rest {
+        Some(text) => divided(alloc, b' ', text),
+        None => Ok(Vec::new(alloc)),
+    }
+}
+
 /// The words of an `add` line that always stand there.
 #[derive(Clone, Copy)]
 struct AddTexts<'a> {
@@ -503,13 +573,16 @@ struct AddTexts<'a> {
     mode: &'a [u8],
 }
 
-/// The words of an `add` line: `None` exactly where one is empty, the mode is none, or the words behind it are no extras.
+/// The words of an `add` line: `None` exactly where one is empty, the mode is none, or the words behind it are no
+/// extras.
 fn add_words(
     alloc: Global,
     texts: &AddTexts<'_>,
     rest: &[&[u8]],
 ) -> Result<Option<AddWords>, NoMemory>
-    ensures { IfOk result (λ words. words ≡ add_said texts.now.sub.now texts.now.items.now texts.now.fields.now texts.now.mode.now (map (λ w. w.now) rest.now)) }
+    ensures { IfOk result (λ words. words
+        ≡ add_said texts.now.sub.now texts.now.items.now texts.now.fields.now texts.now.mode.now
+        (map (λ w. w.now) rest.now)) }
 {
     let Some(mode) = mode_of(texts.mode) else {
         return Ok(None);
@@ -517,7 +590,7 @@ fn add_words(
     let Some(extras) = read_extras(alloc, rest)? else {
         return Ok(None);
     };
-    if is_word(texts.sub) && is_word(texts.items) && is_word(texts.fields) {
+    if !texts.sub.is_empty() && !texts.items.is_empty() && !texts.fields.is_empty() {
         Ok(Some(AddWords {
             sub: Bytes::of(alloc, texts.sub)?,
             items: Bytes::of(alloc, texts.items)?,
@@ -530,14 +603,6 @@ fn add_words(
     } else {
         Ok(None)
     }
-}
-
-/// An adapter's number, 1 to 64.
-fn adapter_of(text: &[u8]) -> Option<u8>
-    ensures { result ≡ number_in 1 64 text.now }
-{
-    let adapter = number_in(text, 1, 64)?;
-    Some(adapter as u8)
 }
 
 /// The cells of an update: `None` exactly where a text says no event, or a Clear.

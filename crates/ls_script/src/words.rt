@@ -1,24 +1,13 @@
 //! Single words of a script's lines.
-ghost use Rattle.std.specs.Prelude.{◌≡◌, ◌≤◌, Some, None, IfSome, option_map};
-ghost use Rattle.ls_script.specs.Grammar.{number_from as from_number, times_of, link_of, behind, is_word, once, so_often};
+ghost use Rattle.std.specs.Prelude.{◌≡◌, option_map};
+ghost use Rattle.ls_step.specs.Grammar.{number_from as from_number, times_of, adapter_of, link_of, behind, once};
+ghost use Rattle.ls_step.specs.Grammar.{so_often};
 
-use crate::step::{Repeat, Step};
+use ls_event::MOST_ADAPTERS;
 use ls_request::LinkKind;
+use ls_step::{GREATEST_IN_LINE, MOST_TIMES, Repeat, Step};
 use ls_value::same_bytes;
 use ls_words::number_in;
-
-/// The greatest number of a script: 18 digits (this project's profile).
-const GREATEST: u64 = 999_999_999_999_999_999;
-
-/// Whether a word isn't empty.
-pub(crate) fn is_word(word: &[u8]) -> bool
-    ensures { result ≡ is_word word.now }
-{
-    match word {
-        [] => false,
-        [_, ..] => true,
-    }
-}
 
 /// The text behind a word's beginning, where the word begins so.
 #[tactic(auto, using(crate::proofs::Beginnings::none_behind))]
@@ -35,19 +24,27 @@ pub(crate) fn behind<'a>(begin: &[u8], word: &'a [u8]) -> Option<&'a [u8]>
     }
 }
 
-/// A number of 1 to 18 digits, from `low` on.
+/// A number of a line, from `low` on.
 pub(crate) fn number_from(low: u64, text: &[u8]) -> Option<u64>
     ensures { result ≡ from_number low text.now }
 {
-    number_in(text, low, GREATEST)
+    number_in(text, low, GREATEST_IN_LINE)
 }
 
 /// How often a step is made.
 pub(crate) fn times_of(text: &[u8]) -> Option<u32>
     ensures { result ≡ times_of text.now }
 {
-    let times = number_in(text, 1, 1000)?;
+    let times = number_in(text, 1, MOST_TIMES)?;
     Some(times as u32)
+}
+
+/// An adapter's number.
+pub(crate) fn adapter_of(text: &[u8]) -> Option<u8>
+    ensures { result ≡ adapter_of text.now }
+{
+    let adapter = number_in(text, 1, MOST_ADAPTERS as u64)?;
+    Some(adapter as u8)
 }
 
 /// The kind of connections that a word says.

@@ -8,12 +8,12 @@ use Rattle.ls_world.specs.Came.{Came}
 use Rattle.ls_world.specs.Lines.{Line, line_text, came}
 use Rattle.ls_world.specs.Cutting.{Wanted, Turn}
 use Rattle.ls_world.specs.World.{Item, Live, Session}
-use Rattle.ls_world.specs.Steps.{Answer, Gave, Idle, Spent, Turned}
-use Rattle.ls_subs.specs.Subscription.{Subscribed, StandsSubscribed, Heard}
+use Rattle.ls_world.specs.Steps.{TurnGives, Gave, Idle, Spent, SessionTurn}
+use Rattle.ls_subs.specs.Subscription.{Subscribed, StandsSubscribed, Appended, Gives}
 use Rattle.ls_session.specs.declared.session.Item.{Item as Kept}
 use Rattle.ls_session.specs.declared.session.Session.{Session as Holding}
-use Rattle.ls_session.specs.declared.session.Given.{Given}
-use Rattle.ls_session.specs.declared.session.Given.TheVariants as given
+use Rattle.ls_session.specs.declared.session.Outcome.{Outcome}
+use Rattle.ls_session.specs.declared.session.Outcome.TheVariants as outcome
 
 -- the texts of the lines numbered from n + 1 on, the newest of all lines standing first
 abbrev pub texts_behind : ℕ → List Line → List (List ℕ)
@@ -46,11 +46,11 @@ StandsItem (Some c) ss (i ∷ j ∷ items) = ⊥
 -- a subscription stands for a slot of the round, by all numbered lines
 pub record StandsLive (u : Subscribed) (lines : List Line) (v : Live) : Type 0 where
   pub sub : v.sub ≡ u.sub
-  pub place : v.place ≡ 1
+  pub rank : v.rank ≡ 1
   pub item : v.item ≡ 0
   pub number : v.number ≡ 1
   pub some : 1 ≤ length lines
-  pub client : StandsSubscribed u v.wanted v.slot (came v.sub v.place lines)
+  pub client : StandsSubscribed u v.wanted v.slot (came v.sub v.rank lines)
 
 -- the only subscription, if there is one, stands for the round
 abbrev pub StandsRound : Option Subscribed → List Line → List Live → Type 0
@@ -69,19 +69,27 @@ pub record StandsSession (c : Option Kept) (k : Holding) (items : List Item) (s 
   pub sent : s.sent ≤ length s.board.lines
   pub round : StandsRound k.subscription s.board.lines s.board.round
 
--- a turn of the item's slot
-pub record DidLine (u : Subscribed) (w : Wanted) (items : List Item) (cs : List Came) (t : Turn) (text : Option (List ℕ)) (c : Option Kept) (v : Subscribed) : Type 0 where
+-- the turn of the item's slot was done
+pub record ItemTurned (sub : ℕ) (w : Wanted) (items : List Item) (cs : List Came) (t : Turn) (a : Appended)
+    (c : Option Kept) (v : Subscribed) : Type 0 where
   pub item : StandsItem c (Some t.slot ∷ []) items
-  pub sub : v.sub ≡ u.sub
-  pub heard : Heard u w t.slot cs t.told text v
+  pub same : v.sub ≡ sub
+  pub gives : Gives sub w t.slot cs t.came a v
 
--- what is given answers a turn
-abbrev pub answer_of : Given → Answer
-answer_of (given.Line text) = Gave text
-answer_of given.Idle = Idle
-answer_of given.Spent = Spent
+-- how a turn ends by its answer, and the line that it gives
+abbrev pub outcome_of : TurnGives → Outcome
+outcome_of (Gave text) = outcome.Line
+outcome_of Idle = outcome.Idle
+outcome_of Spent = outcome.Spent
 
--- a session did its turn
-pub record DidTurned (t : Turned) (said : Given) (c : Option Kept) (k : Holding) (items : List Item) : Type 0 where
-  pub answer : t.answer ≡ answer_of said
+abbrev pub text_of_answer : TurnGives → List ℕ
+text_of_answer (Gave text) = text
+text_of_answer Idle = []
+text_of_answer Spent = []
+
+-- a session did its turn, and appended its line
+pub record SessionTurned (t : SessionTurn) (said : Outcome) (before after : List ℕ) (c : Option Kept) (k : Holding)
+    (items : List Item) : Type 0 where
+  pub outcome : said ≡ outcome_of t.gives
+  pub text : after ≡ before ++ text_of_answer t.gives
   pub stands : StandsSession c k items t.session

@@ -1,5 +1,6 @@
 -- What a subscription of one item keeps of its client, and what its turn is.
-use Rattle.std.specs.Prelude.{◌≡◌, ℕ, List, [], ◌∷◌, length, Bool, Option, None, Some, is_some, option_map}
+use Rattle.std.specs.Prelude.{◌≡◌, ℕ, List, [], ◌∷◌, ◌++◌, length, Bool, true, false, Option, None, Some, is_some}
+use Rattle.std.specs.Prelude.{option_map}
 use Rattle.std.specs.Option.{option_map_or}
 use Rattle.std.specs.FinMap as finite
 use Rattle.ls_value.specs.Values.{applied, nulls, value_at, projected, projected_cells}
@@ -15,48 +16,52 @@ use Rattle.ls_mirror.specs.Client.{What, Row, Lost, Cleared, End, row_or}
 use Rattle.ls_mirror.specs.Keys.{KeyTable}
 use Rattle.ls_world.specs.Came.{Came, came_by, whats}
 use Rattle.ls_world.specs.Lines.{last_row, tells_text}
-use Rattle.ls_world.specs.Tables.{InSchema, text_in, kept_of, key_told, table_at, projected_row}
-use Rattle.ls_world.specs.Cutting.{Wanted, Turn, schema_of, changed, accepted, turn_within}
+use Rattle.ls_world.specs.Tables.{text_or_empty, kept_of, what_of_key, table_at, projected_row}
+use Rattle.ls_world.specs.Cutting.{Wanted, Turn, schema_of, what_of_change, what_of_cut, turn_within}
 use Rattle.ls_world.specs.World.{keys_in}
 use Rattle.ls_cell.specs.Cell.{Held, StandsCell}
-use Rattle.ls_subs.specs.declared.schema.KeyPlaces.{KeyPlaces}
+use Rattle.ls_mirror.specs.declared.command.KeyPlaces.{KeyPlaces}
 use Rattle.ls_subs.specs.declared.subscription.Cutting.{Cutting}
 use Rattle.ls_subs.specs.declared.subscription.Cutting.TheVariants as cutting
 pub use Rattle.ls_subs.specs.Subscribed.{Subscribed}
-use Rattle.ls_subs.specs.declared.subscription.Told.{Told}
-use Rattle.ls_subs.specs.declared.subscription.Told.TheVariants as told
+use Rattle.ls_subs.specs.declared.subscription.LineKind.{LineKind}
+use Rattle.ls_subs.specs.declared.subscription.LineKind.TheVariants as kind
 
--- places in a schema
-abbrev pub seen_keys : KeyPlaces → InSchema
-seen_keys k = record { key = k.key; command = k.command }
+-- what a line of a kind tells, where this is its row
+abbrev pub what_in : List Value → LineKind → What
+what_in row kind.Row = Row row
+what_in row (kind.Lost count) = Lost count
+what_in row kind.Cleared = Cleared
+what_in row kind.End = End
 
-abbrev pub keys_of : Option KeyPlaces → Option InSchema
-keys_of keys = option_map seen_keys keys
-
--- what is told
-abbrev pub what_told : Told → What
-what_told (told.Row row) = Row row
-what_told (told.Lost count) = Lost count
-what_told told.Cleared = Cleared
-what_told told.End = End
+-- a row, or so many nulls where there is none
+abbrev pub row_or_nulls : ℕ → Option (List Value) → List Value
+row_or_nulls fields row = option_map_or (λ r. r) row (nulls fields)
 
 -- the client's row, which is all null before the first one
 abbrev pub row_of : Subscribed → List Value
-row_of u = option_map_or (λ r. r) u.row (nulls (length u.places))
+row_of u = row_or_nulls (length u.places) u.row
 
--- what a key's turn tells the client, by its row of the key; without a key in the schema nothing
-abbrev pub key_line : Subscribed → Option InSchema → List ℕ → Option (List Value) → Option What
-key_line u None key row = None
-key_line u (Some at) key row = key_told at (length u.places) key (finite.get u.table key) (projected_row u.places row)
+-- what a key's cut tells the client, by its rows of keys; without a key in the schema nothing
+abbrev pub what_by_key : List ℕ → Option KeyPlaces → KeyTable → List ℕ → Option (List Value) → Option What
+what_by_key places None table key row = None
+what_by_key places (Some at) table key row =
+    what_of_key at (length places) key (finite.get table key) (projected_row places row)
 
--- what a cut tells the client, by what is kept of it: nothing where the client has it already
-abbrev pub told_of : Subscribed → Taken → Option What
-told_of u (taken.Row row upto) = Some (Row (projected row u.places))
-told_of u (taken.Lost count upto) = Some (Lost count)
-told_of u (taken.Change cells upto) = changed (is_some u.row) (row_of u) (applied (row_of u) (projected_cells cells u.places))
-told_of u (taken.Key key row upto) = key_line u (keys_of u.keys) key row
-told_of u (taken.Cleared upto) = Some Cleared
-told_of u taken.EndOfSnapshot = Some End
+-- what a cut tells the client, by the schema's places and keys and what the client has: nothing where it has that
+-- already
+abbrev pub what_comes_by : List ℕ → Option KeyPlaces → Option (List Value) → KeyTable → Taken → Option What
+what_comes_by places keys row table (taken.Row new upto) = Some (Row (projected new places))
+what_comes_by places keys row table (taken.Lost count upto) = Some (Lost count)
+what_comes_by places keys row table (taken.Change cells upto) =
+    what_of_change (is_some row) (row_or_nulls (length places) row)
+    (applied (row_or_nulls (length places) row) (projected_cells cells places))
+what_comes_by places keys row table (taken.Key key new upto) = what_by_key places keys table key new
+what_comes_by places keys row table (taken.Cleared upto) = Some Cleared
+what_comes_by places keys row table taken.EndOfSnapshot = Some End
+
+abbrev pub what_comes : Subscribed → Taken → Option What
+what_comes u t = what_comes_by u.places u.keys u.row u.table t
 
 -- the rows by key with this one of a key, or without the key
 abbrev pub table_set : KeyTable → List ℕ → Option (List Value) → KeyTable
@@ -64,79 +69,112 @@ table_set table key None = finite.remove table key
 table_set table key (Some kept) = finite.insert table key kept
 
 -- the rows by key after a row
-abbrev pub table_with : Option InSchema → KeyTable → List Value → KeyTable
+abbrev pub table_with : Option KeyPlaces → KeyTable → List Value → KeyTable
 table_with None table row = table
-table_with (Some at) table row = table_set table (text_in (value_at row at.key)) (kept_of at row)
+table_with (Some at) table row = table_set table (text_or_empty (value_at row at.key)) (kept_of at row)
 
--- the rows by key after what is told
-abbrev pub keyed_with : Option InSchema → KeyTable → What → KeyTable
+-- the rows by key after what came
+abbrev pub keyed_with : Option KeyPlaces → KeyTable → What → KeyTable
 keyed_with keys table (Row row) = table_with keys table row
 keyed_with keys table (Lost count) = table
 keyed_with keys table Cleared = finite.empty
 keyed_with keys table End = table
 
--- a subscription after what is told
-abbrev pub told_to : Subscribed → What → Subscribed
-told_to u what = record u { row = row_or what u.row; table = keyed_with (keys_of u.keys) u.table what }
+-- a subscription after what came, if anything did
+abbrev pub after_what : Subscribed → What → Subscribed
+after_what u what = record u { row = row_or what u.row; table = keyed_with u.keys u.table what }
 
--- the text of what is told, and the subscription after it, where anything is
-abbrev pub text_if : Subscribed → Option What → Option (List ℕ)
-text_if u what = option_map (tells_text u.row u.sub 1) what
+abbrev pub after_line : Subscribed → Option What → Subscribed
+after_line u what = option_map_or (after_what u) what u
 
-abbrev pub told_if : Subscribed → Option What → Subscribed
-told_if u what = option_map_or (told_to u) what u
+-- the text of the line that tells it
+abbrev pub line_if : Subscribed → Option What → Option (List ℕ)
+line_if u what = option_map (tells_text u.row u.sub 1) what
+
+-- a text to which a line was appended, or none
+pub record Appended : Type 0 where
+  pub line : Bool
+  pub before : List ℕ
+  pub after : List ℕ
+
+-- it was the line of this text, or none
+abbrev pub Appends : Appended → Option (List ℕ) → Type 0
+Appends a None = (a.line ≡ false) × (a.after ≡ a.before)
+Appends a (Some text) = (a.line ≡ true) × (a.after ≡ a.before ++ text)
 
 -- the table holds the client's row of each key
-abbrev pub HoldsKeys : Option InSchema → KeyTable → List What → Type 0
+abbrev pub HoldsKeys : Option KeyPlaces → KeyTable → List What → Type 0
 HoldsKeys None table ws = Unit {0}
 HoldsKeys (Some at) table ws = (k : List ℕ) → finite.get table k ≡ table_at at k ws
 
--- in mode MERGE a first line was given where the client has a row
-abbrev pub GivenRow : Mode → Bool → Option (List Value) → Type 0
-GivenRow mode.Merge given row = given ≡ is_some row
-GivenRow m given row = Unit {0}
+-- in mode MERGE a slot has started where its client has a row
+abbrev pub HasStarted : Mode → Bool → Option (List Value) → Type 0
+HasStarted mode.Merge started row = started ≡ is_some row
+HasStarted m started row = Unit {0}
 
 -- what is kept stands for a slot and for what came to the client of it
 pub record StandsSubscribed (u : Subscribed) (w : Wanted) (s : Slot) (cs : List Came) : Type 0 where
   pub places : u.places ≡ w.places
-  pub keys : keys_of u.keys ≡ keys_in s.plan.mode (schema_of w s.plan)
+  pub keys : u.keys ≡ keys_in s.plan.mode (schema_of w s.plan)
   pub row : u.row ≡ last_row cs
-  pub given : GivenRow s.plan.mode s.given u.row
-  pub table : HoldsKeys (keys_of u.keys) u.table (whats cs)
+  pub has_started : HasStarted s.plan.mode s.has_started u.row
+  pub table : HoldsKeys u.keys u.table (whats cs)
 
--- what a cut leaves of a subscription: all, where it makes no line
-abbrev pub Keeps : Cutting → Subscribed → Subscribed → Type 0
-Keeps cutting.Nothing u v = v ≡ u
-Keeps cutting.Silent u v = v ≡ u
-Keeps (cutting.Line text) u v = v.sub ≡ u.sub
+-- what a cut leaves as it was: the subscription and the text, where it makes no line
+abbrev pub Leaves : Cutting → Subscribed → Subscribed → List ℕ → List ℕ → Type 0
+Leaves cutting.Nothing u v before after = (v ≡ u) × (after ≡ before)
+Leaves cutting.Silent u v before after = (v ≡ u) × (after ≡ before)
+Leaves cutting.Line u v before after = v.sub ≡ u.sub
 
--- a subscription and its text after a cut that makes a line, or none
-abbrev pub DidTell : Subscribed → Wanted → Slot → List Came → Taken → Option (List ℕ) → Subscribed → Type 0
-DidTell u w s cs t None v = (accepted w s cs t ≡ None) × StandsSubscribed v w (passed s t) cs
-DidTell u w s cs t (Some text) v =
-    (what : What) × (accepted w s cs t ≡ Some what) × (text ≡ tells_text (last_row cs) u.sub 1 what) × StandsSubscribed v w (passed s t) (came_by s t what ∷ cs)
+-- a slot without a cut
+pub record NoCut (w : Wanted) (s : Slot) (h : List Entry) (cs : List Came) (c : Held) (v : Subscribed) : Type 0 where
+  pub none : cut h s ≡ None
+  pub cell : StandsCell c (Some s ∷ []) h
+  pub client : StandsSubscribed v w s cs
 
--- one cut of the item's slot: there is none, or it was passed and makes no line, or it was passed and makes a line of this text
-abbrev pub DidCut : Cutting → Subscribed → Wanted → Slot → List Entry → List Came → Held → Subscribed → Type 0
-DidCut cutting.Nothing u w s h cs c v = (cut h s ≡ None) × StandsCell c (Some s ∷ []) h × StandsSubscribed v w s cs
-DidCut cutting.Silent u w s h cs c v = (t : Taken) × (cut h s ≡ Some t) × StandsCell c (Some (passed s t) ∷ []) h × DidTell u w s cs t None v
-DidCut (cutting.Line text) u w s h cs c v = (t : Taken) × (cut h s ≡ Some t) × StandsCell c (Some (passed s t) ∷ []) h × DidTell u w s cs t (Some text) v
+-- a cut that was passed and makes no line
+pub record SilentCut (w : Wanted) (s : Slot) (h : List Entry) (cs : List Came) (c : Held) (v : Subscribed) : Type 0
+  where
+    pub taken : Taken
+    pub is : cut h s ≡ Some taken
+    pub none : what_of_cut w s cs taken ≡ None
+    pub cell : StandsCell c (Some (passed s taken) ∷ []) h
+    pub client : StandsSubscribed v w (passed s taken) cs
 
--- a subscription and its text after a turn by which this came, or nothing
-abbrev pub Heard : Subscribed → Wanted → Slot → List Came → Option Came → Option (List ℕ) → Subscribed → Type 0
-Heard u w s cs None text v = (text ≡ None) × StandsSubscribed v w s cs
-Heard u w s cs (Some c) text v = (text ≡ Some (tells_text (last_row cs) u.sub 1 c.what)) × StandsSubscribed v w s (c ∷ cs)
+-- a cut that was passed, and whose line was appended
+pub record LineCut (sub : ℕ) (w : Wanted) (s : Slot) (h : List Entry) (cs : List Came) (before after : List ℕ)
+    (c : Held) (v : Subscribed) : Type 0 where
+  pub taken : Taken
+  pub is : cut h s ≡ Some taken
+  pub what : What
+  pub some : what_of_cut w s cs taken ≡ Some what
+  pub text : after ≡ before ++ tells_text (last_row cs) sub 1 what
+  pub cell : StandsCell c (Some (passed s taken) ∷ []) h
+  pub client : StandsSubscribed v w (passed s taken) (came_by s taken what ∷ cs)
 
--- what a turn did with the item and the subscription
-pub record DidTurn (u : Subscribed) (w : Wanted) (h : List Entry) (cs : List Came) (t : Turn) (text : Option (List ℕ)) (c : Held) (v : Subscribed) : Type 0 where
+-- one cut of the item's slot
+abbrev pub DidCut : Cutting → ℕ → Wanted → Slot → List Entry → List Came → List ℕ → List ℕ → Held → Subscribed → Type 0
+DidCut cutting.Nothing sub w s h cs before after c v = NoCut w s h cs c v
+DidCut cutting.Silent sub w s h cs before after c v = SilentCut w s h cs c v
+DidCut cutting.Line sub w s h cs before after c v = LineCut sub w s h cs before after c v
+
+-- a text and a subscription after a turn by which this came, or nothing
+abbrev pub Gives : ℕ → Wanted → Slot → List Came → Option Came → Appended → Subscribed → Type 0
+Gives sub w s cs None a v = Appends a None × StandsSubscribed v w s cs
+Gives sub w s cs (Some c) a v = Appends a (Some (tells_text (last_row cs) sub 1 c.what))
+    × StandsSubscribed v w s (c ∷ cs)
+
+-- a slot's turn was done
+pub record SlotTurned (sub : ℕ) (w : Wanted) (h : List Entry) (cs : List Came) (t : Turn) (a : Appended) (c : Held)
+    (v : Subscribed) : Type 0 where
   pub cell : StandsCell c (Some t.slot ∷ []) h
-  pub sub : v.sub ≡ u.sub
-  pub heard : Heard u w t.slot cs t.told text v
+  pub same : v.sub ≡ sub
+  pub gives : Gives sub w t.slot cs t.came a v
 
--- a turn that isn't done yet: its silent cuts led to a slot, and so many cuts of the turn are left
+-- a turn that isn't done yet: its silent cuts led to a slot, and so many cuts of the turn are to come
 pub record GoesOn (w : Wanted) (h : List Entry) (cs : List Came) (t : Turn) (c : Held) (v : Subscribed) : Type 0 where
   pub slot : Slot
-  pub left : ℕ
+  pub more : ℕ
   pub cell : StandsCell c (Some slot ∷ []) h
   pub client : StandsSubscribed v w slot cs
-  pub rest : t ≡ turn_within left h w slot cs
+  pub rest : t ≡ turn_within more h w slot cs

@@ -1,40 +1,43 @@
-//! A subscription of one item: the places of its schema, and what its client has: the last row, and in mode COMMAND its rows by key.
-ghost use Rattle.std.specs.Prelude.{◌≡◌, ◌&&◌, List, [], ◌∷◌, None, Some, is_some, IfOk, OnOk, OnErr, option_map};
+//! A subscription of one item: the places of its schema, and what its client has.
+ghost use Rattle.std.specs.Prelude.{◌≡◌, ◌++◌, List, [], ◌∷◌, None, Some, is_some, length, IfOk, OnOk, OnErr};
+ghost use Rattle.std.specs.Prelude.{option_map};
+ghost use Rattle.std.specs.Option.{ForSome, option_copied};
 ghost use Rattle.std.specs.FinMap as finite;
-ghost use Rattle.ls_value.specs.Values.{applied, projected, projected_cells, row_eq};
+ghost use Rattle.ls_value.specs.Values.{applied, projected_cells};
 ghost use Rattle.ls_event.specs.declared.event.Entry.{Entry};
 ghost use Rattle.ls_event.specs.Slots.{Slot};
 ghost use Rattle.ls_mirror.specs.Client.{Row as RowWhat, row_or};
 ghost use Rattle.ls_world.specs.Lines.{tells_text};
-ghost use Rattle.ls_world.specs.Tables.{with_word};
+ghost use Rattle.ls_world.specs.Tables.{what_of_key, projected_row};
 ghost use Rattle.ls_world.specs.Came.{Came};
-ghost use Rattle.ls_world.specs.Cutting.{Wanted, changed as changed_row, turn};
+ghost use Rattle.ls_world.specs.Cutting.{Wanted, what_of_change, turn};
 ghost use Rattle.ls_cell.specs.Cell.{HasSlot, StandsCell};
-ghost use Rattle.ls_subs.specs.Subscription.{told_of, key_line, row_of, what_told, text_if, told_if, table_with, keyed_with, keys_of, seen_keys, StandsSubscribed, Keeps, DidCut, DidTurn, GoesOn};
+ghost use Rattle.ls_subs.specs.Subscription.{row_or_nulls, what_in, what_comes_by, what_comes, line_if, after_line};
+ghost use Rattle.ls_subs.specs.Subscription.{table_with, keyed_with, StandsSubscribed, Appends};
+ghost use Rattle.ls_subs.specs.Subscription.{DidCut, Leaves, SlotTurned, GoesOn};
 
-use crate::lines::{cleared_text, end_text, lost_text, update_text};
-use crate::schema::{
-    KeyPlaces, is_projected, kept_row, project_cells, project_row, row_of_delete, row_with_word,
-    text_at,
-};
+use crate::lines::append_row;
+use crate::schema::{kept_row, row_of_delete, row_with_word, text_at};
 use ls_cell::ItemCell;
-use ls_event::Taken;
-use ls_mirror::Keyed;
-use ls_value::{Bytes, Cells, NoMemory, Places, Row, Text, apply, same};
+use ls_event::{Order, Taken};
+use ls_line::{Line, append};
+use ls_mirror::{KeyPlaces, Keyed};
+use ls_value::{Cells, NoMemory, Places, Row, Text, is_projected, same};
 use std::alloc::Global;
 use std::marker::Model;
+use std::mem::{replace, swap};
 
 /// The number of the item's one slot.
 pub const SLOT: u32 = 1;
 
-/// The place of the item in its subscription.
-const PLACE: u32 = 1;
+/// The rank of the item in its subscription.
+const RANK: u32 = 1;
 
-/// What a line tells of the item (TLCP 2.1, U, OV, CS and EOS).
-#[derive(Drop)]
-pub enum Told {
-    /// A row.
-    Row(Row),
+/// What a line tells of the item, its row apart (TLCP 2.1, U, OV, CS and EOS).
+#[derive(Clone, Copy, Debug, PartialEq, Eq)]
+pub enum LineKind {
+    /// A row, which is the client's next one.
+    Row,
     /// So many updates were lost.
     Lost(u64),
     /// The item was cleared.
@@ -44,27 +47,34 @@ pub enum Told {
 }
 
 /// What became of the next cut of the item's slot.
-#[derive(Drop)]
+#[derive(Clone, Copy, Debug, PartialEq, Eq)]
 pub enum Cutting {
     /// There is none.
     Nothing,
     /// It was passed, and makes no line.
     Silent,
-    /// It was passed, and makes a line of this text.
-    Line(Bytes),
+    /// It was passed, and its line was appended.
+    Line,
 }
 
-/// A live subscription: its number, the places of its schema's fields in the item, in mode COMMAND those of the key and the
-/// command in the schema, the client's last row, where it has one, and in mode COMMAND its rows by key. It keeps the allocator
-/// that its constructor took.
+/// What a client has of an item: its last row, where it has one, and in mode COMMAND its rows by key. The row of its
+/// next line is made in the room of the row before the last.
+#[derive(Drop)]
+pub struct ClientRows {
+    row: Option<Row>,
+    table: Keyed,
+    next: Row,
+}
+
+/// A live subscription: its number, the places of its schema's fields in the item, in mode COMMAND those of the key and
+/// the command in the schema, and what its client has. It keeps the allocator that its constructor took.
 #[derive(Drop)]
 pub struct Subscription {
     alloc: Global,
     sub: u32,
     places: Places,
     keys: Option<KeyPlaces>,
-    row: Option<Row>,
-    table: Keyed,
+    client: ClientRows,
 }
 
 impl Model for Subscription {
@@ -76,9 +86,15 @@ impl Model for Subscription {
 
     ghost coded = { subscribed_code };
 
-    ghost view = { λ s. record { sub = s.sub; places = s.places; keys = s.keys; row = s.row; table = s.table } };
+    ghost view = { λ s. record {
+      sub = s.sub;
+      places = s.places;
+      keys = s.keys;
+      row = s.client.row;
+      table = s.client.table;
+    } };
 
-    ghost invariant = { λ s. ForSome s.row (λ r. length r ≡ length s.places) };
+    ghost invariant = { λ s. ForSome s.client.row (λ r. length r ≡ length s.places) };
 }
 
 impl Subscription {
@@ -91,8 +107,11 @@ impl Subscription {
             sub,
             places,
             keys,
-            row: None,
-            table: Keyed::new(alloc),
+            client: ClientRows {
+                row: None,
+                table: Keyed::new(alloc),
+                next: Row::of(Vec::new(alloc)),
+            },
         }
     }
 
@@ -103,185 +122,180 @@ impl Subscription {
         self.sub
     }
 
-    /// The text of the line that a cut makes, which the client then has: none where it has that already.
-    /// After `NoMemory` the subscription is as before.
-    pub fn accept(&mut self, taken: &Taken) -> Result<Option<Bytes>, NoMemory>
-        ensures text { IfOk result (λ text. text ≡ text_if self.old (told_of self.old taken.now)) }
-        ensures ok { OnOk result (self.new ≡ told_if self.old (told_of self.old taken.now)) }
+    /// Appends the line that a cut makes, and answers whether it makes one: none where the client has that already.
+    /// Then the client has it. After `NoMemory` the subscription is as before, and a part of the line may be there.
+    pub fn accept(&mut self, taken: Taken, text: &mut Vec<u8>) -> Result<bool, NoMemory>
+        ensures line { IfOk result (λ line. Appends
+            (record { line = line; before = text.old.items; after = text.new.items })
+            (line_if self.old (what_comes self.old taken))) }
+        ensures ok { OnOk result (self.new ≡ after_line self.old (what_comes self.old taken)) }
         ensures err { OnErr result (self.new ≡ self.old) }
     {
-        let Some(told) = self.told_by(taken)? else {
-            return Ok(None);
+        let made = self
+            .client
+            .next_line(self.alloc, &self.places, self.keys, taken)?;
+        let Some(kind) = made else {
+            return Ok(false);
         };
-        let text = self.text(&told)?;
-        hear(self.alloc, self.keys, &mut self.row, &mut self.table, told)?;
-        Ok(Some(text))
+        self.client.append(text, self.sub, kind)?;
+        self.client.hear(self.alloc, self.keys, kind)?;
+        Ok(true)
     }
+}
 
-    /// What a cut tells the client: nothing where it has that already.
-    fn told_by(&self, taken: &Taken) -> Result<Option<Told>, NoMemory>
-        ensures { IfOk result (λ told. option_map what_told told ≡ told_of self.now taken.now) }
+impl ClientRows {
+    /// Which line a cut makes, where the client doesn't have that already. A line's row is made the next one. After
+    /// `NoMemory` the client has what it had.
+    fn next_line(
+        &mut self,
+        alloc: Global,
+        places: &Places,
+        keys: Option<KeyPlaces>,
+        taken: Taken,
+    ) -> Result<Option<LineKind>, NoMemory>
+        requires { ForSome self.old.row (λ r. length r ≡ length places.now) }
+        ensures kind { IfOk result (λ kind. option_map (what_in self.new.next) kind
+            ≡ what_comes_by places.now keys self.old.row self.old.table taken) }
+        ensures row { self.new.row ≡ self.old.row }
+        ensures table { self.new.table ≡ self.old.table }
     {
         match taken {
             Taken::Row { row, upto: _ } => {
-                let row = project_row(self.alloc, row, &self.places)?;
-                Ok(Some(Told::Row(row)))
+                self.next.set_projected(alloc, &row, places)?;
+                Ok(Some(LineKind::Row))
             }
-            Taken::Lost { count, upto: _ } => Ok(Some(Told::Lost(*count))),
-            Taken::Change { cells, upto: _ } => self.changed(cells),
-            Taken::Key { key, row, upto: _ } => self.key_told(key, row),
-            Taken::Cleared { upto: _ } => Ok(Some(Told::Cleared)),
-            Taken::EndOfSnapshot => Ok(Some(Told::End)),
-        }
-    }
-
-    /// What changed cells tell: the client's row with them, and nothing where that is the row that it has.
-    fn changed(&self, cells: &Cells) -> Result<Option<Told>, NoMemory>
-        ensures { IfOk result (λ told. option_map what_told told ≡ changed_row (is_some self.now.row) (row_of self.now) (applied (row_of self.now) (projected_cells cells.now self.now.places))) }
-    {
-        let mut row = self.last_row()?;
-        let cells = project_cells(self.alloc, cells, &self.places)?;
-        apply(self.alloc, &mut row, &cells)?;
-        if self.has_row(&row) {
-            return Ok(None);
-        }
-        Ok(Some(Told::Row(row)))
-    }
-
-    /// The client's row, which is all null before the first one.
-    fn last_row(&self) -> Result<Row, NoMemory>
-        ensures { IfOk result (λ row. row ≡ row_of self.now) }
-    {
-        match &self.row {
-            None => Row::nulls(self.alloc, self.places.len()),
-            Some(row) => row.copy(self.alloc),
-        }
-    }
-
-    /// Whether this is the client's last row. Before the first one it has none.
-    fn has_row(&self, row: &Row) -> bool
-        ensures { result ≡ is_some self.now.row && row_eq (row_of self.now) row.now }
-    {
-        match &self.row {
-            None => false,
-            Some(last) => same(last, row),
-        }
-    }
-
-    /// What a key's turn tells, by the client's row of the key and the item's: `ADD`, `UPDATE` or `DELETE`, and nothing where
-    /// they are the same.
-    fn key_told(&self, key: &Text, row: &Option<Row>) -> Result<Option<Told>, NoMemory>
-        ensures { IfOk result (λ told. option_map what_told told ≡ key_line self.now (keys_of self.now.keys) key.now row.now) }
-    {
-        let Some(at) = self.keys else {
-            return Ok(None);
-        };
-        match (self.table.get(key.as_str()), row) {
-            (None, None) => Ok(None),
-            (None, Some(row)) => self.told_with_word(at, "ADD", row),
-            (Some(_), None) => {
-                let row = row_of_delete(self.alloc, self.places.len(), at, key.as_str())?;
-                Ok(Some(Told::Row(row)))
+            Taken::Lost { count, upto: _ } => Ok(Some(LineKind::Lost(count))),
+            Taken::Change { cells, upto: _ } => {
+                change(alloc, places, &self.row, &cells, &mut self.next)
             }
-            (Some(old), Some(row)) => {
-                if is_projected(old, row, &self.places) {
+            Taken::Key { key, row, upto: _ } => {
+                let Some(at) = keys else {
                     return Ok(None);
+                };
+                match key_row(alloc, places, at, self.table.get(key.as_str()), &key, &row)? {
+                    None => Ok(None),
+                    Some(row) => {
+                        self.next = row;
+                        Ok(Some(LineKind::Row))
+                    }
                 }
-                self.told_with_word(at, "UPDATE", row)
             }
+            Taken::Cleared { upto: _ } => Ok(Some(LineKind::Cleared)),
+            Taken::EndOfSnapshot => Ok(Some(LineKind::End)),
         }
     }
 
-    /// The row with a command word, which is told.
-    fn told_with_word(&self, at: KeyPlaces, word: &str, row: &Row) -> Result<Option<Told>, NoMemory>
-        ensures { IfOk result (λ told. option_map what_told told ≡ Some (RowWhat (with_word (seen_keys at) word.now (projected row.now self.now.places)))) }
+    /// Appends the line that tells this: a row is coded against the client's last one.
+    fn append(&self, text: &mut Vec<u8>, sub: u32, kind: LineKind) -> Result<(), NoMemory>
+        ensures { OnOk result (text.new.items ≡ text.old.items
+            ++ tells_text self.now.row sub 1 (what_in self.now.next kind)) }
     {
-        let row = row_with_word(self.alloc, row, &self.places, at, word)?;
-        Ok(Some(Told::Row(row)))
+        let item = RANK;
+        match kind {
+            LineKind::Row => append_row(text, sub, item, self.row.as_ref(), &self.next),
+            LineKind::Lost(lost) => append(text, &Line::Ov { sub, item, lost }),
+            LineKind::Cleared => append(text, &Line::Cs { sub, item }),
+            LineKind::End => append(text, &Line::Eos { sub, item }),
+        }
     }
 
-    /// The text of the line that tells this: a row is coded against the client's last one.
-    fn text(&self, told: &Told) -> Result<Bytes, NoMemory>
-        ensures { IfOk result (λ text. text ≡ tells_text self.now.row self.now.sub 1 (what_told told.now)) }
+    /// Changes what the client has by what a line told. After `NoMemory` it has what it had.
+    fn hear(
+        &mut self,
+        alloc: Global,
+        keys: Option<KeyPlaces>,
+        kind: LineKind,
+    ) -> Result<(), NoMemory>
+        ensures row { OnOk result (self.new.row ≡ row_or (what_in self.old.next kind) self.old.row) }
+        ensures table { OnOk result (self.new.table
+            ≡ keyed_with keys self.old.table (what_in self.old.next kind)) }
+        ensures err { OnErr result ((self.new.row ≡ self.old.row) × (self.new.table ≡ self.old.table)) }
     {
-        match told {
-            Told::Row(row) => update_text(self.alloc, self.row.as_ref(), self.sub, PLACE, row),
-            Told::Lost(count) => lost_text(self.alloc, self.sub, PLACE, *count),
-            Told::Cleared => cleared_text(self.alloc, self.sub, PLACE),
-            Told::End => end_text(self.alloc, self.sub, PLACE),
+        match kind {
+            LineKind::Row => {
+                set_key(&mut self.table, alloc, keys, &self.next)?;
+                advance(alloc, &mut self.row, &mut self.next);
+            }
+            LineKind::Lost(_) => {}
+            LineKind::Cleared => self.table.clear(),
+            LineKind::End => {}
         }
+        Ok(())
     }
 }
 
-/// The turn of the item's slot: the text of its next line, if there is one. Cuts that make no line are passed.
-/// After `NoMemory` the subscription is as before, and the turn goes on where it stopped.
-pub fn take_line(
-    cell: &mut ItemCell,
-    subscription: &mut Subscription,
-) -> Result<Option<Bytes>, NoMemory>
-    requires { HasSlot cell.old 1 }
-    ensures did { IfOk result (λ text. (w : Wanted) (s : Slot) (h : List Entry) (cs : List Came) → StandsCell cell.old (Some s ∷ []) h
-        → StandsSubscribed subscription.old w s cs → DidTurn subscription.old w h cs (turn h w s cs) text cell.new subscription.new) }
-    ensures slot { HasSlot cell.new 1 }
-    ensures shape { cell.new.item.shape ≡ cell.old.item.shape }
-    ensures stopped { OnErr result ((w : Wanted) (s : Slot) (h : List Entry) (cs : List Came) → StandsCell cell.old (Some s ∷ []) h
-        → StandsSubscribed subscription.old w s cs → GoesOn w h cs (turn h w s cs) cell.new subscription.new) }
-    ensures err { OnErr result (subscription.new ≡ subscription.old) }
-{
-    // Each cut passes an event, or a row, a key or the end of the snapshot, so a turn has fewer cuts than this.
-    for _ in 0..u64::MAX {
-        match take_cut(cell, subscription)? {
-            Cutting::Nothing => return Ok(None),
-            Cutting::Silent => {}
-            Cutting::Line(text) => return Ok(Some(text)),
-        }
-    }
-    Err(NoMemory)
-}
-
-/// The next cut of the item's slot, if there is one, is passed, and told to the client. After `NoMemory` all is as before.
-fn take_cut(cell: &mut ItemCell, subscription: &mut Subscription) -> Result<Cutting, NoMemory>
-    requires { HasSlot cell.old 1 }
-    ensures did { IfOk result (λ r. (w : Wanted) (s : Slot) (h : List Entry) (cs : List Came) → StandsCell cell.old (Some s ∷ []) h
-        → StandsSubscribed subscription.old w s cs → DidCut r subscription.old w s h cs cell.new subscription.new) }
-    ensures keeps { IfOk result (λ r. Keeps r subscription.old subscription.new) }
-    ensures slot { HasSlot cell.new 1 }
-    ensures shape { cell.new.item.shape ≡ cell.old.item.shape }
-    ensures err { OnErr result ((cell.new ≡ cell.old) × (subscription.new ≡ subscription.old)) }
-{
-    let Some(taken) = cell.look(SLOT)? else {
-        return Ok(Cutting::Nothing);
-    };
-    let text = subscription.accept(&taken)?;
-    cell.pass(SLOT);
-    match text {
-        None => Ok(Cutting::Silent),
-        Some(text) => Ok(Cutting::Line(text)),
-    }
-}
-
-/// Changes a client's last row and its rows by key by what is told. After `NoMemory` they are as before.
-fn hear(
+/// Makes the client's row with changed cells the next one: no line where that is the row that it has. Before the first
+/// row it is all null.
+fn change(
     alloc: Global,
-    keys: Option<KeyPlaces>,
-    row: &mut Option<Row>,
-    table: &mut Keyed,
-    told: Told,
-) -> Result<(), NoMemory>
-    ensures row { OnOk result (row.new ≡ row_or (what_told told) row.old) }
-    ensures table { OnOk result (table.new ≡ keyed_with (keys_of keys) table.old (what_told told)) }
-    ensures err { OnErr result ((row.new ≡ row.old) × (table.new ≡ table.old)) }
+    places: &Places,
+    row: &Option<Row>,
+    cells: &Cells,
+    next: &mut Row,
+) -> Result<Option<LineKind>, NoMemory>
+    requires { ForSome row.now (λ r. length r ≡ length places.now) }
+    ensures { IfOk result (λ kind. option_map (what_in next.new) kind
+        ≡ what_of_change (is_some row.now) (row_or_nulls (length places.now) row.now)
+        (applied (row_or_nulls (length places.now) row.now) (projected_cells cells.now places.now))) }
 {
-    match told {
-        Told::Row(new) => {
-            set_key(table, alloc, keys, &new)?;
-            *row = Some(new);
+    match row {
+        None => {
+            let nulls = Row::nulls(alloc, places.len())?;
+            next.set_applied_at(alloc, &nulls, cells, places)?;
+            Ok(Some(LineKind::Row))
         }
-        Told::Lost(_) => {}
-        Told::Cleared => table.clear(),
-        Told::End => {}
+        Some(row) => {
+            next.set_applied_at(alloc, row, cells, places)?;
+            if same(row, next) {
+                return Ok(None);
+            }
+            Ok(Some(LineKind::Row))
+        }
     }
-    Ok(())
+}
+
+/// The row of a key's line, by the client's row of the key and the item's: an `ADD`, an `UPDATE` or a `DELETE`, and
+/// none where they are the same.
+fn key_row(
+    alloc: Global,
+    places: &Places,
+    at: KeyPlaces,
+    old: Option<&Row>,
+    key: &Text,
+    row: &Option<Row>,
+) -> Result<Option<Row>, NoMemory>
+    ensures { IfOk result (λ made. option_map RowWhat made
+        ≡ what_of_key at (length places.now) key.now (option_copied old.entry)
+        (projected_row places.now row.now)) }
+{
+    match (old, row) {
+        (None, None) => Ok(None),
+        (None, Some(row)) => {
+            let added = row_with_word(alloc, row, places, at, Order::Add)?;
+            Ok(Some(added))
+        }
+        (Some(_), None) => {
+            let deleted = row_of_delete(alloc, places.len(), at, key.as_str())?;
+            Ok(Some(deleted))
+        }
+        (Some(old), Some(row)) => {
+            if is_projected(old, row, places) {
+                return Ok(None);
+            }
+            let updated = row_with_word(alloc, row, places, at, Order::Update)?;
+            Ok(Some(updated))
+        }
+    }
+}
+
+/// The next row becomes the client's, and the room of the row before it that of the next one. No memory is taken.
+fn advance(alloc: Global, row: &mut Option<Row>, next: &mut Row)
+    ensures { row.new ≡ Some next.old }
+{
+    match row {
+        None => *row = Some(replace(next, Row::of(Vec::new(alloc)))),
+        Some(row) => swap(row, next),
+    }
 }
 
 /// Sets the row of a row's key as the command word says. After `NoMemory` nothing has changed.
@@ -291,7 +305,7 @@ fn set_key(
     keys: Option<KeyPlaces>,
     row: &Row,
 ) -> Result<(), NoMemory>
-    ensures ok { OnOk result (table.new ≡ table_with (keys_of keys) table.old row.now) }
+    ensures ok { OnOk result (table.new ≡ table_with keys table.old row.now) }
     ensures err { OnErr result (table.new ≡ table.old) }
 {
     let Some(at) = keys else {
@@ -309,4 +323,63 @@ fn set_key(
             Ok(())
         }
     }
+}
+
+/// The turn of the item's slot: its next line is appended, if there is one, and whether it is one is answered. Cuts
+/// that make no line are passed. After `NoMemory` the subscription is as before, and the turn goes on where it stopped.
+pub fn take_line(
+    cell: &mut ItemCell,
+    subscription: &mut Subscription,
+    text: &mut Vec<u8>,
+) -> Result<bool, NoMemory>
+    requires { HasSlot cell.old 1 }
+    ensures did { IfOk result (λ line. (w : Wanted) (s : Slot) (h : List Entry) (cs : List Came)
+        → StandsCell cell.old (Some s ∷ []) h
+        → StandsSubscribed subscription.old w s cs
+        → SlotTurned subscription.old.sub w h cs (turn h w s cs)
+        (record { line = line; before = text.old.items; after = text.new.items }) cell.new subscription.new) }
+    ensures slot { HasSlot cell.new 1 }
+    ensures shape { cell.new.item.shape ≡ cell.old.item.shape }
+    ensures stopped { OnErr result ((w : Wanted) (s : Slot) (h : List Entry) (cs : List Came)
+        → StandsCell cell.old (Some s ∷ []) h
+        → StandsSubscribed subscription.old w s cs → GoesOn w h cs (turn h w s cs) cell.new subscription.new) }
+    ensures err { OnErr result (subscription.new ≡ subscription.old) }
+{
+    // Each cut passes an event, or a row, a key or the end of the snapshot, so a turn has fewer cuts than this.
+    for _ in 0..u64::MAX {
+        match take_cut(cell, subscription, text)? {
+            Cutting::Nothing => return Ok(false),
+            Cutting::Silent => {}
+            Cutting::Line => return Ok(true),
+        }
+    }
+    Err(NoMemory)
+}
+
+/// The next cut of the item's slot, if there is one, is passed, and its line appended. After `NoMemory` the item and
+/// the subscription are as before.
+fn take_cut(
+    cell: &mut ItemCell,
+    subscription: &mut Subscription,
+    text: &mut Vec<u8>,
+) -> Result<Cutting, NoMemory>
+    requires { HasSlot cell.old 1 }
+    ensures did { IfOk result (λ r. (w : Wanted) (s : Slot) (h : List Entry) (cs : List Came)
+        → StandsCell cell.old (Some s ∷ []) h
+        → StandsSubscribed subscription.old w s cs
+        → DidCut r subscription.old.sub w s h cs text.old.items text.new.items cell.new subscription.new) }
+    ensures leaves { IfOk result (λ r. Leaves r subscription.old subscription.new text.old.items text.new.items) }
+    ensures slot { HasSlot cell.new 1 }
+    ensures shape { cell.new.item.shape ≡ cell.old.item.shape }
+    ensures err { OnErr result ((cell.new ≡ cell.old) × (subscription.new ≡ subscription.old)) }
+{
+    let Some(taken) = cell.look(SLOT)? else {
+        return Ok(Cutting::Nothing);
+    };
+    let line = subscription.accept(taken, text)?;
+    cell.pass(SLOT);
+    if line {
+        return Ok(Cutting::Line);
+    }
+    Ok(Cutting::Silent)
 }

@@ -3,27 +3,13 @@ use crate::failed::Failed;
 use ls_config::{Config, ConfigRefused, ItemDef, Kind, read};
 use std::alloc::Global;
 
-/// What an items file says.
-pub fn config(alloc: Global, input: &[u8]) -> Result<String, Failed> {
+/// What an items file says, or the number of its items alone.
+pub fn config(alloc: Global, input: &[u8], counts: bool) -> Result<String, Failed> {
     match read(alloc, input) {
+        Ok(config) if counts => Ok(format!(in alloc; "{}", config.items.len())?),
         Ok(config) => config_text(alloc, &config),
-        Err(refused) => refusal(alloc, refused),
-    }
-}
-
-/// How many items an items file has.
-pub fn item_count(alloc: Global, input: &[u8]) -> Result<String, Failed> {
-    match read(alloc, input) {
-        Ok(config) => Ok(format!(in alloc; "{}", config.items.len())?),
-        Err(refused) => refusal(alloc, refused),
-    }
-}
-
-/// Why bytes are no items file.
-fn refusal(alloc: Global, refused: ConfigRefused) -> Result<String, Failed> {
-    match refused {
-        ConfigRefused::BadConfig { line } => Ok(format!(in alloc; "line {line}")?),
-        ConfigRefused::NoMemory => Err(Failed::NoMemory),
+        Err(ConfigRefused::BadConfig { line }) => Ok(format!(in alloc; "line {line}")?),
+        Err(ConfigRefused::NoMemory) => Err(Failed::NoMemory),
     }
 }
 

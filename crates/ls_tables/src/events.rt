@@ -9,16 +9,9 @@ pub fn event(alloc: Global, input: &[u8]) -> Result<String, Failed> {
     let (fields, text) = two(input);
     let fields = names_of(alloc, word(fields)?)?;
     match read_event(alloc, text, &fields) {
-        Ok(event) => event_text(alloc, &event),
+        Ok(Event::Clear) => Ok(format!(in alloc; "clear")?),
+        Ok(Event::Update(cells)) => cells_text(alloc, &cells),
         Err(refused) => refusal(alloc, refused),
-    }
-}
-
-/// An event.
-fn event_text(alloc: Global, event: &Event) -> Result<String, Failed> {
-    match event {
-        Event::Clear => Ok(format!(in alloc; "clear")?),
-        Event::Update(cells) => cells_text(alloc, cells),
     }
 }
 

@@ -1,23 +1,20 @@
 //! Form texts and decimals of thousandths.
 use crate::failed::Failed;
-use crate::words::{maybe_number, number};
-use ls_form::{FormRefused, Params, pairs, print_milli, read_milli};
+use crate::words::number;
+use ls_form::{FormRefused, Params, pairs, print_milli};
 use std::alloc::Global;
 
-/// The pairs of a form text.
-pub fn form(alloc: Global, input: &[u8]) -> Result<String, Failed> {
-    match pairs(alloc, input) {
-        Ok(params) => pairs_text(alloc, &params),
-        Err(refused) => refusal(alloc, refused),
-    }
-}
-
-/// How many pairs a form text has.
-pub fn form_count(alloc: Global, input: &[u8]) -> Result<String, Failed> {
-    match pairs(alloc, input) {
-        Ok(params) => Ok(format!(in alloc; "{}", params.len())?),
-        Err(refused) => refusal(alloc, refused),
-    }
+/// The pairs of a form text, or their number alone.
+pub fn form(alloc: Global, input: &[u8], counts: bool) -> Result<String, Failed> {
+    let (cause, at) = match pairs(alloc, input) {
+        Ok(params) if counts => return Ok(format!(in alloc; "{}", params.len())?),
+        Ok(params) => return pairs_text(alloc, &params),
+        Err(FormRefused::TooLong { n }) => ("long", n),
+        Err(FormRefused::NotUtf8 { at }) => ("bytes", at),
+        Err(FormRefused::Twice { at }) => ("twice", at),
+        Err(FormRefused::NoMemory) => return Err(Failed::NoMemory),
+    };
+    Ok(format!(in alloc; "{cause} {at}")?)
 }
 
 /// Pairs as `name=text` with `;` behind each.
@@ -29,21 +26,6 @@ pub fn pairs_text(alloc: Global, params: &Params) -> Result<String, Failed> {
         }
     }
     Ok(text)
-}
-
-/// Why bytes are no form text.
-fn refusal(alloc: Global, refused: FormRefused) -> Result<String, Failed> {
-    match refused {
-        FormRefused::TooLong { n } => Ok(format!(in alloc; "long {n}")?),
-        FormRefused::NotUtf8 { at } => Ok(format!(in alloc; "bytes {at}")?),
-        FormRefused::Twice { at } => Ok(format!(in alloc; "twice {at}")?),
-        FormRefused::NoMemory => Err(Failed::NoMemory),
-    }
-}
-
-/// The thousandths of a decimal.
-pub fn milli(alloc: Global, input: &[u8]) -> Result<String, Failed> {
-    maybe_number(alloc, read_milli(input))
 }
 
 /// The decimal of thousandths.

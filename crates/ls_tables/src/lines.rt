@@ -5,13 +5,15 @@ use std::alloc::Global;
 
 /// What a line of the protocol is.
 pub fn line(alloc: Global, input: &[u8]) -> Result<Vec<u8>, Failed> {
-    match read(alloc, input) {
-        Ok(line) => line_text(alloc, &line),
-        Err(refused) => {
-            let text = refusal(alloc, refused)?;
-            Ok(text.into_bytes())
-        }
-    }
+    let text = match read(alloc, input) {
+        Ok(line) => return line_text(alloc, &line),
+        Err(LineRefused::BadTag) => format!(in alloc; "tag")?,
+        Err(LineRefused::BadCount) => format!(in alloc; "count")?,
+        Err(LineRefused::BadNumber { at }) => format!(in alloc; "number {at}")?,
+        Err(LineRefused::BadText { at }) => format!(in alloc; "text {at}")?,
+        Err(LineRefused::NoMemory) => return Err(Failed::NoMemory),
+    };
+    Ok(text.into_bytes())
 }
 
 /// Whether a line counts as data, and its text.
@@ -21,15 +23,4 @@ fn line_text(alloc: Global, line: &Line) -> Result<Vec<u8>, Failed> {
     out.extend_from_slice(word.as_bytes())?;
     out.extend_from_slice(text(alloc, line)?.as_slice())?;
     Ok(out)
-}
-
-/// Why bytes are no line.
-fn refusal(alloc: Global, refused: LineRefused) -> Result<String, Failed> {
-    match refused {
-        LineRefused::BadTag => Ok(format!(in alloc; "tag")?),
-        LineRefused::BadCount => Ok(format!(in alloc; "count")?),
-        LineRefused::BadNumber { at } => Ok(format!(in alloc; "number {at}")?),
-        LineRefused::BadText { at } => Ok(format!(in alloc; "text {at}")?),
-        LineRefused::NoMemory => Err(Failed::NoMemory),
-    }
 }

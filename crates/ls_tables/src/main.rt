@@ -47,16 +47,21 @@ mod updates;
 mod words;
 
 use failed::Failed;
+use ls_form::read_milli;
 use scripts::Given;
 use spelling::{meant, spelled};
 use std::alloc::Global;
 use std::process::ExitCode;
 use std::rt::Runtime;
+use words::maybe_number;
 
 /// What a reader says of its input.
 fn said(alloc: Global, given: &mut Given, reader: &str, input: &[u8]) -> Result<Vec<u8>, Failed> {
     match reader {
-        "new" => given.forget(alloc),
+        "new" => {
+            *given = Given::new(alloc);
+            Ok(Vec::new(alloc))
+        }
         "given" => given.given(alloc, input),
         "script" => given.script(alloc, input),
         "params" => given.params(alloc, input),
@@ -74,12 +79,12 @@ fn text_said(alloc: Global, reader: &str, input: &[u8]) -> Result<String, Failed
         "note" => scripts::note(alloc, input),
         "request" => requests::request(alloc, input),
         "pairs" => requests::pairs(alloc, input),
-        "form" => forms::form(alloc, input),
-        "form_count" => forms::form_count(alloc, input),
-        "milli" => forms::milli(alloc, input),
+        "form" => forms::form(alloc, input, false),
+        "form_count" => forms::form(alloc, input, true),
+        "milli" => maybe_number(alloc, read_milli(input)),
         "decimal" => forms::decimal(alloc, input),
-        "config" => configs::config(alloc, input),
-        "item_count" => configs::item_count(alloc, input),
+        "config" => configs::config(alloc, input, false),
+        "item_count" => configs::config(alloc, input, true),
         "event" => events::event(alloc, input),
         "order" => events::order(alloc, input),
         "own_row" => events::own_row(alloc, input),
@@ -102,17 +107,12 @@ fn answered(alloc: Global, given: &mut Given, case: &str) -> Result<String, Fail
     spelled(alloc, &text)
 }
 
-/// Whether a line is no case: it is empty, or a comment.
-fn is_skipped(line: &str) -> bool {
-    line.is_empty() || line.starts_with('#')
-}
-
 /// Answers each case of the input.
 fn run<R: Runtime + AllocGlobal>(rt: &R) -> Result<(), Failed> {
     let mut given = Given::new(rt.alloc());
     for line in rt.lines(rt.alloc()) {
         let line = line?;
-        if is_skipped(line.as_str()) {
+        if line.as_str().is_empty() || line.as_str().starts_with('#') {
             println!(rt; "")?;
         } else {
             let text = answered(rt.alloc(), &mut given, line.as_str())?;

@@ -93,23 +93,17 @@ fn op_text(alloc: Global, op: &Op) -> Result<String, Failed> {
     match op {
         Op::Add(add) => add_text(alloc, add),
         Op::Delete { sub } => Ok(format!(in alloc; "delete {sub}")?),
-        Op::Reconf { sub, frequency } => reconf_text(alloc, *sub, *frequency),
-        Op::Constrain { bandwidth } => constrain_text(alloc, *bandwidth),
+        Op::Reconf { sub, frequency } => {
+            let frequency = maybe_number(alloc, *frequency)?;
+            Ok(format!(in alloc; "reconf {sub} {frequency}")?)
+        }
+        Op::Constrain { bandwidth } => {
+            let bandwidth = maybe_number(alloc, *bandwidth)?;
+            Ok(format!(in alloc; "constrain {bandwidth}")?)
+        }
         Op::ForceRebind => Ok(format!(in alloc; "force_rebind")?),
         Op::Destroy => Ok(format!(in alloc; "destroy")?),
     }
-}
-
-/// Another frequency.
-fn reconf_text(alloc: Global, sub: u32, frequency: Option<u64>) -> Result<String, Failed> {
-    let frequency = maybe_number(alloc, frequency)?;
-    Ok(format!(in alloc; "reconf {sub} {frequency}")?)
-}
-
-/// Another bandwidth.
-fn constrain_text(alloc: Global, bandwidth: Option<u64>) -> Result<String, Failed> {
-    let bandwidth = maybe_number(alloc, bandwidth)?;
-    Ok(format!(in alloc; "constrain {bandwidth}")?)
 }
 
 /// A new subscription.

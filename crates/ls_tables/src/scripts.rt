@@ -1,6 +1,4 @@
 //! Lines of scripts, and notes.
-ghost use Rattle.std.specs.Prelude.{◌<◌};
-
 use crate::failed::Failed;
 use crate::forms::pairs_text;
 use crate::words::{cells_text, mode_word, names_text, number, two, word};
@@ -37,12 +35,6 @@ impl Given {
         }
     }
 
-    /// Forgets the lines.
-    pub fn forget(&mut self, alloc: Global) -> Result<Vec<u8>, Failed> {
-        self.lines = Vec::new(alloc);
-        Ok(Vec::new(alloc))
-    }
-
     /// What the last line of a script says, which begins with these lines.
     fn said(&self, alloc: Global, lines: &[u8]) -> Result<Said, Failed> {
         let mut script = Script::new(alloc)?;
@@ -71,9 +63,9 @@ impl Given {
 
     /// The parameters of an `add` line, whose number goes before it.
     pub fn params(&self, alloc: Global, input: &[u8]) -> Result<Vec<u8>, Failed> {
-        let (place, line) = two(input);
-        let place = number(place)?;
-        let text = params_text(alloc, place, &self.said(alloc, line)?)?;
+        let (n, line) = two(input);
+        let n = number(n)?;
+        let text = params_text(alloc, n, &self.said(alloc, line)?)?;
         Ok(text.into_bytes())
     }
 }
@@ -100,8 +92,8 @@ fn said_text(alloc: Global, said: &Said) -> Result<String, Failed> {
     }
 }
 
-/// The parameters of an `add` line that was read.
-fn params_text(alloc: Global, place: u64, said: &Said) -> Result<String, Failed> {
+/// The parameters of an `add` line of this number that was read.
+fn params_text(alloc: Global, line: u64, said: &Said) -> Result<String, Failed> {
     let Said::Step(asked) = said else {
         return Err(Failed::BadCase);
     };
@@ -112,7 +104,7 @@ fn params_text(alloc: Global, place: u64, said: &Said) -> Result<String, Failed>
     else {
         return Err(Failed::BadCase);
     };
-    match add_params(alloc, place, words)? {
+    match add_params(alloc, line, words)? {
         Some(params) => pairs_text(alloc, &params),
         None => Ok(format!(in alloc; "none")?),
     }
@@ -124,7 +116,14 @@ fn step_text(alloc: Global, step: &Step) -> Result<String, Failed> {
         Step::Set { name } => Ok(format!(in alloc; "set {}", name.as_str())?),
         Step::Item { name, kind, fields } => item_text(alloc, name, *kind, fields),
         Step::Tick { ms } => Ok(format!(in alloc; "tick {ms}")?),
-        Step::Conn { name, link } => conn_text(alloc, name, *link),
+        Step::Conn {
+            name,
+            link: LinkKind::Ws,
+        } => Ok(format!(in alloc; "conn {} ws", name.as_str())?),
+        Step::Conn {
+            name,
+            link: LinkKind::Http,
+        } => Ok(format!(in alloc; "conn {} http", name.as_str())?),
         Step::Open { name } => Ok(format!(in alloc; "open {}", name.as_str())?),
         Step::Add { connection, words } => add_text(alloc, *connection, words),
         Step::Request {
@@ -144,8 +143,8 @@ fn step_text(alloc: Global, step: &Step) -> Result<String, Failed> {
         Step::Enqueue {
             connection,
             sub,
-            place,
-        } => Ok(format!(in alloc; "enq {connection} {sub} {place}")?),
+            rank,
+        } => Ok(format!(in alloc; "enq {connection} {sub} {rank}")?),
         Step::Take { connection } => Ok(format!(in alloc; "take {connection}")?),
         Step::Lose { connection } => Ok(format!(in alloc; "lose {connection}")?),
     }
@@ -160,15 +159,6 @@ fn item_text(alloc: Global, name: &Text, kind: Kind, fields: &Names) -> Result<S
         Kind::Command => "command",
     };
     Ok(format!(in alloc; "item {} {kind} {fields}", name.as_str())?)
-}
-
-/// The step of a `conn` line.
-fn conn_text(alloc: Global, name: &Text, link: LinkKind) -> Result<String, Failed> {
-    let link = match link {
-        LinkKind::Ws => "ws",
-        LinkKind::Http => "http",
-    };
-    Ok(format!(in alloc; "conn {} {link}", name.as_str())?)
 }
 
 /// The step of a `req` line.
@@ -245,27 +235,15 @@ fn note_of(name: &str, n: u64) -> Result<Out, Failed> {
         "published" => Ok(Out::Published { no: n }),
         "repeated" => Ok(Out::Repeated { last: n }),
         "too_long" => Ok(Out::TooLong { bytes: n }),
-        "backlog" => Ok(Out::Backlog { slot: low(n) }),
+        "backlog" => Ok(Out::Backlog {
+            slot: (n % 65536) as u32,
+        }),
         "moved" => Ok(Out::Moved { no: n }),
         "not_due" => Ok(Out::NotDue { at: n }),
         "superseded" => Ok(Out::Superseded { epoch: n }),
         "ended" => Ok(Out::Ended {
-            code: low(n) as u16,
+            code: (n % 65536) as u16,
         }),
-        _ => short_note(name),
-    }
-}
-
-/// The last 16 bits of a number.
-fn low(n: u64) -> u32
-    ensures { result < 65536 }
-{
-    (n % 65536) as u32
-}
-
-/// The note of a name that has no number.
-fn short_note(name: &str) -> Result<Out, Failed> {
-    match name {
         "no_key" => Ok(Out::NoKey),
         "bad_command" => Ok(Out::BadCommand),
         "too_many_keys" => Ok(Out::TooManyKeys),

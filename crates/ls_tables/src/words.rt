@@ -94,50 +94,30 @@ pub fn cells_of(alloc: Global, text: &str) -> Result<Cells, Failed> {
     Ok(Cells::of(cells))
 }
 
-/// Appends a cell: `_` for unchanged, `null`, or a text in brackets.
-fn append_cell(out: &mut String, cell: &Cell) -> Result<(), Failed> {
-    match cell {
-        Cell::Same => out.push_str("_")?,
-        Cell::Null => out.push_str("null")?,
-        Cell::Text(text) => write!(out, "[{}]", text.as_str())?,
-    }
-    Ok(())
-}
-
-/// Cells, one behind another.
+/// Cells, one behind another: `_` for unchanged, `null`, or a text in brackets.
 pub fn cells_text(alloc: Global, cells: &Cells) -> Result<String, Failed> {
     let mut text = String::new(alloc);
     for cell in cells.as_slice() {
-        append_cell(&mut text, cell)?;
+        match cell {
+            Cell::Same => text.push_str("_")?,
+            Cell::Null => text.push_str("null")?,
+            Cell::Text(said) => write!(text, "[{}]", said.as_str())?,
+        }
     }
     Ok(text)
-}
-
-/// The value that a word says.
-fn value_of(alloc: Global, word: &str) -> Result<Value, Failed> {
-    if word == "NULL" {
-        Ok(Value::Null)
-    } else {
-        Ok(Value::Text(Text::of(alloc, word.as_bytes())?))
-    }
 }
 
 /// The row of values that commas divide.
 pub fn row_of(alloc: Global, text: &str) -> Result<Row, Failed> {
     let mut values = Vec::new(alloc);
     for word in text.split(',') {
-        values.push(value_of(alloc, word)?)?;
+        if word == "NULL" {
+            values.push(Value::Null)?;
+        } else {
+            values.push(Value::Text(Text::of(alloc, word.as_bytes())?))?;
+        }
     }
     Ok(Row::of(values))
-}
-
-/// Appends a value.
-fn append_value(out: &mut String, value: &Value) -> Result<(), Failed> {
-    match value {
-        Value::Null => out.push_str("NULL")?,
-        Value::Text(text) => out.push_str(text.as_str())?,
-    }
-    Ok(())
 }
 
 /// The values of a row, divided by commas.
@@ -147,7 +127,10 @@ pub fn row_text(alloc: Global, row: &Row) -> Result<String, Failed> {
         if i > 0 {
             text.push(',')?;
         }
-        append_value(&mut text, value)?;
+        match value {
+            Value::Null => text.push_str("NULL")?,
+            Value::Text(said) => text.push_str(said.as_str())?,
+        }
     }
     Ok(text)
 }

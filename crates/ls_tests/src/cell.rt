@@ -1,11 +1,14 @@
 //! An item with its slots in each mode, by scripts of words. What is published reaches the state of the item, what is
-//! joined, enqueued and told reaches the buffers.
-ghost use Rattle.std.specs.Prelude.{IsTrue};
-ghost use Rattle.ls_cell.specs.Joins.{IsModeOf};
+//! joined, enqueued and taken reaches the buffers.
+ghost use Rattle.std.specs.Prelude.{◌≡◌};
+ghost use Rattle.ls_event.specs.Joining.{is_mode_of};
 
 use crate::made::{cells_text, names, row_text, text};
 use ls_cell::{Enqueued, ItemCell, Joined, PublishRefused};
-use ls_event::{Event, ItemDef, Kind, Mode, Snap, Taken, read_event};
+use ls_event::{
+    Event, ItemDef, Kind, MOST_ADAPTERS, MOST_BUFFER_SIZE, MOST_FIELDS, MOST_SLOTS, Mode, Snap,
+    Taken, read_event,
+};
 use ls_value::{NoMemory, Row};
 use std::alloc::Global;
 use std::test::Fail;
@@ -23,7 +26,7 @@ fn item(alloc: Global, kind: Kind) -> Result<ItemCell, Fail> {
     let many = item.fields.len();
     let key = item.fields.find(b"key").unwrap_or(0);
     let command = item.fields.find(b"command").unwrap_or(0);
-    if many == 0 || many > 64 || key >= many || command >= many || key == command {
+    if many == 0 || many > MOST_FIELDS || key >= many || command >= many || key == command {
         return Err(Fail::new("no such item"));
     }
     Ok(ItemCell::new(alloc, &item)?)
@@ -52,15 +55,15 @@ fn publish(
             return Err(Fail::new("the item has other fields"));
         }
     }
-    if adapter > 64 {
+    if adapter > MOST_ADAPTERS {
         return Err(Fail::new("no such adapter"));
     }
     Ok(cell.publish(adapter, seq, event))
 }
 
-/// Whether an item of a kind can be told in a mode.
-fn is_mode_of(kind: Kind, mode: Mode) -> bool
-    ensures { IsTrue result → IsModeOf kind mode }
+/// Whether a slot in a mode can join an item of a kind.
+fn is_mode_of(mode: Mode, kind: Kind) -> bool
+    ensures { result ≡ is_mode_of mode kind }
 {
     match (mode, kind) {
         (Mode::Raw, _) => true,
@@ -73,13 +76,18 @@ fn is_mode_of(kind: Kind, mode: Mode) -> bool
 
 /// Joins a slot.
 fn join(cell: &mut ItemCell, mode: Mode, n: u32, snapshot: Snap) -> Result<Joined, Fail> {
-    if !is_mode_of(cell.kind(), mode) || n == 0 || n > 256 || cell.slots() >= 4096 {
+    let many = cell.slots() as usize;
+    if !is_mode_of(mode, cell.kind())
+        || n == 0
+        || n as usize > MOST_BUFFER_SIZE
+        || many >= MOST_SLOTS
+    {
         return Err(Fail::new("no such slot can join"));
     }
     Ok(cell.join(mode, n, snapshot)?)
 }
 
-/// Enqueues, and tells the number of the event.
+/// Enqueues, and answers the number of the event.
 fn enqueue(cell: &mut ItemCell, slot: u32) -> Result<Enqueued, Fail> {
     if !cell.has(slot) {
         return Err(Fail::new("no such slot is live"));
@@ -87,7 +95,7 @@ fn enqueue(cell: &mut ItemCell, slot: u32) -> Result<Enqueued, Fail> {
     Ok(cell.enqueue(slot)?)
 }
 
-/// Enqueues all, and tells how many are left.
+/// Enqueues all, and answers how many are to come.
 fn catch_up(cell: &mut ItemCell, slot: u32) -> Result<u64, Fail> {
     if !cell.has(slot) {
         return Err(Fail::new("no such slot is live"));
@@ -125,38 +133,43 @@ fn key_text(alloc: Global, row: &Option<Row>) -> Result<String, NoMemory> {
     }
 }
 
-/// What a key's cut tells.
-fn told_key(alloc: Global, key: &str, row: &Option<Row>, upto: u64) -> Result<String, NoMemory> {
+/// The text of a key's cut.
+fn key_cut_text(
+    alloc: Global,
+    key: &str,
+    row: &Option<Row>,
+    upto: u64,
+) -> Result<String, NoMemory> {
     let row = key_text(alloc, row)?;
     Ok(format!(in alloc; "{key}={row}@{upto}")?)
 }
 
-/// What a row's cut tells.
-fn told_row(alloc: Global, row: &Row, upto: u64) -> Result<String, NoMemory> {
+/// The text of a row's cut.
+fn row_cut_text(alloc: Global, row: &Row, upto: u64) -> Result<String, NoMemory> {
     let row = row_text(alloc, row)?;
     Ok(format!(in alloc; "{row}@{upto}")?)
 }
 
-/// What a cut tells, and the number up to which it does.
-fn told(alloc: Global, taken: &Taken) -> Result<String, NoMemory> {
+/// The text of a cut, and the number up to which it tells of the item.
+fn cut_text(alloc: Global, taken: &Taken) -> Result<String, NoMemory> {
     match taken {
-        Taken::Row { row, upto } => told_row(alloc, row, *upto),
+        Taken::Row { row, upto } => row_cut_text(alloc, row, *upto),
         Taken::Lost { count, upto } => Ok(format!(in alloc; "lost{count}@{upto}")?),
         Taken::Change { cells, upto } => {
             let cells = cells_text(alloc, cells)?;
             Ok(format!(in alloc; "{cells}@{upto}")?)
         }
-        Taken::Key { key, row, upto } => told_key(alloc, key.as_str(), row, *upto),
+        Taken::Key { key, row, upto } => key_cut_text(alloc, key.as_str(), row, *upto),
         Taken::Cleared { upto } => Ok(format!(in alloc; "cleared@{upto}")?),
         Taken::EndOfSnapshot => Ok(String::from_str(alloc, "end")?),
     }
 }
 
-/// What the next cut tells.
+/// The text of the next cut.
 fn taken(alloc: Global, cell: &mut ItemCell, slot: u32) -> Result<String, Fail> {
     match take(cell, slot)? {
         None => Ok(String::from_str(alloc, "none")?),
-        Some(taken) => Ok(told(alloc, &taken)?),
+        Some(taken) => Ok(cut_text(alloc, &taken)?),
     }
 }
 
@@ -184,7 +197,7 @@ fn snap_of(letter: u8) -> Snap {
     }
 }
 
-/// What a refusal tells.
+/// The text of a refusal.
 fn refused(alloc: Global, cause: PublishRefused) -> Result<String, NoMemory> {
     let word = match cause {
         PublishRefused::Backlog { slot } => return Ok(format!(in alloc; "backlog{slot}")?),
@@ -240,8 +253,8 @@ fn deleted(alloc: Global, cell: &mut ItemCell, key: char) -> Result<String, Fail
     published(alloc, cell, text.as_str())
 }
 
-/// What an event answers. A text that ends with `@` ends with the event's number, one that ends with `~` and a number with
-/// so many letters.
+/// What an event answers. A text that ends with `@` ends with the event's number, one that ends with `~` and a number
+/// with so many letters.
 fn event_answer(alloc: Global, cell: &mut ItemCell, text: &str) -> Result<String, Fail> {
     if let Some((text, _)) = text.split_once('@') {
         return numbered(alloc, cell, text);
@@ -275,13 +288,13 @@ fn enqueued(alloc: Global, cell: &mut ItemCell, slot: u32) -> Result<String, Fai
 
 /// What catching up answers.
 fn caught_up(alloc: Global, cell: &mut ItemCell, slot: u32) -> Result<String, Fail> {
-    let left = catch_up(cell, slot)?;
-    Ok(format!(in alloc; "{left}")?)
+    let lag = catch_up(cell, slot)?;
+    Ok(format!(in alloc; "{lag}")?)
 }
 
-/// Does what a word says, and tells the answer: `j` with a mode, a size and a snapshot joins a slot; `e`, `c`, `t` and `l`
-/// with a slot's number enqueue one event, enqueue all, take a cut, and leave; `+` with a key and a letter, and `-` with a
-/// key, add and delete the key; another word is an event.
+/// Does what a word says, and answers: `j` with a mode, a size and a snapshot joins a slot; `e`, `c`, `t` and `l`
+/// with a slot's number enqueue one event, enqueue all, take a cut, and leave; `+` with a key and a letter, and `-`
+/// with a key, add and delete the key; another word is an event.
 fn step(alloc: Global, cell: &mut ItemCell, word: &str) -> Result<String, Fail> {
     match word.as_bytes() {
         [b'j', mode, n, snapshot] => joined(alloc, cell, *mode, *n, *snapshot),
@@ -295,7 +308,7 @@ fn step(alloc: Global, cell: &mut ItemCell, word: &str) -> Result<String, Fail> 
     }
 }
 
-/// Does what words say, one after another, and tells the last answer.
+/// Does what words say, one after another, and gives the last answer.
 fn last(alloc: Global, cell: &mut ItemCell, words: &str) -> Result<String, Fail> {
     let mut answer = String::new(alloc);
     for word in words.split(',') {
@@ -305,7 +318,7 @@ fn last(alloc: Global, cell: &mut ItemCell, words: &str) -> Result<String, Fail>
 }
 
 /// The answer to a word; behind a number and `*` there are words between commas, which are done so often, and the last
-/// answer is told.
+/// answer is its answer.
 fn answer(alloc: Global, cell: &mut ItemCell, word: &str) -> Result<String, Fail> {
     let Some((times, words)) = word.split_once('*') else {
         return step(alloc, cell, word);

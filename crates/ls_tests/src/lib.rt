@@ -1,8 +1,9 @@
 //! The tests of the libraries: each public call once with ample memory, and what no line of text can say.
 //!
-//! They stand together here, a module for each crate, and not beside what they test: a crate with tests is proved twice, and
-//! each test is linked with all that it calls. What a line of text can say is a case of `ls_tables`, and costs no proof.
-//! A test is short, since it is proved too: a helper with two or three `?` answers whether all is as it must be.
+//! They stand together here, a module for each crate, and not beside what they test: a crate with tests is proved
+//! twice, and each test is linked with all that it calls. What a line of text can say is a case of `ls_tables`, and
+//! costs no proof. A test is short, since it is proved too: a helper with two or three `?` answers whether all is as
+//! it must be.
 #![tactic(auto)]
 
 #[cfg(test)]

@@ -1,14 +1,10 @@
 //! Values from words, for the tests of all crates.
-use ls_value::{Bytes, Cell, Cells, Names, NoMemory, Row, Text, Value};
+use ls_value::{Cell, Cells, Names, NoMemory, Row, Text, Value};
 use std::alloc::Global;
 
 /// The text of a word.
 pub fn text(alloc: Global, word: &str) -> Result<Text, NoMemory> {
-    let bytes = Bytes::of(alloc, word.as_bytes())?;
-    match Text::of(alloc, bytes.as_slice()) {
-        Ok(text) => Ok(text),
-        Err(_) => Err(NoMemory),
-    }
+    Text::from_str(alloc, word)
 }
 
 /// The value of a word: `#` is null, and every other word a text.

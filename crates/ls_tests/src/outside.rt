@@ -1,4 +1,5 @@
-//! What no contract says: that the calls succeed with ample memory, and that the adapters fit std's readers and writers.
+//! What no contract says: that the calls succeed with ample memory, and that the adapters fit std's readers and
+//! writers.
 use ls_outside::{
     Call, Got, MemSink, MemSource, PlainSink, PlainSource, Put, Sink, Source, StdSink, StdSource,
     write_all,

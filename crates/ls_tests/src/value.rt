@@ -73,11 +73,78 @@ fn differ(alloc: Global, words: &'static str, others: &'static str) -> Result<bo
 fn projected(alloc: Global) -> Result<bool, NoMemory> {
     let row = row(alloc, "20:06:10|3.05|0.32")?;
     let places = Places::of(vec![in alloc; 2, 0, 2]?).copy(alloc)?;
-    if row.len() != 3 {
+    let taken = project(alloc, &row, &places)?;
+    Ok(is_row(&taken, "0.32|20:06:10|0.32") && is_projected(&taken, &row, &places))
+}
+
+/// Whether the cells at places 1 and 3, which is past the last, are taken.
+fn cells_projected(alloc: Global) -> Result<bool, NoMemory> {
+    let cells = cells(alloc, "=|3.06|#")?;
+    let places = Places::of(vec![in alloc; 1, 3]?);
+    let taken = project_cells(alloc, &cells, &places)?;
+    Ok(match taken.as_slice() {
+        [Cell::Text(text), Cell::Same] => same_bytes(text.as_bytes(), b"3.06"),
+        _ => false,
+    })
+}
+
+/// Whether a text takes another one's place, a longer and a shorter one.
+fn set_texts(alloc: Global) -> Result<bool, NoMemory> {
+    let mut text = Text::from_str(alloc, "3.04")?;
+    text.set("20:06:10")?;
+    let longer = same_bytes(text.as_bytes(), b"20:06:10");
+    text.set("3")?;
+    Ok(longer && same_bytes(text.as_bytes(), b"3"))
+}
+
+/// Whether a row of two fields becomes another one of three.
+fn set_from(alloc: Global, words: &'static str) -> Result<bool, NoMemory> {
+    let mut spare = row(alloc, "20:06:10|#")?;
+    let other = row(alloc, words)?;
+    spare.set_from(alloc, &other)?;
+    Ok(is_row(&spare, words))
+}
+
+/// Whether a spare row becomes the row after cells.
+fn set_applied(alloc: Global, spare: &mut Row, after: &'static str) -> Result<bool, NoMemory> {
+    let row = row(alloc, "20:06:10|3.05|#")?;
+    let cells = cells(alloc, after)?;
+    if row.len() != cells.len() {
         return Ok(false);
     }
-    let taken = project(alloc, &row, &places)?;
-    Ok(is_row(&taken, "0.32|20:06:10|0.32") && places.as_slice() == [2, 0, 2].as_slice())
+    spare.set_applied(alloc, &row, &cells)?;
+    Ok(is_row(spare, "20:06:10|#|0.32"))
+}
+
+/// Whether a spare row becomes that at places, and that after the cells at them.
+fn set_at(alloc: Global, spare: &mut Row, places: &Places) -> Result<bool, NoMemory> {
+    let row = row(alloc, "20:06:10|3.05|#")?;
+    spare.set_projected(alloc, &row, places)?;
+    Ok(is_row(spare, "#|20:06:10"))
+}
+
+/// Whether a spare row becomes a row of two fields after the cells at places 2 and 0.
+fn set_applied_at(alloc: Global, spare: &mut Row, places: &Places) -> Result<bool, NoMemory> {
+    let row = row(alloc, "0.32|20:06:10")?;
+    let cells = cells(alloc, "20:06:11|=|#")?;
+    if row.len() != places.len() {
+        return Ok(false);
+    }
+    spare.set_applied_at(alloc, &row, &cells, places)?;
+    Ok(is_row(spare, "#|20:06:11"))
+}
+
+#[test]
+fn rows_change_in_their_room(rt: HostRuntime) -> Result<(), Fail> {
+    let alloc = rt.alloc();
+    assert!(rt; set_texts(alloc)?);
+    assert!(rt; set_from(alloc, "#|20:06:10|3.05")?);
+    let mut spare = row(alloc, "a|b")?;
+    assert!(rt; set_applied(alloc, &mut spare, "=|#|0.32")?);
+    let places = Places::of(vec![in alloc; 2, 0]?);
+    assert!(rt; set_at(alloc, &mut spare, &places)?);
+    assert!(rt; set_applied_at(alloc, &mut spare, &places)?);
+    Ok(())
 }
 
 #[test]
@@ -101,6 +168,7 @@ fn rows_are_compared(rt: HostRuntime) -> Result<(), Fail> {
 #[test]
 fn schemas_take_places(rt: HostRuntime) -> Result<(), Fail> {
     assert!(rt; projected(rt.alloc())?);
+    assert!(rt; cells_projected(rt.alloc())?);
     Ok(())
 }
 
@@ -110,6 +178,7 @@ fn names_are_found(rt: HostRuntime) -> Result<(), Fail> {
     assert!(rt; names.find(b"time") == Some(0) && names.find(b"last") == Some(1));
     assert!(rt; names.find(b"change") == Some(2) && names.find(b"las").is_none());
     assert!(rt; names.len() == 4 && !names.is_empty());
+    assert!(rt; !names.copy(rt.alloc())?.are_distinct());
     Ok(())
 }
 

@@ -1,5 +1,6 @@
 -- The bytes of tokens as they are written: no divider is among them, and a text is read back.
-use Rattle.std.proofs.Common.{◌≡◌, ℕ, ◌+◌, ◌/◌, ◌%◌, ◌<◌, ◌^◌, Bool, true, false, ◌||◌, ◌==◌, nat_lt, nat_le, ltb, List, [], ◌∷◌, ◌++◌, sym, refl, ap, ◌∙◌, subst, All, arith, append-nil, IsUtf8, ⊎_elim}
+use Rattle.std.proofs.Common.{◌≡◌, ℕ, ◌+◌, ◌/◌, ◌%◌, ◌<◌, ◌^◌, Bool, true, false, ◌||◌, ◌==◌, nat_lt, nat_le, ltb, List}
+use Rattle.std.proofs.Common.{[], ◌∷◌, ◌++◌, sym, refl, ap, ◌∙◌, subst, All, arith, append-nil, IsUtf8, ⊎_elim}
 use Rattle.std.proofs.lemmas.Bool.{cond_both, cases_Bool, both_ways, and_parts}
 use Rattle.std.proofs.lemmas.Bool.Decides.{nat_tests}
 use Rattle.std.proofs.lemmas.Fmt.{decimal_by_steps}
@@ -7,7 +8,9 @@ use Rattle.std.proofs.lemmas.List.Elements.{All-nil, All-cons, All-head, All-tai
 use Rattle.std.specs.Fmt.{decimal}
 use Rattle.percent_encoding.specs.AsciiSet.{should_percent_encode}
 use Rattle.percent_encoding.specs.Percent.{percent_encode, percent_encode_byte, percent_decode}
-use Rattle.percent_encoding.proofs.PercentLemmas.{IsByte, IsEscapeByte, All-percent_encode, round_trip, percent_encode-nil, percent_encode_escaped, percent_encode_kept, percent_decode-percent_encode_byte, percent_decode_not_percent}
+use Rattle.percent_encoding.proofs.PercentLemmas.{IsByte, IsEscapeByte, All-percent_encode, round_trip}
+use Rattle.percent_encoding.proofs.PercentLemmas.{percent_encode-nil, percent_encode_escaped, percent_encode_kept}
+use Rattle.percent_encoding.proofs.PercentLemmas.{percent_decode-percent_encode_byte, percent_decode_not_percent}
 use Rattle.percent_encoding.proofs.AsciiSetLemmas.{escaped_from_inside}
 use Rattle.ls_update.specs.declared.writing.TheConstants.{ESCAPED, ESCAPED_FIRST}
 use Rattle.ls_update.specs.Fields.{is_escaped, is_escaped_first, spelled_text}
@@ -26,10 +29,15 @@ bytes_of_char c is =
     let last = All-cons IsByte (next c) [] (next_small c) (All-nil IsByte) in
     let middle = All-cons IsByte (next (c / 64)) (next c ∷ []) (next_small (c / 64)) last in
     let three = All-cons IsByte (next (c / 4096)) (next (c / 64) ∷ next c ∷ []) (next_small (c / 4096)) middle in
-    cond_both (ltb c 128) (c ∷ []) _ (All IsByte) (λ e. All-cons IsByte c [] (grind (arith, nat_tests)) (All-nil IsByte)) (λ e.
-    cond_both (ltb c 2048) ((192 + c / 64) ∷ next c ∷ []) _ (All IsByte) (λ f. All-cons IsByte (192 + c / 64) (next c ∷ []) (grind (arith, nat_tests)) last) (λ f.
-    cond_both (ltb c 65536) ((224 + c / 4096) ∷ next (c / 64) ∷ next c ∷ []) ((240 + c / 262144) ∷ next (c / 4096) ∷ next (c / 64) ∷ next c ∷ []) (All IsByte) (λ g. All-cons IsByte (224 + c / 4096) (next (c / 64) ∷ next c ∷ []) (grind (arith, nat_tests)) middle)
-    (λ g. All-cons IsByte (240 + c / 262144) (next (c / 4096) ∷ next (c / 64) ∷ next c ∷ []) (omega (arith, low)) three)))
+    cond_both (ltb c 128) (c ∷ []) _ (All IsByte) (λ e. All-cons IsByte c [] (grind (arith, nat_tests))
+    (All-nil IsByte)) (λ e.
+    cond_both (ltb c 2048) ((192 + c / 64) ∷ next c ∷ []) _ (All IsByte)
+    (λ f. All-cons IsByte (192 + c / 64) (next c ∷ []) (grind (arith, nat_tests)) last) (λ f.
+    cond_both (ltb c 65536) ((224 + c / 4096) ∷ next (c / 64) ∷ next c ∷ [])
+    ((240 + c / 262144) ∷ next (c / 4096) ∷ next (c / 64) ∷ next c ∷ []) (All IsByte)
+    (λ g. All-cons IsByte (224 + c / 4096) (next (c / 64) ∷ next c ∷ []) (grind (arith, nat_tests)) middle)
+    (λ g. All-cons IsByte (240 + c / 262144) (next (c / 4096) ∷ next (c / 64) ∷ next c ∷ []) (omega (arith, low))
+    three)))
 
 bytes_of_chars : (cs : List ℕ) → scalars cs ≡ true → All IsByte (encodes cs)
 bytes_of_chars [] is = All-nil IsByte
@@ -48,7 +56,9 @@ plain_decimal : (k : ℕ) → k < 2 ^ 64 → All IsPlain (decimal k)
 plain_decimal k small =
     decimal_by_steps (λ n ds. All IsPlain ds)
     (λ n few. All-cons IsPlain (48 + n) [] (grind (arith, nat_tests)) (All-nil IsPlain))
-    (λ n ds some h. All-append IsPlain ds ((48 + n % 10) ∷ []) h (All-cons IsPlain (48 + n % 10) [] (let m : n % 10 < 10 = omega arith in grind (arith, nat_tests)) (All-nil IsPlain)))
+    (λ n ds some h. All-append IsPlain ds ((48 + n % 10) ∷ []) h
+    (All-cons IsPlain (48 + n % 10) [] (let m : n % 10 < 10 = omega arith in grind (arith, nat_tests))
+    (All-nil IsPlain)))
     k small
 
 pub plain_run : (k : ℕ) → k < 2 ^ 64 → All IsPlain (94 ∷ decimal k)
@@ -66,7 +76,8 @@ plain_kept b kept = by_tests (nat_lt b 32) (nat_le 127 b) (b == 37) (b == 124) k
     by_tests false false true z h = cc
     by_tests false false false z h = h
 
-first_parts : (b : ℕ) → is_escaped_first b ≡ false → (is_escaped b ≡ false) × ((b == 35) ≡ false) × ((b == 36) ≡ false) × ((b == 94) ≡ false)
+first_parts : (b : ℕ) → is_escaped_first b ≡ false → (is_escaped b ≡ false) × ((b == 35) ≡ false) × ((b == 36) ≡ false)
+    × ((b == 94) ≡ false)
 first_parts b kept = by_tests (is_escaped b) (b == 35) (b == 36) (b == 94) kept
   where
     by_tests : (w x y z : Bool) → (w || x || y || z) ≡ false → (w ≡ false) × (x ≡ false) × (y ≡ false) × (z ≡ false)
@@ -81,15 +92,22 @@ plain_text [] = All-cons IsPlain 36 [] refl (All-nil IsPlain)
 plain_text (b ∷ bs) =
     rw (spelled_text-parts (b ∷ bs) (b ∷ []) bs refl refl)
     (All-append IsPlain (percent_encode ESCAPED_FIRST (b ∷ [])) (percent_encode ESCAPED bs)
-    (All-percent_encode IsPlain ESCAPED_FIRST (b ∷ []) (λ c kept. plain_kept c (first_parts c (sym (escaped_first c) ∙ kept)).0) plain_escape)
+    (All-percent_encode IsPlain ESCAPED_FIRST (b ∷ []) (λ c kept. plain_kept c
+    (first_parts c (sym (escaped_first c) ∙ kept)).0) plain_escape)
     (All-percent_encode IsPlain ESCAPED bs (λ c kept. plain_kept c (sym (escaped c) ∙ kept)) plain_escape))
 
 -- a written text is read back
-first_back : (b : ℕ) (rest : List ℕ) → b < 256 → percent_decode (percent_encode ESCAPED_FIRST (b ∷ []) ++ rest) ≡ b ∷ percent_decode rest
+first_back : (b : ℕ) (rest : List ℕ) → b < 256 → percent_decode (percent_encode ESCAPED_FIRST (b ∷ []) ++ rest) ≡ b
+    ∷ percent_decode rest
 first_back b rest small =
     ⊎_elim
-    (λ e. ap (λ (x : List ℕ). percent_decode (x ++ rest)) (percent_encode_escaped ESCAPED_FIRST b [] e ∙ ap (λ (x : List ℕ). percent_encode_byte b ++ x) (percent_encode-nil ESCAPED_FIRST) ∙ append-nil (percent_encode_byte b)) ∙ percent_decode-percent_encode_byte b rest small)
-    (λ e. ap (λ (x : List ℕ). percent_decode (x ++ rest)) (percent_encode_kept ESCAPED_FIRST b [] e ∙ ap (λ (x : List ℕ). b ∷ x) (percent_encode-nil ESCAPED_FIRST)) ∙ percent_decode_not_percent b rest (λ percent. both_ways _ e (rw percent (escaped_from_inside ESCAPED_FIRST 37 refl))))
+    (λ e. ap (λ (x : List ℕ). percent_decode (x ++ rest)) (percent_encode_escaped ESCAPED_FIRST b [] e
+    ∙ ap (λ (x : List ℕ). percent_encode_byte b ++ x) (percent_encode-nil ESCAPED_FIRST)
+    ∙ append-nil (percent_encode_byte b)) ∙ percent_decode-percent_encode_byte b rest small)
+    (λ e. ap (λ (x : List ℕ). percent_decode (x ++ rest)) (percent_encode_kept ESCAPED_FIRST b [] e
+    ∙ ap (λ (x : List ℕ). b ∷ x) (percent_encode-nil ESCAPED_FIRST))
+    ∙ percent_decode_not_percent b rest (λ percent. both_ways _ e
+    (rw percent (escaped_from_inside ESCAPED_FIRST 37 refl))))
     (cases_Bool (should_percent_encode ESCAPED_FIRST b))
 
 pub text_back : (b : ℕ) (bs : List ℕ) → All IsByte (b ∷ bs) → percent_decode (spelled_text (b ∷ bs)) ≡ b ∷ bs
@@ -99,7 +117,8 @@ text_back b bs small =
     ∙ ap (λ (x : List ℕ). b ∷ x) (round_trip ESCAPED bs refl (All-tail IsByte b bs small))
 
 -- and its token says a text
-says_plain : (b : ℕ) (bs : List ℕ) → (b == 35) ≡ false → (b == 36) ≡ false → (b == 94) ≡ false → says_text (b ∷ bs) ≡ true
+says_plain : (b : ℕ) (bs : List ℕ) → (b == 35) ≡ false → (b == 36) ≡ false → (b == 94) ≡ false
+    → says_text (b ∷ bs) ≡ true
 says_plain b [] x y z = rw (x, y, z) refl
 says_plain b (c ∷ bs) x y z = rw z refl
 

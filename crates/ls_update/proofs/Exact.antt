@@ -1,5 +1,6 @@
 -- Tokens say one row, or have one first fault.
-use Rattle.std.proofs.Common.{◌≡◌, ◌⊎◌, inl, inr, ℕ, ◌+◌, ◌<◌, ◌≤◌, ◌^◌, Bool, true, false, not, ◌||◌, ◌==◌, if◌then◌else◌, List, [], ◌∷◌, ◌++◌, length, take, drop, sym, refl, ap, ◌∙◌, arith}
+use Rattle.std.proofs.Common.{◌≡◌, ◌⊎◌, inl, inr, ℕ, ◌+◌, ◌<◌, ◌≤◌, ◌^◌, Bool, true, false, not, ◌||◌, ◌==◌}
+use Rattle.std.proofs.Common.{if◌then◌else◌, List, [], ◌∷◌, ◌++◌, length, take, drop, sym, refl, ap, ◌∙◌, arith}
 use Rattle.std.specs.Fmt.{decimal}
 use Rattle.std.proofs.lemmas.Fmt.{decimal_injective}
 use Rattle.std.proofs.lemmas.List.{length-take-le, length-drop, take-append-drop}
@@ -14,7 +15,8 @@ use Rattle.ls_update.proofs.Said.{some_says}
 -- the value that a token says that isn't empty and no run
 abbrev one_said : List ℕ → Value
 one_said [] = value.Null
-one_said (b ∷ []) = if b == 35 then value.Null else if b == 36 then value.Text [] else value.Text (percent_decode (b ∷ []))
+one_said (b ∷ []) = if b == 35 then value.Null else if b == 36 then value.Text []
+    else value.Text (percent_decode (b ∷ []))
 one_said (b ∷ c ∷ bs) = value.Text (percent_decode (b ∷ c ∷ bs))
 
 -- the values that a token says
@@ -22,19 +24,22 @@ abbrev all_said : List Value → List ℕ → List Value
 all_said before [] = before
 all_said before (b ∷ bs) = if b == 94 then before else one_said (b ∷ bs) ∷ []
 
-text_said : (before : List Value) (token : List ℕ) → says_text token ≡ true → all_said before token ≡ value.Text (percent_decode token) ∷ []
+text_said : (before : List Value) (token : List ℕ) → says_text token ≡ true
+    → all_said before token ≡ value.Text (percent_decode token) ∷ []
 text_said before [] says = cc
 text_said before (b ∷ []) says = by_tests (b == 35) (b == 36) (b == 94) says
   where
     by_tests : (x y z : Bool) → not (x || y || z) ≡ true
-        → (if z then before else (if x then value.Null else if y then value.Text [] else value.Text (percent_decode (b ∷ []))) ∷ []) ≡ value.Text (percent_decode (b ∷ [])) ∷ []
+        → (if z then before else (if x then value.Null else if y then value.Text []
+        else value.Text (percent_decode (b ∷ []))) ∷ []) ≡ value.Text (percent_decode (b ∷ [])) ∷ []
     by_tests true y z h = cc
     by_tests false true z h = cc
     by_tests false false true h = cc
     by_tests false false false h = refl
 text_said before (b ∷ c ∷ bs) says = by_test (b == 94) says
   where
-    by_test : (z : Bool) → not z ≡ true → (if z then before else value.Text (percent_decode (b ∷ c ∷ bs)) ∷ []) ≡ value.Text (percent_decode (b ∷ c ∷ bs)) ∷ []
+    by_test : (z : Bool) → not z ≡ true → (if z then before else value.Text (percent_decode (b ∷ c ∷ bs)) ∷ [])
+        ≡ value.Text (percent_decode (b ∷ c ∷ bs)) ∷ []
     by_test true h = cc
     by_test false h = refl
 
@@ -62,50 +67,61 @@ text_no_run (b ∷ c ∷ bs) h = by_test (b == 94) h
     by_test false h = refl
 
 -- a token that is no run says one field, and a run its number
-one_or_run : (before now : List Value) (token : List ℕ) → Says before token now → ((begins_run token ≡ false) × (length before ≡ 1)) ⊎ (token ≡ 94 ∷ decimal (length before))
+one_or_run : (before now : List Value) (token : List ℕ) → Says before token now
+    → ((begins_run token ≡ false) × (length before ≡ 1)) ⊎ (token ≡ 94 ∷ decimal (length before))
 one_or_run before now token (unchanged one t n) = inl (rw t refl, one)
 one_or_run before now token (run some t n) = inr t
 one_or_run before now token (null one t n) = inl (rw t refl, one)
 one_or_run before now token (empty one t n) = inl (rw t refl, one)
 one_or_run before now token (text one t u n) = inl (text_no_run token t, one)
 
-same_count : (a b r s : List Value) (token : List ℕ) → length a < 2 ^ 64 → length b < 2 ^ 64 → Says a token r → Says b token s → length a ≡ length b
+same_count : (a b r s : List Value) (token : List ℕ) → length a < 2 ^ 64 → length b < 2 ^ 64 → Says a token r
+    → Says b token s → length a ≡ length b
 same_count a b r s token small few x y = by_kind (one_or_run a r token x) (one_or_run b s token y)
   where
-    by_kind : ((begins_run token ≡ false) × (length a ≡ 1)) ⊎ (token ≡ 94 ∷ decimal (length a)) → ((begins_run token ≡ false) × (length b ≡ 1)) ⊎ (token ≡ 94 ∷ decimal (length b)) → length a ≡ length b
+    by_kind : ((begins_run token ≡ false) × (length a ≡ 1)) ⊎ (token ≡ 94 ∷ decimal (length a))
+        → ((begins_run token ≡ false) × (length b ≡ 1)) ⊎ (token ≡ 94 ∷ decimal (length b)) → length a ≡ length b
     by_kind (inl (n, one)) (inl (m, other)) = one ∙ sym other
     by_kind (inl (n, one)) (inr t) = absurd (let h : begins_run token ≡ true = rw t refl in cc)
     by_kind (inr t) (inl (m, other)) = absurd (let h : begins_run token ≡ true = rw t refl in cc)
-    by_kind (inr t) (inr u) = decimal_injective (length a) (length b) small few (let e : 94 ∷ decimal (length a) ≡ 94 ∷ decimal (length b) = sym t ∙ u in cc)
+    by_kind (inr t) (inr u) = decimal_injective (length a) (length b) small few
+        (let e : 94 ∷ decimal (length a) ≡ 94 ∷ decimal (length b) = sym t ∙ u in cc)
 
 same_said : (before r s : List Value) (token : List ℕ) → Says before token r → Says before token s → r ≡ s
 same_said before r s token x y = said_is before r token x ∙ sym (said_is before s token y)
 
 -- two readings of a first token speak of as many fields
-same_fields : (prev r s : List Value) (token : List ℕ) (k m : ℕ) → length prev < 2 ^ 64 → k ≤ length prev → m ≤ length prev → Says (take k prev) token r → Says (take m prev) token s → k ≡ m
+same_fields : (prev r s : List Value) (token : List ℕ) (k m : ℕ) → length prev < 2 ^ 64 → k ≤ length prev
+    → m ≤ length prev → Says (take k prev) token r → Says (take m prev) token s → k ≡ m
 same_fields prev r s token k m small within inside x y =
     let a = length-take-le k prev within in
     let b = length-take-le m prev inside in
-    let e = same_count (take k prev) (take m prev) r s token (omega (arith, a, within, small)) (omega (arith, b, inside, small)) x y in
+    let e = same_count (take k prev) (take m prev) r s token (omega (arith, a, within, small))
+    (omega (arith, b, inside, small)) x y in
     sym a ∙ e ∙ b
 
 fewer : (prev : List Value) (k : ℕ) → length prev < 2 ^ 64 → length (drop k prev) < 2 ^ 64
 fewer prev k small = let n = length-drop k prev in omega (arith, n, small)
 
 -- tokens say one row
-pub one_row : (prev r s : List Value) (tokens : List (List ℕ)) → length prev < 2 ^ 64 → Reads prev tokens r → Reads prev tokens s → r ≡ s
+pub one_row : (prev r s : List Value) (tokens : List (List ℕ)) → length prev < 2 ^ 64 → Reads prev tokens r
+    → Reads prev tokens s → r ≡ s
 one_row prev r s [] small (x, y) (z, w) = y ∙ sym w
 one_row prev r s (t ∷ ts) small (k, within, says, rest) (m, inside, said, other) =
     let e : m ≡ k = same_fields prev (take m s) (take k r) t m k small inside within said says in
     let first : take k r ≡ take k s = same_said (take k prev) (take k r) (take k s) t says (rw e at said) in
-    let behind : drop k r ≡ drop k s = one_row (drop k prev) (drop k r) (drop k s) ts (fewer prev k small) rest (rw e at other) in
+    let behind : drop k r ≡ drop k s = one_row (drop k prev) (drop k r) (drop k s) ts (fewer prev k small) rest
+    (rw e at other) in
     sym (take-append-drop k r) ∙ ap (λ x. x ++ drop k r) first ∙ ap (λ x. take k s ++ x) behind ∙ take-append-drop k s
 
 -- a token that says something is at no fault
-no_fault : (before now : List Value) (token : List ℕ) (left place : ℕ) (fault : ReadRefused) → Says before token now → length before ≤ left → IsFault left token place fault → ⊥
+no_fault : (before now : List Value) (token : List ℕ) (left place : ℕ) (fault : ReadRefused) → Says before token now
+    → length before ≤ left → IsFault left token place fault → ⊥
 no_fault before now token left place (refused.TooFew got) says within bad = bad
-no_fault before now token left place (refused.TooMany stands) says within (is, none) = let some = some_says before now token says in absurd (omega (arith, some, within, none))
-no_fault before now token left place (refused.BadRun stands) says within (is, some, begins, none) = by_kind (one_or_run before now token says)
+no_fault before now token left place (refused.TooMany stands) says within (is, none) =
+    let some = some_says before now token says in absurd (omega (arith, some, within, none))
+no_fault before now token left place (refused.BadRun stands) says within (is, some, begins, none) =
+    by_kind (one_or_run before now token says)
   where
     by_kind : ((begins_run token ≡ false) × (length before ≡ 1)) ⊎ (token ≡ 94 ∷ decimal (length before)) → ⊥
     by_kind (inl (n, one)) = absurd (let e : false ≡ true = sym n ∙ begins in cc)
@@ -124,42 +140,60 @@ no_text_run : (token : List ℕ) → says_text token ≡ true → begins_run tok
 no_text_run token plain begins = absurd (let e : false ≡ true = sym (text_no_run token plain) ∙ begins in cc)
 
 -- a token has one fault
-same_fault : (left : ℕ) (token : List ℕ) (place : ℕ) (e f : ReadRefused) → IsFault left token place e → IsFault left token place f → e ≡ f
+same_fault : (left : ℕ) (token : List ℕ) (place : ℕ) (e f : ReadRefused) → IsFault left token place e
+    → IsFault left token place f → e ≡ f
 same_fault left token place (refused.TooFew got) f x y = absurd x
 same_fault left token place refused.NoMemory f x y = absurd x
 same_fault left token place (refused.TooMany a) (refused.TooFew b) x y = absurd y
 same_fault left token place (refused.TooMany a) (refused.TooMany b) x y = ap refused.TooMany (x.0 ∙ sym y.0)
-same_fault left token place (refused.TooMany a) (refused.BadRun b) (is, none) (at, some, kind, y) = absurd (omega (arith, none, some))
-same_fault left token place (refused.TooMany a) (refused.BadText b) (is, none) (at, some, kind, y) = absurd (omega (arith, none, some))
+same_fault left token place (refused.TooMany a) (refused.BadRun b) (is, none) (at, some, kind, y) =
+    absurd (omega (arith, none, some))
+same_fault left token place (refused.TooMany a) (refused.BadText b) (is, none) (at, some, kind, y) =
+    absurd (omega (arith, none, some))
 same_fault left token place (refused.TooMany a) refused.NoMemory x y = absurd y
 same_fault left token place (refused.BadRun a) (refused.TooFew b) x y = absurd y
-same_fault left token place (refused.BadRun a) (refused.TooMany b) (at, some, kind, x) (is, none) = absurd (omega (arith, none, some))
+same_fault left token place (refused.BadRun a) (refused.TooMany b) (at, some, kind, x) (is, none) =
+    absurd (omega (arith, none, some))
 same_fault left token place (refused.BadRun a) (refused.BadRun b) x y = ap refused.BadRun (x.0 ∙ sym y.0)
-same_fault left token place (refused.BadRun a) (refused.BadText b) (at, some, begins, x) (is, more, plain, y) = absurd (no_text_run token plain begins)
+same_fault left token place (refused.BadRun a) (refused.BadText b) (at, some, begins, x) (is, more, plain, y) =
+    absurd (no_text_run token plain begins)
 same_fault left token place (refused.BadRun a) refused.NoMemory x y = absurd y
 same_fault left token place (refused.BadText a) (refused.TooFew b) x y = absurd y
-same_fault left token place (refused.BadText a) (refused.TooMany b) (at, some, kind, x) (is, none) = absurd (omega (arith, none, some))
-same_fault left token place (refused.BadText a) (refused.BadRun b) (is, more, plain, y) (at, some, begins, x) = absurd (no_text_run token plain begins)
+same_fault left token place (refused.BadText a) (refused.TooMany b) (at, some, kind, x) (is, none) =
+    absurd (omega (arith, none, some))
+same_fault left token place (refused.BadText a) (refused.BadRun b) (is, more, plain, y) (at, some, begins, x) =
+    absurd (no_text_run token plain begins)
 same_fault left token place (refused.BadText a) (refused.BadText b) x y = ap refused.BadText (x.0 ∙ sym y.0)
 same_fault left token place (refused.BadText a) refused.NoMemory x y = absurd y
 
 -- the first fault of tokens that stand from a place on, where so many fields were said before
 abbrev pub Faults : ℕ → ℕ → List Value → List (List ℕ) → ReadRefused → Type 0
 Faults place got prev [] fault = (1 ≤ length prev) × (fault ≡ refused.TooFew got)
-Faults place got prev (t ∷ ts) fault = IsFault (length prev) t place fault ⊎ ((k : ℕ) × (k ≤ length prev) × (now : List Value) × Says (take k prev) t now × Faults (place + 1) (got + k) (drop k prev) ts fault)
+Faults place got prev (t ∷ ts) fault = IsFault (length prev) t place fault
+    ⊎ ((k : ℕ) × (k ≤ length prev) × (now : List Value) × Says (take k prev) t now
+    × Faults (place + 1) (got + k) (drop k prev) ts fault)
 
-pub one_fault_behind : (place got : ℕ) (prev : List Value) (tokens : List (List ℕ)) (e f : ReadRefused) → length prev < 2 ^ 64 → Faults place got prev tokens e → Faults place got prev tokens f → e ≡ f
+pub one_fault_behind : (place got : ℕ) (prev : List Value) (tokens : List (List ℕ)) (e f : ReadRefused)
+    → length prev < 2 ^ 64 → Faults place got prev tokens e → Faults place got prev tokens f → e ≡ f
 one_fault_behind place got prev [] e f small x y = x.1 ∙ sym y.1
 one_fault_behind place got prev (t ∷ ts) e f small (inl x) (inl y) = same_fault (length prev) t place e f x y
-one_fault_behind place got prev (t ∷ ts) e f small (inl x) (inr (k, within, now, says, y)) = absurd (no_fault (take k prev) now t (length prev) place e says (omega (arith, length-take-le k prev within, within)) x)
-one_fault_behind place got prev (t ∷ ts) e f small (inr (k, within, now, says, x)) (inl y) = absurd (no_fault (take k prev) now t (length prev) place f says (omega (arith, length-take-le k prev within, within)) y)
+one_fault_behind place got prev (t ∷ ts) e f small (inl x) (inr (k, within, now, says, y)) =
+    absurd (no_fault (take k prev) now t (length prev) place e says
+    (omega (arith, length-take-le k prev within, within)) x)
+one_fault_behind place got prev (t ∷ ts) e f small (inr (k, within, now, says, x)) (inl y) =
+    absurd (no_fault (take k prev) now t (length prev) place f says
+    (omega (arith, length-take-le k prev within, within)) y)
 one_fault_behind place got prev (t ∷ ts) e f small (inr (k, within, now, says, x)) (inr (m, inside, new, said, y)) =
     let same : m ≡ k = same_fields prev new now t m k small inside within said says in
     one_fault_behind (place + 1) (got + k) (drop k prev) ts e f (fewer prev k small) x (rw same at y)
 
-pub no_fault_behind : (place got : ℕ) (prev row : List Value) (tokens : List (List ℕ)) (e : ReadRefused) → length prev < 2 ^ 64 → Reads prev tokens row → Faults place got prev tokens e → ⊥
-no_fault_behind place got prev row [] e small (x, y) (some, z) = absurd (let n : length prev ≡ 0 = ap length x in omega (arith, n, some))
-no_fault_behind place got prev row (t ∷ ts) e small (k, within, says, rest) (inl x) = no_fault (take k prev) (take k row) t (length prev) place e says (omega (arith, length-take-le k prev within, within)) x
+pub no_fault_behind : (place got : ℕ) (prev row : List Value) (tokens : List (List ℕ)) (e : ReadRefused)
+    → length prev < 2 ^ 64 → Reads prev tokens row → Faults place got prev tokens e → ⊥
+no_fault_behind place got prev row [] e small (x, y) (some, z) =
+    absurd (let n : length prev ≡ 0 = ap length x in omega (arith, n, some))
+no_fault_behind place got prev row (t ∷ ts) e small (k, within, says, rest) (inl x) =
+    no_fault (take k prev) (take k row) t (length prev) place e says
+    (omega (arith, length-take-le k prev within, within)) x
 no_fault_behind place got prev row (t ∷ ts) e small (k, within, says, rest) (inr (m, inside, new, said, y)) =
     let same : m ≡ k = same_fields prev new (take k row) t m k small inside within said says in
     no_fault_behind (place + 1) (got + k) (drop k prev) (drop k row) ts e (fewer prev k small) rest (rw same at y)

@@ -1,5 +1,6 @@
 -- How a row grows token by token.
-use Rattle.std.proofs.Common.{◌≡◌, ℕ, ◌+◌, ◌-◌, ◌<◌, ◌≤◌, List, [], ◌∷◌, ◌++◌, length, take, drop, get_or, sym, refl, ap, ◌∙◌, arith, length-append, append-nil, subst, inl, inr}
+use Rattle.std.proofs.Common.{◌≡◌, ℕ, ◌+◌, ◌-◌, ◌<◌, ◌≤◌, List, [], ◌∷◌, ◌++◌, length, take, drop, get_or, sym, refl}
+use Rattle.std.proofs.Common.{ap, ◌∙◌, arith, length-append, append-nil, subst, inl, inr}
 use Rattle.std.proofs.Math.Seq.{take-add, drop-append_seam}
 use Rattle.std.proofs.lemmas.List.{take-append-drop, drop-drop, drop_more, length-drop}
 use Rattle.ls_value.specs.declared.row.Value.{Value}
@@ -10,7 +11,9 @@ use Rattle.ls_update.specs.Growing.{Grows, RefusesToken}
 use Rattle.ls_update.proofs.Said.{Reads-append, Reads-one}
 
 -- a row that grew by these values
-pub grows_by : (prev old now new : List Value) (token : List ℕ) → new ≡ old ++ now → length old + length now ≤ length prev → Says (take (length now) (drop (length old) prev)) token now → Grows prev old token new
+pub grows_by : (prev old now new : List Value) (token : List ℕ) → new ≡ old ++ now
+    → length old + length now ≤ length prev → Says (take (length now) (drop (length old) prev)) token now
+    → Grows prev old token new
 grows_by prev old now new token is within says =
     let n : length new ≡ length old + length now = ap length is ∙ length-append old now in
     let more : drop (length old) new ≡ now = rw is (drop-append_seam old now) in
@@ -18,13 +21,16 @@ grows_by prev old now new token is within says =
     record { within = omega (arith, n, within); kept = rw more is; says = rw (k, more) says }
 
 -- a row that grew by one value
-pub grows_one : (prev old new : List Value) (v : Value) (token : List ℕ) → new ≡ old ++ v ∷ [] → length old < length prev → ((x : Value) → Says (x ∷ []) token (v ∷ [])) → Grows prev old token new
+pub grows_one : (prev old new : List Value) (v : Value) (token : List ℕ) → new ≡ old ++ v ∷ []
+    → length old < length prev → ((x : Value) → Says (x ∷ []) token (v ∷ [])) → Grows prev old token new
 grows_one prev old new v token is within says =
-    let one : take 1 (drop (length old) prev) ≡ get_or prev (length old) v ∷ [] = rw (drop_more prev (length old) v within) refl in
+    let one : take 1 (drop (length old) prev) ≡ get_or prev (length old) v ∷ [] =
+    rw (drop_more prev (length old) v within) refl in
     grows_by prev old (v ∷ []) new token is (omega (arith, within)) (rw one (says (get_or prev (length old) v)))
 
 -- the next element, and those behind it
-pub take_next : {X : Type 0} (xs : List X) (i : ℕ) (x : X) (ys : List X) → drop i xs ≡ x ∷ ys → take (i + 1) xs ≡ take i xs ++ x ∷ []
+pub take_next : {X : Type 0} (xs : List X) (i : ℕ) (x : X) (ys : List X) → drop i xs ≡ x ∷ ys
+    → take (i + 1) xs ≡ take i xs ++ x ∷ []
 take_next xs i x ys is = rw (take-add i 1 xs, is) refl
 
 pub drop_next : {X : Type 0} (xs : List X) (i : ℕ) (x : X) (ys : List X) → drop i xs ≡ x ∷ ys → drop (i + 1) xs ≡ ys
@@ -43,20 +49,30 @@ get_next xs i x d ys is =
     cc
 
 -- the tokens so far say the fields so far, and one more token says more of them
-pub reads_next : (prev old new : List Value) (tokens others : List (List ℕ)) (place : ℕ) (token : List ℕ) → drop place tokens ≡ token ∷ others
-    → Reads (take (length old) prev) (take place tokens) old → Grows prev old token new → Reads (take (length new) prev) (take (place + 1) tokens) new
+pub reads_next : (prev old new : List Value) (tokens others : List (List ℕ)) (place : ℕ) (token : List ℕ)
+    → drop place tokens ≡ token ∷ others
+    → Reads (take (length old) prev) (take place tokens) old → Grows prev old token new
+    → Reads (take (length new) prev) (take (place + 1) tokens) new
 reads_next prev old new tokens others place token is said grows =
-    let n : length new ≡ length old + length (drop (length old) new) = ap length grows.kept ∙ length-append old (drop (length old) new) in
+    let n : length new ≡ length old + length (drop (length old) new) =
+    ap length grows.kept ∙ length-append old (drop (length old) new) in
     let j : length new ≡ length old + (length new - length old) = omega (arith, n) in
-    let fields : take (length new) prev ≡ take (length old) prev ++ take (length new - length old) (drop (length old) prev) =
+    let fields : take (length new) prev ≡ take (length old) prev
+    ++ take (length new - length old) (drop (length old) prev) =
     ap (λ k. take k prev) j ∙ take-add (length old) (length new - length old) prev in
-    let whole = Reads-append (take (length old) prev) (take (length new - length old) (drop (length old) prev)) (take place tokens) (token ∷ []) old (drop (length old) new) said (Reads-one _ _ token grows.says) in
-    let row = subst (λ (r : List Value). Reads (take (length old) prev ++ take (length new - length old) (drop (length old) prev)) (take place tokens ++ token ∷ []) r) (sym grows.kept) whole in
+    let whole = Reads-append (take (length old) prev) (take (length new - length old) (drop (length old) prev))
+    (take place tokens) (token ∷ []) old (drop (length old) new) said (Reads-one _ _ token grows.says) in
+    let row =
+    subst (λ (r : List Value). Reads (take (length old) prev
+    ++ take (length new - length old) (drop (length old) prev)) (take place tokens ++ token ∷ []) r)
+    (sym grows.kept) whole in
     rw (fields, take_next tokens place token others is) row
 
 -- a token at fault behind tokens that say the fields so far
-pub fault_next : (prev old : List Value) (tokens others : List (List ℕ)) (place : ℕ) (token : List ℕ) (fault : ReadRefused) → drop place tokens ≡ token ∷ others
-    → length old ≤ length prev → Reads (take (length old) prev) (take place tokens) old → IsFault (length prev - length old) token (place + 1) fault → FirstFault prev tokens fault
+pub fault_next : (prev old : List Value) (tokens others : List (List ℕ)) (place : ℕ) (token : List ℕ)
+    (fault : ReadRefused) → drop place tokens ≡ token ∷ others
+    → length old ≤ length prev → Reads (take (length old) prev) (take place tokens) old
+    → IsFault (length prev - length old) token (place + 1) fault → FirstFault prev tokens fault
 fault_next prev old tokens others place token fault is few said bad = by_kind fault bad
   where
     at_token : (f : ReadRefused) → IsFault (length prev - length old) token (place + 1) f → FaultAt prev tokens f
@@ -82,7 +98,10 @@ pub all_taken : {X : Type 0} (xs : List X) (i : ℕ) → drop i xs ≡ [] → ta
 all_taken xs i is = sym (append-nil (take i xs)) ∙ ap (λ ys. take i xs ++ ys) (sym is) ∙ take-append-drop i xs
 
 -- a token that is refused there
-pub refused_next : (prev old : List Value) (tokens others : List (List ℕ)) (place : ℕ) (token : List ℕ) (fault : ReadRefused) → drop place tokens ≡ token ∷ others
-    → length old ≤ length prev → Reads (take (length old) prev) (take place tokens) old → RefusesToken (length prev - length old) token (place + 1) fault → Refuses prev tokens fault
+pub refused_next : (prev old : List Value) (tokens others : List (List ℕ)) (place : ℕ) (token : List ℕ)
+    (fault : ReadRefused) → drop place tokens ≡ token ∷ others
+    → length old ≤ length prev → Reads (take (length old) prev) (take place tokens) old
+    → RefusesToken (length prev - length old) token (place + 1) fault → Refuses prev tokens fault
 refused_next prev old tokens others place token fault is few said (inl memory) = inl memory
-refused_next prev old tokens others place token fault is few said (inr bad) = inr (fault_next prev old tokens others place token fault is few said bad)
+refused_next prev old tokens others place token fault is few said (inr bad) =
+    inr (fault_next prev old tokens others place token fault is few said bad)

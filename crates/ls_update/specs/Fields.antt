@@ -1,5 +1,7 @@
--- The coded fields of a U line, and the one spelling in which they are written (TLCP 2.1, notification U; the spelling is this project's choice).
-use Rattle.std.specs.Prelude.{ℕ, ◌+◌, ◌/◌, ◌%◌, Bool, true, ◌||◌, ◌==◌, nat_lt, nat_le, List, [], ◌∷◌, ◌++◌, replicate, Option, Some, None, if◌then◌else◌}
+-- The coded fields of a U line, and the one spelling in which they are written (TLCP 2.1, notification U; the spelling
+-- is this project's choice).
+use Rattle.std.specs.Prelude.{ℕ, ◌+◌, ◌/◌, ◌%◌, Bool, true, ◌||◌, ◌==◌, nat_lt, nat_le, List, [], ◌∷◌, ◌++◌, replicate}
+use Rattle.std.specs.Prelude.{Option, Some, None, if◌then◌else◌}
 use Rattle.std.specs.List.{flat_map, join_with_byte}
 use Rattle.std.specs.Fmt.{decimal, digit_glyph}
 use Rattle.ls_value.specs.Values.{value_eq}
@@ -18,6 +20,7 @@ is_escaped_first b = is_escaped b || b == 35 || b == 36 || b == 94
 abbrev pub escape : ℕ → List ℕ
 escape b = 37 ∷ digit_glyph true (b / 16 % 16) ∷ digit_glyph true (b % 16) ∷ []
 
+-- a byte, escaped where it passes a test
 abbrev pub spell : (ℕ → Bool) → ℕ → List ℕ
 spell test b = if test b then escape b else b ∷ []
 

@@ -1,10 +1,11 @@
 -- How the reader goes on: token by token, and value by value.
-use Rattle.std.specs.Prelude.{◌≡◌, ◌⊎◌, ℕ, ◌-◌, ◌≤◌, List, [], ◌++◌, length, take, drop, Option, Some, None}
+use Rattle.std.specs.Prelude.{◌≡◌, ◌⊎◌, ℕ, ◌-◌, ◌≤◌, List, ◌++◌, length, take, drop, Option}
 use Rattle.std.specs.Borrow.{Bor}
 use Rattle.ls_value.specs.declared.row.Value.{Value}
 use Rattle.ls_update.specs.declared.reading.ReadRefused.{ReadRefused}
 use Rattle.ls_update.specs.declared.reading.ReadRefused.TheVariants as refused
-use Rattle.ls_update.specs.Reading.{Says, IsFault, tokens_of}
+use Rattle.ls_words.specs.Words.{pieces_behind}
+use Rattle.ls_update.specs.Reading.{Says, IsFault}
 
 -- the first fields of a row, grown by what one token says
 pub record Grows (prev old : List Value) (token : List ℕ) (new : List Value) : Type 0 where
@@ -18,5 +19,4 @@ RefusesToken left token place fault = (fault ≡ refused.NoMemory) ⊎ IsFault l
 
 -- the tokens behind a first one, where a divider follows it
 abbrev pub tokens_behind : Option (Bor (List ℕ)) → List (List ℕ)
-tokens_behind None = []
-tokens_behind (Some rest) = tokens_of rest.now
+tokens_behind rest = pieces_behind 124 rest

@@ -1,8 +1,9 @@
 -- The coded fields of a U line, as they are read (TLCP 2.1, notification U).
-use Rattle.std.specs.Prelude.{◌≡◌, ◌≢◌, ◌⊎◌, ℕ, ◌+◌, ◌-◌, ◌^◌, ◌<◌, ◌≤◌, Bool, true, false, not, ◌||◌, ◌==◌, List, [], ◌∷◌, length, take, drop, get_or, Option, Some, None, All, IsUtf8}
-use Rattle.std.specs.List.{slice_split}
+use Rattle.std.specs.Prelude.{◌≡◌, ◌≢◌, ◌⊎◌, ℕ, ◌+◌, ◌-◌, ◌^◌, ◌<◌, ◌≤◌, Bool, true, false, not, ◌||◌, ◌==◌, List, []}
+use Rattle.std.specs.Prelude.{◌∷◌, length, take, drop, get_or, Option, Some, None, All, IsUtf8}
 use Rattle.std.specs.Fmt.{decimal}
 use Rattle.percent_encoding.specs.Percent.{percent_decode}
+use Rattle.ls_words.specs.Words.{divided}
 use Rattle.ls_value.specs.Values.{nulls}
 use Rattle.ls_value.specs.declared.row.Value.{Value}
 use Rattle.ls_value.specs.declared.row.Value.TheVariants as value
@@ -11,7 +12,7 @@ use Rattle.ls_update.specs.declared.reading.ReadRefused.TheVariants as refused
 
 -- the tokens of a text
 abbrev pub tokens_of : List ℕ → List (List ℕ)
-tokens_of text = slice_split (λ b. b == 124) text
+tokens_of text = divided 124 text
 
 -- the row that coded fields are read after: no row before counts as all null
 abbrev pub row_before : ℕ → Option (List Value) → List Value
@@ -40,19 +41,24 @@ pub data Says (before : List Value) (token : List ℕ) (now : List Value) : Type
   -- the empty text
   empty : length before ≡ 1 → token ≡ 36 ∷ [] → now ≡ value.Text [] ∷ [] → Says before token now
   -- a text, percent-decoded: a `%` without two hexadecimal digits behind it stands for itself
-  text : length before ≡ 1 → says_text token ≡ true → IsUtf8 (percent_decode token) → now ≡ value.Text (percent_decode token) ∷ [] → Says before token now
+  text : length before ≡ 1 → says_text token ≡ true → IsUtf8 (percent_decode token)
+      → now ≡ value.Text (percent_decode token) ∷ [] → Says before token now
 
--- a row, as tokens say it after a row before: the first token speaks of the first k fields, and the others of those behind
+-- a row, as tokens say it after a row before: the first token speaks of the first k fields, and the others of those
+-- behind
 abbrev pub Reads : List Value → List (List ℕ) → List Value → Type 0
 Reads prev [] row = (prev ≡ []) × (row ≡ [])
-Reads prev (token ∷ tokens) row = (k : ℕ) × (k ≤ length prev) × Says (take k prev) token (take k row) × Reads (drop k prev) tokens (drop k row)
+Reads prev (token ∷ tokens) row = (k : ℕ) × (k ≤ length prev) × Says (take k prev) token (take k row)
+    × Reads (drop k prev) tokens (drop k row)
 
 -- what is wrong with a token at a place, counted from 1, where so many fields are left
 abbrev pub IsFault : ℕ → List ℕ → ℕ → ReadRefused → Type 0
 IsFault left token place (refused.TooFew got) = ⊥
 IsFault left token place (refused.TooMany stands) = (stands ≡ place) × (left ≡ 0)
-IsFault left token place (refused.BadRun stands) = (stands ≡ place) × (1 ≤ left) × (begins_run token ≡ true) × ((k : ℕ) → 1 ≤ k → k ≤ left → token ≢ 94 ∷ decimal k)
-IsFault left token place (refused.BadText stands) = (stands ≡ place) × (1 ≤ left) × (says_text token ≡ true) × (IsUtf8 (percent_decode token) → ⊥)
+IsFault left token place (refused.BadRun stands) = (stands ≡ place) × (1 ≤ left) × (begins_run token ≡ true)
+    × ((k : ℕ) → 1 ≤ k → k ≤ left → token ≢ 94 ∷ decimal k)
+IsFault left token place (refused.BadText stands) = (stands ≡ place) × (1 ≤ left) × (says_text token ≡ true)
+    × (IsUtf8 (percent_decode token) → ⊥)
 IsFault left token place refused.NoMemory = ⊥
 
 -- a token that is at fault behind tokens that say the first fields, so many of them

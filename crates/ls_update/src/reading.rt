@@ -1,19 +1,22 @@
 //! The reader: lenient, of every spelling of a row (TLCP 2.1, notification U).
-ghost use Rattle.std.specs.Prelude.{List, MatchResult, ◌≡◌, ◌≢◌, ◌≤◌, ◌+◌, ◌-◌, ◌⊎◌, ℕ, [], ◌∷◌, ◌++◌, true, false, length, IfOk, OnOk, IfErr, IfSome, IfNone, IsUtf8};
+ghost use Rattle.std.specs.Prelude.{List, MatchResult, ◌≡◌, ◌≢◌, ◌≤◌, ◌+◌, ◌-◌, ◌⊎◌, ℕ, [], ◌∷◌, ◌++◌, true, false};
+ghost use Rattle.std.specs.Prelude.{length, IfOk, OnOk, IfErr, IfSome, IfNone, IsUtf8};
 ghost use Rattle.std.specs.Fmt.{decimal};
 ghost use Rattle.percent_encoding.specs.Percent.{percent_decode};
 ghost use Rattle.ls_value.specs.declared.row.Value.{Value as FieldValue};
 ghost use Rattle.ls_value.specs.declared.row.Value.TheVariants as value;
 ghost use Rattle.ls_update.specs.declared.reading.ReadRefused.{ReadRefused as Fault};
 ghost use Rattle.ls_update.specs.Writing.{row_behind};
-ghost use Rattle.ls_update.specs.Reading.{Reads, Says, FirstFault, Refuses, begins_run, says_text, row_before, tokens_of};
-ghost use Rattle.ls_update.specs.Growing.{RefusesToken, Grows, tokens_behind};
+ghost use Rattle.ls_update.specs.Reading.{Reads, Says, FirstFault, Refuses, begins_run, says_text};
+ghost use Rattle.ls_update.specs.Reading.{row_before, tokens_of};
+ghost use Rattle.ls_update.specs.Growing.{RefusesToken, Grows};
 
 use ls_value::{NoMemory, Row, Text, TextRefused, Value};
+use ls_words::first_piece;
 use percent_encoding::percent_decode;
 use std::alloc::Global;
 
-/// Why coded fields can't be read. Places of tokens are counted from 1.
+/// Why coded fields can't be read. Tokens are numbered from 1.
 #[derive(Clone, Copy, Debug, PartialEq, Eq)]
 pub enum ReadRefused {
     /// The tokens end before the last field.
@@ -23,17 +26,18 @@ pub enum ReadRefused {
     },
     /// A token stands behind the last field.
     TooMany {
-        /// The place of the first such token.
+        /// The number of the first such token.
         at: usize,
     },
-    /// A token begins with `^`, and no number of fields from 1 to those left stands behind it, in digits without a leading zero.
+    /// A token begins with `^`, and no number of fields from 1 to those left stands behind it, in digits without a
+    /// leading zero.
     BadRun {
-        /// The place of the token.
+        /// The token's number.
         at: usize,
     },
     /// The bytes of a value, percent-decoded, are not UTF-8.
     BadText {
-        /// The place of the value's token.
+        /// The number of the value's token.
         at: usize,
     },
     /// Memory was refused.
@@ -54,14 +58,17 @@ impl From<NoMemory> for ReadRefused {
 /// The row that coded fields say after another row (TLCP 2.1, notification U).
 ///
 /// No previous row counts as all null. `n` is the number of fields, at least 1, and the previous row has as many.
-/// The row is answered exactly where the tokens say one; else the first fault from the left, or `NoMemory` where memory is refused.
+/// The row is answered exactly where the tokens say one; else the first fault from the left, or `NoMemory` where
+/// memory is refused.
 pub fn read(alloc: Global, prev: Option<&Row>, bytes: &[u8], n: usize) -> Result<Row, ReadRefused>
     requires fields { 1 ≤ n }
     requires before { IfSome prev (λ p. length p.now ≡ n) }
     ensures row { IfOk result (λ row. Reads (row_before n (row_behind prev.entry)) (tokens_of bytes.now) row) }
     ensures refused { IfErr result (λ e. Refuses (row_before n (row_behind prev.entry)) (tokens_of bytes.now) e) }
-    ensures only_row { (row : List FieldValue) → Reads (row_before n (row_behind prev.entry)) (tokens_of bytes.now) row → MatchResult result (λ r. r ≡ row) (λ e. e ≡ ReadRefused.NoMemory) }
-    ensures only_fault { (fault : Fault) → FirstFault (row_before n (row_behind prev.entry)) (tokens_of bytes.now) fault → MatchResult result (λ _. ⊥) (λ e. (e ≡ ReadRefused.NoMemory) ⊎ (e ≡ fault)) }
+    ensures only_row { (row : List FieldValue) → Reads (row_before n (row_behind prev.entry)) (tokens_of bytes.now) row
+        → MatchResult result (λ r. r ≡ row) (λ e. e ≡ ReadRefused.NoMemory) }
+    ensures only_fault { (fault : Fault) → FirstFault (row_before n (row_behind prev.entry)) (tokens_of bytes.now) fault
+        → MatchResult result (λ _. ⊥) (λ e. (e ≡ ReadRefused.NoMemory) ⊎ (e ≡ fault)) }
 {
     match prev {
         Some(row) => read_after(alloc, row.as_slice(), bytes),
@@ -81,7 +88,7 @@ fn read_after(alloc: Global, prev: &[Value], bytes: &[u8]) -> Result<Row, ReadRe
     let mut rest = Some(bytes);
     let mut place: usize = 0;
     while let Some(text) = rest {
-        let (token, behind) = first_token(text);
+        let (token, behind) = first_piece(b'|', text);
         place += 1;
         if let Err(refused) = append_token(alloc, &mut values, prev, token, place) {
             return Err(refused);
@@ -94,17 +101,7 @@ fn read_after(alloc: Global, prev: &[Value], bytes: &[u8]) -> Result<Row, ReadRe
     Ok(Row::of(values))
 }
 
-/// The bytes before the first divider, and those behind it, where there is one.
-fn first_token(text: &[u8]) -> (&[u8], Option<&[u8]>)
-    ensures { tokens_of text.now ≡ result.0.now ∷ tokens_behind result.1 }
-{
-    match text.iter().position(|b| *b == b'|') {
-        Some(at) => (&text[..at], Some(&text[at + 1..])),
-        None => (text, None),
-    }
-}
-
-/// Appends the values that a token says of the next fields. Its place is only for the answer.
+/// Appends the values that a token says of the next fields. Its number is only for the answer.
 fn append_token(
     alloc: Global,
     values: &mut Vec<Value>,
@@ -114,7 +111,8 @@ fn append_token(
 ) -> Result<(), ReadRefused>
     requires { length values.old.items ≤ length prev.now }
     ensures grows { OnOk result (Grows prev.now values.old.items token.now values.new.items) }
-    ensures refused { IfErr result (λ e. RefusesToken (length prev.now - length values.old.items) token.now place e) }
+    ensures refused { IfErr result (λ e.
+        RefusesToken (length prev.now - length values.old.items) token.now place e) }
 {
     let from = values.len();
     let left = prev.len() - from;
@@ -177,12 +175,15 @@ fn number_of(digits: &[u8], most: usize) -> Option<usize>
     if k <= most { Some(k) } else { None }
 }
 
-/// The value that a token says that isn't empty and no run: none exactly where its bytes, percent-decoded, are not UTF-8.
+/// The value that a token says that isn't empty and no run: none exactly where its bytes, percent-decoded, are not
+/// UTF-8.
 fn value_of(alloc: Global, token: &[u8]) -> Result<Option<Value>, NoMemory>
     requires some { 1 ≤ length token.now }
     requires no_run { begins_run token.now ≡ false }
-    ensures some { IfOk result (λ v. IfSome v (λ now. (before : FieldValue) → Says (before ∷ []) token.now (now ∷ []))) }
-    ensures none { IfOk result (λ v. IfNone v ((says_text token.now ≡ true) × (IsUtf8 (percent_decode token.now) → ⊥))) }
+    ensures some { IfOk result (λ v.
+        IfSome v (λ now. (before : FieldValue) → Says (before ∷ []) token.now (now ∷ []))) }
+    ensures none { IfOk result (λ v.
+        IfNone v ((says_text token.now ≡ true) × (IsUtf8 (percent_decode token.now) → ⊥))) }
 {
     match token {
         [b'#'] => Ok(Some(Value::Null)),
@@ -193,7 +194,8 @@ fn value_of(alloc: Global, token: &[u8]) -> Result<Option<Value>, NoMemory>
 
 /// The text of a token, percent-decoded: none exactly where the bytes are not UTF-8.
 fn decoded(alloc: Global, token: &[u8]) -> Result<Option<Value>, NoMemory>
-    ensures some { IfOk result (λ v. IfSome v (λ now. (now ≡ value.Text (percent_decode token.now)) × IsUtf8 (percent_decode token.now))) }
+    ensures some { IfOk result (λ v.
+        IfSome v (λ now. (now ≡ value.Text (percent_decode token.now)) × IsUtf8 (percent_decode token.now))) }
     ensures none { IfOk result (λ v. IfNone v (IsUtf8 (percent_decode token.now) → ⊥)) }
 {
     let mut bytes = Vec::new(alloc);

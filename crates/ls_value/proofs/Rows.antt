@@ -1,10 +1,13 @@
 -- Rows and cells: lengths, comparisons, and what a schema takes of an update.
-use Rattle.std.proofs.Common.{◌≡◌, ◌==◌, ℕ, ◌+◌, ◌<◌, ◌≤◌, List, [], ◌∷◌, ◌++◌, length, refl, sym, ap, arith, Bool, true, false, ◌&&◌, suc, zero, subst, IsTrue, Option, Some, None, IfSome, cond, option_map, set, slice_get, ◌↔◌}
+use Rattle.std.proofs.Common.{◌≡◌, ◌==◌, ℕ, ◌+◌, ◌<◌, ◌≤◌, List, [], ◌∷◌, ◌++◌, length, refl, sym, ap, arith, Bool}
+use Rattle.std.proofs.Common.{true, false, ◌&&◌, suc, zero, subst, IsTrue, Option, Some, None, IfSome, cond, option_map}
+use Rattle.std.proofs.Common.{set, slice_get, ◌↔◌}
 use Rattle.std.proofs.lemmas.Bool.{eq-eqb, eqb-true}
 use Rattle.ls_value.specs.declared.row.Value.{Value}
 use Rattle.ls_value.specs.declared.row.Value.TheVariants as value
 use Rattle.ls_value.specs.declared.row.Cell.{Cell}
-use Rattle.ls_value.specs.Values.{applied, kept_or_taken, nulls, projected, value_at, cell_at, projected_cells, text_eq, value_eq, row_eq, place_of}
+use Rattle.ls_value.specs.Values.{applied, kept_or_taken, nulls, projected, value_at, cell_at, projected_cells, text_eq}
+use Rattle.ls_value.specs.Values.{value_eq, row_eq, place_of}
 
 -- what a conjunction that holds says of its parts
 pub and_left : (a b : Bool) → (a && b) ≡ true → a ≡ true
@@ -15,7 +18,7 @@ pub and_right : (a b : Bool) → (a && b) ≡ true → b ≡ true
 and_right true b h = h
 and_right false b h = cc
 
-both : (a b : Bool) → a ≡ true → b ≡ true → (a && b) ≡ true
+pub both : (a b : Bool) → a ≡ true → b ≡ true → (a && b) ≡ true
 both true b p q = q
 both false b p q = p
 
@@ -64,7 +67,9 @@ same_is_eq a b v p q = by_test v refl (row_eq a b) refl
     by_test : (x : Bool) → v ≡ x → (y : Bool) → row_eq a b ≡ y → x ≡ y
     by_test true i true j = refl
     by_test false i false j = refl
-    by_test true i false j = absurd (let e : a ≡ b = p i in let t : row_eq a b ≡ true = subst (λ (r : List Value). row_eq a r ≡ true) e (row_eq_same a) in cc)
+    by_test true i false j =
+        absurd (let e : a ≡ b = p i in let t : row_eq a b ≡ true =
+        subst (λ (r : List Value). row_eq a r ≡ true) e (row_eq_same a) in cc)
     by_test false i true j = absurd (let e : v ≡ true = q (row_eq_true a b j) in cc)
 
 -- texts of two lengths differ
@@ -81,7 +86,8 @@ pub place_of_within : (ns : List (List ℕ)) (name : List ℕ) → IfSome (place
 place_of_within [] name = tt
 place_of_within (n ∷ ns) name = by_test (text_eq n name) (place_of ns name) (place_of_within ns name)
   where
-    by_test : (v : Bool) (o : Option ℕ) → IfSome o (λ i. i < length ns) → IfSome (cond v (Some 0) (option_map (λ i. i + 1) o)) (λ i. i < suc (length ns))
+    by_test : (v : Bool) (o : Option ℕ) → IfSome o (λ i. i < length ns)
+        → IfSome (cond v (Some 0) (option_map (λ i. i + 1) o)) (λ i. i < suc (length ns))
     by_test true o h = omega arith
     by_test false None h = tt
     by_test false (Some i) h = omega (arith, h)
@@ -104,17 +110,22 @@ pub place_of_found : (ns : List (List ℕ)) (name : List ℕ) → IfSome (place_
 place_of_found [] name = tt
 place_of_found (n ∷ ns) name = by_test (text_eq n name) refl (place_of ns name) (place_of_found ns name)
   where
-    by_test : (v : Bool) → text_eq n name ≡ v → (o : Option ℕ) → IfSome o (λ i. slice_get ns i ≡ Some name) → IfSome (cond v (Some 0) (option_map (λ i. i + 1) o)) (λ i. slice_get (n ∷ ns) i ≡ Some name)
+    by_test : (v : Bool) → text_eq n name ≡ v → (o : Option ℕ) → IfSome o (λ i. slice_get ns i ≡ Some name)
+        → IfSome (cond v (Some 0) (option_map (λ i. i + 1) o)) (λ i. slice_get (n ∷ ns) i ≡ Some name)
     by_test true t o h = ap Some (text_eq_true n name t)
     by_test false t None h = tt
     by_test false t (Some i) h = let e : i + 1 ≡ suc i = omega arith in rw e h
 
 -- and at none before
-pub place_of_earliest : (ns : List (List ℕ)) (name : List ℕ) → IfSome (place_of ns name) (λ i. (k : ℕ) → slice_get ns k ≡ Some name → i ≤ k)
+pub place_of_earliest : (ns : List (List ℕ)) (name : List ℕ) → IfSome (place_of ns name)
+    (λ i. (k : ℕ) → slice_get ns k ≡ Some name → i ≤ k)
 place_of_earliest [] name = tt
 place_of_earliest (n ∷ ns) name = by_test (text_eq n name) refl (place_of ns name) (place_of_earliest ns name)
   where
-    by_test : (v : Bool) → text_eq n name ≡ v → (o : Option ℕ) → IfSome o (λ i. (k : ℕ) → slice_get ns k ≡ Some name → i ≤ k) → IfSome (cond v (Some 0) (option_map (λ i. i + 1) o)) (λ i. (k : ℕ) → slice_get (n ∷ ns) k ≡ Some name → i ≤ k)
+    by_test : (v : Bool) → text_eq n name ≡ v → (o : Option ℕ)
+        → IfSome o (λ i. (k : ℕ) → slice_get ns k ≡ Some name → i ≤ k)
+        → IfSome (cond v (Some 0) (option_map (λ i. i + 1) o))
+        (λ i. (k : ℕ) → slice_get (n ∷ ns) k ≡ Some name → i ≤ k)
     by_test true t o h = λ k e. omega arith
     by_test false t None h = tt
     by_test false t (Some i) h = by_place
@@ -124,14 +135,16 @@ place_of_earliest (n ∷ ns) name = by_test (text_eq n name) refl (place_of ns n
         by_place (suc k) e = let le : i ≤ k = h k e in omega (arith, le)
 
 -- where there is no place, the name is nowhere
-pub place_of_absent : (ns : List (List ℕ)) (name : List ℕ) → place_of ns name ≡ None → (k : ℕ) → slice_get ns k ≡ Some name → ⊥
+pub place_of_absent : (ns : List (List ℕ)) (name : List ℕ) → place_of ns name ≡ None → (k : ℕ)
+    → slice_get ns k ≡ Some name → ⊥
 place_of_absent [] name none k e = cc
 place_of_absent (n ∷ ns) name none zero e =
     let is : n ≡ name = cc in
     let t : text_eq n name ≡ true = subst (λ (m : List ℕ). text_eq n m ≡ true) is (text_eq_same n) in
     let h : cond (text_eq n name) (Some 0) (option_map (λ i. i + 1) (place_of ns name)) ≡ None = none in
     cc
-place_of_absent (n ∷ ns) name none (suc k) e = place_of_absent ns name (rest_absent (text_eq n name) (place_of ns name) none) k e
+place_of_absent (n ∷ ns) name none (suc k) e = place_of_absent ns name
+    (rest_absent (text_eq n name) (place_of ns name) none) k e
 
 -- an update keeps the number of values
 pub applied_length : (row : List Value) (cells : List Cell) → length (applied row cells) ≡ length row
@@ -145,7 +158,8 @@ projected_length row [] = refl
 projected_length row (p ∷ places) = ap (λ n. suc n) (projected_length row places)
 
 -- each value of an updated row is kept, or taken from its cell
-pub value_applied : (row : List Value) (cells : List Cell) (p : ℕ) → length cells ≡ length row → kept_or_taken (value_at row p) (cell_at cells p) ≡ value_at (applied row cells) p
+pub value_applied : (row : List Value) (cells : List Cell) (p : ℕ) → length cells ≡ length row
+    → kept_or_taken (value_at row p) (cell_at cells p) ≡ value_at (applied row cells) p
 value_applied [] [] p l = refl
 value_applied [] (c ∷ cells) p l = absurd (omega (arith, l))
 value_applied (v ∷ row) [] p l = absurd (omega (arith, l))
@@ -153,7 +167,8 @@ value_applied (v ∷ row) (c ∷ cells) zero l = refl
 value_applied (v ∷ row) (c ∷ cells) (suc p) l = value_applied row cells p (omega (arith, l))
 
 -- to apply cells at the places is to apply them and take the places
-pub applied-projected : (row : List Value) (cells : List Cell) (places : List ℕ) → length cells ≡ length row → applied (projected row places) (projected_cells cells places) ≡ projected (applied row cells) places
+pub applied-projected : (row : List Value) (cells : List Cell) (places : List ℕ) → length cells ≡ length row
+    → applied (projected row places) (projected_cells cells places) ≡ projected (applied row cells) places
 applied-projected row cells [] l = refl
 applied-projected row cells (p ∷ places) l =
     let e = value_applied row cells p l in
@@ -198,7 +213,9 @@ applied_none [] = refl
 applied_none (v ∷ row) = refl
 
 -- the last cell may be applied first
-pub applied_last : (row : List Value) (cells : List Cell) (c : Cell) → length cells < length row → applied (set row (length cells) (kept_or_taken (value_at row (length cells)) c)) cells ≡ applied row (cells ++ c ∷ [])
+pub applied_last : (row : List Value) (cells : List Cell) (c : Cell) → length cells < length row
+    → applied (set row (length cells) (kept_or_taken (value_at row (length cells)) c)) cells
+    ≡ applied row (cells ++ c ∷ [])
 applied_last [] cells c h = absurd (omega (arith, h))
 applied_last (v ∷ row) [] c h = ap (λ r. kept_or_taken v c ∷ r) (sym (applied_none row))
 applied_last (v ∷ row) (d ∷ cells) c h = ap (λ r. kept_or_taken v d ∷ r) (applied_last row cells c (omega (arith, h)))

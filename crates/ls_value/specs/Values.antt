@@ -1,5 +1,6 @@
 -- Values, rows and cells: what an update makes of a row, and what a schema takes of it (TLCP 2.1, update fields).
-use Rattle.std.specs.Prelude.{◌==◌, ℕ, ◌+◌, List, [], ◌∷◌, length, map, replicate, slice_index_or, sum_by, Bool, true, false, ◌&&◌, Option, Some, None, option_map, if◌then◌else◌}
+use Rattle.std.specs.Prelude.{◌==◌, ℕ, ◌+◌, List, [], ◌∷◌, length, map, replicate, slice_index_or, sum_by, Bool, true}
+use Rattle.std.specs.Prelude.{false, ◌&&◌, Option, Some, None, option_map, is_none, if◌then◌else◌}
 use Rattle.ls_value.specs.declared.row.Value.{Value}
 use Rattle.ls_value.specs.declared.row.Value.TheVariants as value
 use Rattle.ls_value.specs.declared.row.Cell.{Cell}
@@ -77,3 +78,8 @@ row_eq (x ∷ xs) (y ∷ ys) = value_eq x y && row_eq xs ys
 abbrev pub place_of : List (List ℕ) → List ℕ → Option ℕ
 place_of [] name = None
 place_of (n ∷ ns) name = if text_eq n name then Some 0 else option_map (λ i. i + 1) (place_of ns name)
+
+-- whether no name stands twice
+abbrev pub are_distinct : List (List ℕ) → Bool
+are_distinct [] = true
+are_distinct (n ∷ ns) = is_none (place_of ns n) && are_distinct ns

@@ -1,6 +1,7 @@
 //! Places of fields, and their names.
-ghost use Rattle.std.specs.Prelude.{◌≡◌, ◌<◌, ◌≤◌, ℕ, Option, Some, None, IfOk, IfSome, length, nat_eq, slice_get};
-ghost use Rattle.ls_value.specs.Values.{place_of};
+ghost use Rattle.std.specs.Prelude.{◌≡◌, ◌<◌, ◌≤◌, ℕ, Option, Some, None, IfOk, IfSome};
+ghost use Rattle.std.specs.Prelude.{is_none, length, nat_eq, slice_get};
+ghost use Rattle.ls_value.specs.Values.{place_of, are_distinct};
 
 use crate::text::{NoMemory, Text, same_bytes};
 use std::alloc::Global;
@@ -81,6 +82,14 @@ impl Names {
         Names { names }
     }
 
+    /// Equal names.
+    pub fn copy(&self, alloc: Global) -> Result<Names, NoMemory>
+        ensures { IfOk result (λ copied. copied ≡ self.now) }
+    {
+        let names = copied_texts(alloc, &self.names)?;
+        Ok(Names { names })
+    }
+
     /// The names in order.
     pub fn as_slice(&self) -> &[Text]
         ensures { result.now ≡ self.now }
@@ -112,6 +121,36 @@ impl Names {
     {
         first_place(&self.names, name)
     }
+
+    /// Whether no name stands twice. Each is compared with all behind it. No memory is taken.
+    pub fn are_distinct(&self) -> bool
+        ensures { result ≡ are_distinct self.now }
+    {
+        are_distinct(&self.names)
+    }
+}
+
+/// Equal texts.
+fn copied_texts(alloc: Global, texts: &[Text]) -> Result<Vec<Text>, NoMemory>
+    ensures { IfOk result (λ copied. copied.items ≡ texts.now) }
+{
+    let mut copied = Vec::with_capacity(alloc, texts.len())?;
+    for text in texts {
+        copied.push(text.copy(alloc)?)?;
+    }
+    Ok(copied)
+}
+
+/// Whether no text stands twice.
+fn are_distinct(texts: &[Text]) -> bool
+    ensures { result ≡ are_distinct texts.now }
+{
+    for i in 0..texts.len() {
+        if first_place(&texts[i + 1..], texts[i].as_bytes()).is_some() {
+            return false;
+        }
+    }
+    true
 }
 
 /// The first place of a name among these.

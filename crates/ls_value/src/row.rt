@@ -1,8 +1,8 @@
 //! Values of fields, rows of them, and cells: what an update says of each field.
-ghost use Rattle.std.specs.Prelude.{◌≡◌, ◌↔◌, ◌<◌, ◌≤◌, ◌^◌, ◌-◌, ℕ, List, All, IfOk, OnOk, OnErr, IsTrue, length, min, nat_eq, set};
-ghost use Rattle.ls_value.specs.Values.{applied, projected, weight_of, kept_or_taken, value_at, nulls, value_eq, row_eq};
+ghost use Rattle.std.specs.Prelude.{◌≡◌, ◌↔◌, ◌<◌, ◌≤◌, ◌^◌, ◌-◌, ℕ, List, IfOk, OnOk, OnErr};
+ghost use Rattle.std.specs.Prelude.{IsTrue, length, min, nat_eq, set};
+ghost use Rattle.ls_value.specs.Values.{applied, weight_of, kept_or_taken, value_at, nulls, value_eq, row_eq};
 
-use crate::lists::Places;
 use crate::text::{NoMemory, Text, same_bytes};
 use std::alloc::Global;
 use std::marker::Model;
@@ -30,7 +30,7 @@ pub enum Cell {
 /// A value for each field.
 #[derive(Drop)]
 pub struct Row {
-    values: Vec<Value>,
+    pub(crate) values: Vec<Value>,
 }
 
 impl Model for Row {
@@ -102,7 +102,7 @@ impl Row {
     pub fn copy(&self, alloc: Global) -> Result<Row, NoMemory>
         ensures { IfOk result (λ row. row ≡ self.now) }
     {
-        let values = copied_values(alloc, &self.values)?;
+        let values = copy_values(alloc, &self.values)?;
         Ok(Row { values })
     }
 
@@ -140,7 +140,7 @@ impl Cells {
     pub fn copy(&self, alloc: Global) -> Result<Cells, NoMemory>
         ensures { IfOk result (λ cells. cells ≡ self.now) }
     {
-        let cells = copied_cells(alloc, &self.cells)?;
+        let cells = copy_cells(alloc, &self.cells)?;
         Ok(Cells { cells })
     }
 
@@ -167,10 +167,10 @@ impl Cells {
 }
 
 /// So many nulls.
-fn null_values(alloc: Global, n: usize) -> Result<Vec<Value>, NoMemory>
+pub fn null_values(alloc: Global, n: usize) -> Result<Vec<Value>, NoMemory>
     ensures { IfOk result (λ values. values.items ≡ nulls n) }
 {
-    let mut values = Vec::new(alloc);
+    let mut values = Vec::with_capacity(alloc, n)?;
     for _ in 0..n {
         values.push(Value::Null)?;
     }
@@ -178,21 +178,21 @@ fn null_values(alloc: Global, n: usize) -> Result<Vec<Value>, NoMemory>
 }
 
 /// Equal values.
-fn copied_values(alloc: Global, values: &[Value]) -> Result<Vec<Value>, NoMemory>
+pub fn copy_values(alloc: Global, values: &[Value]) -> Result<Vec<Value>, NoMemory>
     ensures { IfOk result (λ copied. copied.items ≡ values.now) }
 {
-    let mut copied = Vec::new(alloc);
+    let mut copied = Vec::with_capacity(alloc, values.len())?;
     for value in values {
         copied.push(value.copy(alloc)?)?;
     }
     Ok(copied)
 }
 
-/// Equal cells.
-fn copied_cells(alloc: Global, cells: &[Cell]) -> Result<Vec<Cell>, NoMemory>
+/// Equal cells. Only the texts among them are copied.
+pub fn copy_cells(alloc: Global, cells: &[Cell]) -> Result<Vec<Cell>, NoMemory>
     ensures { IfOk result (λ copied. copied.items ≡ cells.now) }
 {
-    let mut copied = Vec::new(alloc);
+    let mut copied = Vec::with_capacity(alloc, cells.len())?;
     for cell in cells {
         copied.push(cell.copy(alloc)?)?;
     }
@@ -209,6 +209,39 @@ pub fn apply(alloc: Global, row: &mut Row, cells: &Cells) -> Result<(), NoMemory
     let taken = cells.copy(alloc)?;
     apply_owned(row, taken);
     Ok(())
+}
+
+/// The row after an update, all new.
+/// The row has a field for each cell.
+pub fn applied_row(alloc: Global, row: &Row, cells: &Cells) -> Result<Row, NoMemory>
+    requires { length row.now ≡ length cells.now }
+    ensures { IfOk result (λ after. after ≡ applied row.now cells.now) }
+{
+    let values = applied_values(alloc, &row.values, &cells.cells)?;
+    Ok(Row { values })
+}
+
+/// The values after these cells.
+fn applied_values(alloc: Global, row: &[Value], cells: &[Cell]) -> Result<Vec<Value>, NoMemory>
+    requires { length row.now ≡ length cells.now }
+    ensures { IfOk result (λ values. values.items ≡ applied row.now cells.now) }
+{
+    let mut values = Vec::with_capacity(alloc, row.len())?;
+    for i in 0..row.len() {
+        values.push(value_after(alloc, &row[i], &cells[i])?)?;
+    }
+    Ok(values)
+}
+
+/// The value of a field after a cell, copied.
+fn value_after(alloc: Global, value: &Value, cell: &Cell) -> Result<Value, NoMemory>
+    ensures { IfOk result (λ after. after ≡ kept_or_taken value.now cell.now) }
+{
+    match cell {
+        Cell::Same => value.copy(alloc),
+        Cell::Null => Ok(Value::Null),
+        Cell::Text(text) => Ok(Value::Text(text.copy(alloc)?)),
+    }
 }
 
 /// Applies an update to a row as `apply` does, and moves the texts into it. No memory is taken.
@@ -242,28 +275,6 @@ fn set_value(row: &mut [Value], place: usize, cell: Cell)
         Cell::Null => row[place] = Value::Null,
         Cell::Text(text) => row[place] = Value::Text(text),
     }
-}
-
-/// The row's values at these places, copied: place i of the result has the value at the i-th of them.
-/// Each place is below the row's length.
-pub fn project(alloc: Global, row: &Row, places: &Places) -> Result<Row, NoMemory>
-    requires { All (λ place. place < length row.now) places.now }
-    ensures { IfOk result (λ taken. taken ≡ projected row.now places.now) }
-{
-    let values = projected_values(alloc, &row.values, places.as_slice())?;
-    Ok(Row { values })
-}
-
-/// The values at these places.
-fn projected_values(alloc: Global, row: &[Value], places: &[usize]) -> Result<Vec<Value>, NoMemory>
-    requires { All (λ place. place < length row.now) places.now }
-    ensures { IfOk result (λ values. values.items ≡ projected row.now places.now) }
-{
-    let mut values = Vec::new(alloc);
-    for place in places {
-        values.push(row[*place].copy(alloc)?)?;
-    }
-    Ok(values)
 }
 
 /// Whether two rows are equal. No memory is taken.

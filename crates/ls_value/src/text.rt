@@ -1,5 +1,5 @@
 //! Texts in UTF-8, and bytes.
-ghost use Rattle.std.specs.Prelude.{◌≡◌, ◌↔◌, IfOk, OnOk, IsErrOf, length, nat_eq, string_bytes};
+ghost use Rattle.std.specs.Prelude.{◌≡◌, ◌↔◌, IfOk, OnOk, OnErr, IsErrOf, length, nat_eq, string_bytes};
 ghost use Rattle.std.specs.Str.{IsUtf8};
 ghost use Rattle.ls_value.specs.Values.{text_eq};
 
@@ -82,6 +82,26 @@ impl Text {
         }
     }
 
+    /// The text of these bytes, which are UTF-8, copied.
+    pub fn of_utf8(alloc: Global, bytes: &[u8]) -> Result<Text, NoMemory>
+        requires { IsUtf8 bytes.now }
+        ensures { IfOk result (λ t. t ≡ bytes.now) }
+    {
+        match Text::of(alloc, bytes) {
+            Ok(text) => Ok(text),
+            Err(TextRefused::NoMemory) => Err(NoMemory),
+            Err(TextRefused::NotUtf8) => unreachable!(),
+        }
+    }
+
+    /// The text of a `str`, copied.
+    pub fn from_str(alloc: Global, text: &str) -> Result<Text, NoMemory>
+        ensures { IfOk result (λ t. t ≡ text.now) }
+    {
+        let inner = String::from_str(alloc, text)?;
+        Ok(Text { inner })
+    }
+
     /// The text of a string, whose memory it keeps.
     pub fn from_string(string: String) -> Text
         ensures { result ≡ string_bytes string }
@@ -100,8 +120,21 @@ impl Text {
     pub fn copy(&self, alloc: Global) -> Result<Text, NoMemory>
         ensures { IfOk result (λ t. t ≡ self.now) }
     {
-        let inner = String::from_str(alloc, self.inner.as_str())?;
-        Ok(Text { inner })
+        Text::from_str(alloc, self.as_str())
+    }
+
+    /// Becomes the text of a `str`. It takes memory only where its own is too small; after `NoMemory` it is as before.
+    pub fn set(&mut self, text: &str) -> Result<(), NoMemory>
+        ensures ok { OnOk result (self.new ≡ text.now) }
+        ensures err { OnErr result (self.new ≡ self.old) }
+    {
+        self.inner
+            .reserve(text.len().saturating_sub(self.inner.len()))?;
+        self.inner.clear();
+        if self.inner.push_str(text).is_err() {
+            unreachable!()
+        }
+        Ok(())
     }
 
     /// Its bytes.

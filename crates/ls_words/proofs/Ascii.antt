@@ -1,6 +1,5 @@
 -- Names are ASCII.
-use Rattle.std.proofs.Common.{◌≡◌, ◌<◌, ℕ, List, length, true, ◌&&◌, nat_le, arith, IsAscii}
-use Rattle.std.specs.List.{list_all}
+use Rattle.std.proofs.Common.{◌≡◌, ◌<◌, ℕ, List, true, arith, IsAscii}
 use Rattle.std.proofs.lemmas.Bool.Decides.{nat_tests}
 use Rattle.std.proofs.lemmas.List.Sums.{AllPass-from_list_all}
 use Rattle.std.proofs.lemmas.Str.Ascii.{IsAscii-from_all}

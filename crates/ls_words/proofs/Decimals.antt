@@ -1,5 +1,8 @@
--- Numbers above the highest one.
-use Rattle.std.proofs.Common.{◌≡◌, ◌<◌, ◌≤◌, ℕ, ◌+◌, ◌*◌, ◌-◌, List, [], ◌∷◌, drop, length, get_or, Bool, true, false, ◌&&◌, nat_le, cond, None, Some, option_and_then, refl, arith}
+-- Numbers above the highest one, and the last digit of a number.
+use Rattle.std.proofs.Common.{◌≡◌, ◌<◌, ◌≤◌, ◌^◌, ℕ, ◌+◌, ◌*◌, ◌-◌, ◌/◌, ◌%◌, List, [], ◌∷◌, ◌++◌, drop, length, get_or, Bool, true, false, ◌&&◌, nat_le, cond}
+use Rattle.std.proofs.Common.{None, Some, option_and_then, refl, sym, ap, ◌∙◌, arith, append_assoc}
+use Rattle.std.specs.Fmt.{decimal}
+use Rattle.std.proofs.lemmas.Fmt.{decimal_step, decimal_digit}
 use Rattle.std.proofs.lemmas.Bool.Decides.{nat_tests}
 use Rattle.std.proofs.lemmas.List.{at_drop_more}
 use Rattle.std.specs.List.{list_all}
@@ -32,3 +35,10 @@ above_at low high n i text inside more rest =
     let least = value_from-least (10 * n + (get_or text i 0 - 48)) (drop (i + 1) text) in
     let same : value_from n (drop i text) ≡ value_from (10 * n + (get_or text i 0 - 48)) (drop (i + 1) text) = at_drop_more (value_from n) text i 0 inside in
     above low high text (omega (arith, more, least, same, rest))
+
+-- a number's last digit behind those before it
+pub decimal-more : (text : List ℕ) (n : ℕ) → 10 ≤ n → n < 2 ^ 64 → (text ++ decimal (n / 10)) ++ (48 + n % 10) ∷ [] ≡ text ++ decimal n
+decimal-more text n more small = append_assoc text (decimal (n / 10)) ((48 + n % 10) ∷ []) ∙ ap (λ (ds : List ℕ). text ++ ds) (sym (decimal_step n more small))
+
+pub decimal-one : (text : List ℕ) (n : ℕ) → n < 10 → text ++ (48 + n) ∷ [] ≡ text ++ decimal n
+decimal-one text n less = ap (λ (ds : List ℕ). text ++ ds) (sym (decimal_digit n less))

@@ -1,7 +1,9 @@
 -- Decimal numbers: digits without a sign and without a leading zero (TLCP 2.1, and this project's profile).
-use Rattle.std.specs.Prelude.{◌==◌, ℕ, ◌+◌, ◌*◌, ◌-◌, List, [], ◌∷◌, Bool, true, false, ◌&&◌, not, Option, None, Some, nat_le, if◌then◌else◌, option_and_then}
+use Rattle.std.specs.Prelude.{◌==◌, ℕ, ◌+◌, ◌*◌, ◌-◌, List, [], ◌∷◌, Bool, true, false, ◌&&◌, not, Option, None, Some}
+use Rattle.std.specs.Prelude.{nat_le, if◌then◌else◌, option_and_then}
 use Rattle.std.specs.List.{list_all}
 
+-- `0` to `9`
 abbrev pub is_digit : ℕ → Bool
 is_digit b = nat_le 48 b && nat_le b 57
 
@@ -20,6 +22,7 @@ has_form (d ∷ e ∷ ds) = not (d == 48)
 abbrev pub number_of : List ℕ → Option ℕ
 number_of text = if has_form text && list_all is_digit text then Some (value_from 0 text) else None
 
+-- a number, where it is from one number to another
 abbrev pub within : ℕ → ℕ → ℕ → Option ℕ
 within low high n = if nat_le low n && nat_le n high then Some n else None
 

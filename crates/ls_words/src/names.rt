@@ -1,9 +1,12 @@
 //! Names of items, sets and connections (this project's profile).
-ghost use Rattle.std.specs.Prelude.{◌≡◌, IfOk, IsAscii};
+ghost use Rattle.std.specs.Prelude.{◌≡◌, IfOk};
 ghost use Rattle.ls_words.specs.Words.{is_name_byte, is_name, name_of};
 
-use ls_value::{NoMemory, Text, TextRefused};
+use ls_value::{NoMemory, Text};
 use std::alloc::Global;
+
+/// The most bytes of a name.
+pub const LONGEST_NAME: usize = 64;
 
 /// Whether a byte stands in names: an ASCII letter, a digit, `_`, `.` or `-`.
 fn is_name_byte(byte: u8) -> bool
@@ -12,11 +15,11 @@ fn is_name_byte(byte: u8) -> bool
     byte.is_ascii_alphanumeric() || byte == b'_' || byte == b'.' || byte == b'-'
 }
 
-/// Whether a text is a name: 1 to 64 ASCII letters, digits, `_`, `.` or `-` (this project's profile).
+/// Whether a text is a name: ASCII letters, digits, `_`, `.` or `-`, at least one and at most `LONGEST_NAME`.
 pub fn is_name(text: &[u8]) -> bool
     ensures { result ≡ is_name text.now }
 {
-    if text.is_empty() || text.len() > 64 {
+    if text.is_empty() || text.len() > LONGEST_NAME {
         return false;
     }
     for byte in text {
@@ -32,21 +35,9 @@ pub fn name_of(alloc: Global, text: &[u8]) -> Result<Option<Text>, NoMemory>
     ensures { IfOk result (λ name. name ≡ name_of text.now) }
 {
     if is_name(text) {
-        let name = ascii_text(alloc, text)?;
+        let name = Text::of_utf8(alloc, text)?;
         Ok(Some(name))
     } else {
         Ok(None)
-    }
-}
-
-/// The text of bytes that are all ASCII.
-fn ascii_text(alloc: Global, bytes: &[u8]) -> Result<Text, NoMemory>
-    requires { IsAscii bytes.now }
-    ensures { IfOk result (λ text. text ≡ bytes.now) }
-{
-    match Text::of(alloc, bytes) {
-        Ok(text) => Ok(text),
-        Err(TextRefused::NoMemory) => Err(NoMemory),
-        Err(TextRefused::NotUtf8) => unreachable!(),
     }
 }

@@ -1,6 +1,9 @@
 //! Decimal numbers (TLCP 2.1, and this project's profile).
-ghost use Rattle.std.specs.Prelude.{◌≡◌, ◌≤◌, IfSome};
+ghost use Rattle.std.specs.Prelude.{◌≡◌, ◌≤◌, ◌++◌, IfSome, OnOk};
+ghost use Rattle.std.specs.Fmt.{decimal};
 ghost use Rattle.ls_words.specs.Numbers.{number_in};
+
+use ls_value::NoMemory;
 
 /// The number that a text says, from `low` to `high`, which both count in: `None` exactly where the text is not
 /// decimal digits without a sign and without a leading zero, or says another number. A text of any length is
@@ -24,4 +27,17 @@ pub fn number_in(text: &[u8], low: u64, high: u64) -> Option<u64>
         n = 10 * n + value;
     }
     if low <= n { Some(n) } else { None }
+}
+
+/// Appends a number in decimal digits. After `NoMemory` some of them may be there.
+pub fn append_decimal(text: &mut Vec<u8>, n: u64) -> Result<(), NoMemory>
+    ensures { OnOk result (text.new.items ≡ text.old.items ++ decimal n) }
+{
+    if n >= 10 {
+        append_decimal(text, n / 10)?;
+        text.push(b'0' + (n % 10) as u8)?;
+    } else {
+        text.push(b'0' + n as u8)?;
+    }
+    Ok(())
 }

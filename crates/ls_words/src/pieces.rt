@@ -21,7 +21,8 @@ fn collected<'a>(alloc: Global, divider: u8, text: &'a [u8]) -> Result<Vec<&'a [
     text.split(|b| *b == divider).collect(alloc)
 }
 
-/// The first piece of a text that a byte divides, and the text behind that byte, where it stands there. No memory is taken.
+/// The first piece of a text that a byte divides, and the text behind that byte, where it stands there. No memory is
+/// taken.
 pub fn first_piece(divider: u8, text: &[u8]) -> (&[u8], Option<&[u8]>)
     ensures { divided divider text.now ≡ result.0.now ∷ pieces_behind divider result.1 }
 {
@@ -31,7 +32,8 @@ pub fn first_piece(divider: u8, text: &[u8]) -> (&[u8], Option<&[u8]>)
     }
 }
 
-/// The text before and behind the first such byte: `None` exactly where it doesn't stand in the text. No memory is taken.
+/// The text before and behind the first such byte: `None` exactly where it doesn't stand in the text. No memory is
+/// taken.
 pub fn split_once(divider: u8, text: &[u8]) -> Option<(&[u8], &[u8])>
     ensures { option_map halves result ≡ split_once divider text.now }
 {

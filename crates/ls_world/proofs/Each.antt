@@ -13,7 +13,8 @@ each_mapped P Q g [] f e = tt
 each_mapped P Q g (x ∷ xs) f e = (f x e.0, each_mapped P Q g xs f e.1)
 
 -- a change of the n-th, which is this one
-pub each_changed : {A : Type 0} (P : A → Type 0) (n : ℕ) (g : A → A) (x : A) (xs : List A) → slice_get xs n ≡ Some x → (P x → P (g x)) → Each P xs → Each P (change n g xs)
+pub each_changed : {A : Type 0} (P : A → Type 0) (n : ℕ) (g : A → A) (x : A) (xs : List A) → slice_get xs n ≡ Some x → (P x → P (g x)) → Each P xs
+    → Each P (change n g xs)
 each_changed P n g x [] is f e = tt
 each_changed P zero g x (y ∷ xs) is f e =
     let same : y ≡ x = cc in

@@ -1,3 +1,4 @@
+pub mod Parts
 pub mod Each
 pub mod Rules
 pub mod Unmoved

@@ -1,16 +1,25 @@
 -- What is true whatever a step finds, and after like steps.
-use Rattle.std.proofs.Common.{◌≡◌, ℕ, zero, suc, List, refl, cond, Bool, true, false, Option, Some, None, slice_get}
+use Rattle.std.proofs.Common.{◌≡◌, ℕ, zero, suc, List, refl, ap, cond, Bool, true, false, Option, Some, None, slice_get}
 use Rattle.ls_world.specs.World.{World, Session}
-use Rattle.ls_world.specs.Steps.{Stepped, Once, behind, repeated, with_found, with_session}
+use Rattle.ls_world.specs.Cases.{with_found}
+use Rattle.ls_world.specs.Steps.{Stepped, Once, behind, repeated, with_session}
+
+-- what is made of a value that may be absent, by what is true without one and with one
+pub found_rule : {A B : Type 0} (P : B → Type 0) (o : Option A) (none : B) (f : A → B) → (o ≡ None → P none) → ((a : A) → o ≡ Some a → P (f a))
+    → P (with_found o none f)
+found_rule P None none f p q = p refl
+found_rule P (Some a) none f p q = q a refl
+
+-- what is made where none is found
+pub found_none : {A B : Type 0} (o : Option A) (none : B) (f : A → B) → o ≡ None → with_found o none f ≡ none
+found_none o none f is = ap (λ x. with_found x none f) is
 
 -- what is done with a session, by what is true with none and with one
-pub session_rule : {A : Type 0} (P : A → Type 0) (sessions : List Session) (o : Option ℕ) (none : A) (f : ℕ → Session → A) → P none → ((n : ℕ) (s : Session) → slice_get sessions n ≡ Some s → P (f n s)) → P (with_session sessions o none f)
-session_rule P sessions None none f p q = p
-session_rule P sessions (Some n) none f p q = by_found (slice_get sessions n) refl
-  where
-    by_found : (o : Option Session) → slice_get sessions n ≡ o → P (with_found o none (f n))
-    by_found None is = p
-    by_found (Some s) is = q n s is
+pub session_rule : {A : Type 0} (P : A → Type 0) (sessions : List Session) (o : Option ℕ) (none : A) (f : ℕ → Session → A) → P none
+    → ((n : ℕ) (s : Session) → slice_get sessions n ≡ Some s → P (f n s)) → P (with_session sessions o none f)
+session_rule P sessions o none f p q =
+    found_rule P o none (λ n. with_found (slice_get sessions n) none (f n)) (λ e. p)
+    (λ n e. found_rule P (slice_get sessions n) none (f n) (λ x. p) (λ s is. q n s is))
 
 -- what is true by both parts of a test
 pub cond_rule : {A : Type 0} (P : A → Type 0) (b : Bool) (x y : A) → (b ≡ true → P x) → (b ≡ false → P y) → P (cond b x y)

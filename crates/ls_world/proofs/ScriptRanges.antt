@@ -11,11 +11,11 @@ use Rattle.ls_event.specs.declared.item.Kind.{Kind}
 use Rattle.ls_event.specs.declared.item.Kind.TheVariants as kind
 use Rattle.ls_event.specs.Shapes.{shape_of, IsShape}
 use Rattle.ls_event.specs.EventText.{is_textual}
-use Rattle.ls_script.specs.declared.step.Step.{Step}
-use Rattle.ls_script.specs.declared.step.Step.TheVariants as step
+use Rattle.ls_step.specs.declared.step.Step.{Step}
+use Rattle.ls_step.specs.declared.step.Step.TheVariants as step
 use Rattle.ls_config.specs.Items.{has_needed}
-use Rattle.ls_script.specs.Grammar.{Known}
-use Rattle.ls_script.specs.Ranges.{Fits, NewItem}
+use Rattle.ls_step.specs.Grammar.{Known}
+use Rattle.ls_step.specs.Ranges.{Fits, NewItem}
 use Rattle.ls_world.specs.Lawful.{Each}
 use Rattle.ls_world.specs.Ranges.{IsTextual, StepInRange, HasDistinctFields}
 
@@ -29,11 +29,14 @@ place_within fields name some = by_place (place_of fields name) (place_of_within
     by_place (Some i) h = h
 
 -- two names that are there have two places
-places_apart : (fields : List (List ℕ)) (name other : List ℕ) → text_eq name other ≡ false → is_some (place_of fields name) ≡ true → is_some (place_of fields other) ≡ true
+places_apart : (fields : List (List ℕ)) (name other : List ℕ) → text_eq name other ≡ false → is_some (place_of fields name) ≡ true
+    → is_some (place_of fields other) ≡ true
     → unwrap_or (place_of fields name) 0 ≡ unwrap_or (place_of fields other) 0 → ⊥
-places_apart fields name other differ there here = by_places (place_of fields name) (place_of fields other) (place_of_found fields name) (place_of_found fields other) there here
+places_apart fields name other differ there here = by_places (place_of fields name) (place_of fields other) (place_of_found fields name)
+    (place_of_found fields other) there here
   where
-    by_places : (o p : Option ℕ) → IfSome o (λ i. slice_get fields i ≡ Some name) → IfSome p (λ i. slice_get fields i ≡ Some other) → is_some o ≡ true → is_some p ≡ true → unwrap_or o 0 ≡ unwrap_or p 0 → ⊥
+    by_places : (o p : Option ℕ) → IfSome o (λ i. slice_get fields i ≡ Some name) → IfSome p (λ i. slice_get fields i ≡ Some other) → is_some o ≡ true
+        → is_some p ≡ true → unwrap_or o 0 ≡ unwrap_or p 0 → ⊥
     by_places None p f g there here same = cc
     by_places (Some i) None f g there here same = cc
     by_places (Some i) (Some j) f g there here same =
@@ -43,7 +46,8 @@ places_apart fields name other differ there here = by_places (place_of fields na
         let t : text_eq name other ≡ true = subst (λ (x : List ℕ). text_eq name x ≡ true) is (text_eq_same name) in
         cc
 
-keys_apart : (k : Kind) (fields : List (List ℕ)) → has_needed k fields ≡ true → k ≡ kind.Command → unwrap_or (place_of fields (codes "key")) 0 ≡ unwrap_or (place_of fields (codes "command")) 0 → ⊥
+keys_apart : (k : Kind) (fields : List (List ℕ)) → has_needed k fields ≡ true → k ≡ kind.Command
+    → unwrap_or (place_of fields (codes "key")) 0 ≡ unwrap_or (place_of fields (codes "command")) 0 → ⊥
 keys_apart kind.Merge fields h is same = cc
 keys_apart kind.Distinct fields h is same = cc
 keys_apart kind.Command fields h is same =
@@ -51,7 +55,8 @@ keys_apart kind.Command fields h is same =
     (and_left (is_some (place_of fields (codes "key"))) (is_some (place_of fields (codes "command"))) h)
     (and_right (is_some (place_of fields (codes "key"))) (is_some (place_of fields (codes "command"))) h) same
 
-item_shape : (k : Known) (name : List ℕ) (kd : Kind) (fields : List (List ℕ)) → NewItem k name kd fields → IsShape (shape_of (record { name = name; kind = kd; fields = fields }))
+item_shape : (k : Known) (name : List ℕ) (kd : Kind) (fields : List (List ℕ)) → NewItem k name kd fields
+    → IsShape (shape_of (record { name = name; kind = kd; fields = fields }))
 item_shape k name kd fields n =
     record {
       some = n.some;
@@ -66,8 +71,11 @@ textual_cells : (cells : List Cell) → list_all is_textual cells ≡ true → E
 textual_cells [] h = tt
 textual_cells (cell.Same ∷ cells) h = (tt, textual_cells cells h)
 textual_cells (cell.Null ∷ cells) h = (tt, textual_cells cells h)
-textual_cells (cell.Text t ∷ cells) h =
-    (IsUtf8-from_is_utf8 t (and_left (is_textual (cell.Text t)) (list_all is_textual cells) h), textual_cells cells (and_right (is_textual (cell.Text t)) (list_all is_textual cells) h))
+textual_cells (cell.Text t ∷ cells) h = (
+  IsUtf8-from_is_utf8 t (and_left (is_textual (cell.Text t)) (list_all is_textual cells) h),
+  textual_cells cells
+      (and_right (is_textual (cell.Text t)) (list_all is_textual cells) h),
+)
 
 -- what fits a script is in its ranges
 pub in_range : (k : Known) (s : Step) → Fits k s → StepInRange s
@@ -80,7 +88,7 @@ in_range k (step.Add connection words) f = tt
 in_range k (step.Request connection name parameters) f = tt
 in_range k (step.Publish adapter seq item cells) f = textual_cells cells f.textual
 in_range k (step.Clear adapter seq item) f = tt
-in_range k (step.Enqueue connection sub place) f = tt
+in_range k (step.Enqueue connection sub rank) f = tt
 in_range k (step.Take connection) f = tt
 in_range k (step.Lose connection) f = tt
 
@@ -95,6 +103,6 @@ distinct_fields k (step.Add connection words) f = tt
 distinct_fields k (step.Request connection name parameters) f = tt
 distinct_fields k (step.Publish adapter seq item cells) f = tt
 distinct_fields k (step.Clear adapter seq item) f = tt
-distinct_fields k (step.Enqueue connection sub place) f = tt
+distinct_fields k (step.Enqueue connection sub rank) f = tt
 distinct_fields k (step.Take connection) f = tt
 distinct_fields k (step.Lose connection) f = tt

@@ -1,29 +1,26 @@
 -- What events, enqueues, turns and requests leave of a world as it was.
-use Rattle.std.proofs.Common.{ℕ, ◌+◌, List, [], ◌∷◌, ◌++◌, length, Option, Some, None, Result, Ok, Err, codes, nat_lt, slice_get}
+use Rattle.std.proofs.Common.{ℕ, ◌+◌, List, [], ◌∷◌, ◌++◌, length, Option, codes, nat_lt, slice_get}
 use Rattle.std.specs.Prelude.{option_and_then}
 use Rattle.ls_event.specs.declared.event.Entry.{Entry}
 use Rattle.ls_event.specs.declared.event.Event.TheVariants.{Update, Clear}
-use Rattle.ls_event.specs.declared.event.PublishRefused.{PublishRefused}
-use Rattle.ls_event.specs.Shapes.{shape_of}
-use Rattle.ls_event.specs.Publishes.{refusal}
 use Rattle.ls_form.specs.declared.form.Pair.{Pair}
 use Rattle.ls_form.specs.Forms.{form_of}
 use Rattle.ls_request.specs.declared.request.LinkKind.TheVariants as link
-use Rattle.ls_request.specs.declared.request.Add.{Add}
 use Rattle.ls_request.specs.declared.request.Create.{Create}
 use Rattle.ls_request.specs.declared.request.Op.{Op}
 use Rattle.ls_request.specs.declared.request.Op.TheVariants as op
 use Rattle.ls_request.specs.declared.request.Request.{Request}
 use Rattle.ls_request.specs.declared.request.Request.TheVariants as request
 use Rattle.ls_request.specs.Requests.{req_behind}
-use Rattle.ls_script.specs.declared.step.Step.{Step}
-use Rattle.ls_script.specs.declared.step.Step.TheVariants as step
-use Rattle.ls_script.specs.Adding.{add_pairs}
-use Rattle.ls_world.specs.Cutting.{Ask}
-use Rattle.ls_world.specs.World.{World, Item, Live, Session, history_of, change, live_at, added, enqueued_in, least_far, free_number, on_board, opened}
-use Rattle.ls_world.specs.Acting.{add_asked, create_code}
-use Rattle.ls_world.specs.Steps.{Stepped, Once, repeated, session_of, grown, is_whole, published_by, published, publishes, with_link, creates_by, adds_by, operates, session_named, acts, is_opening, malformed_control, malformed, request_on, requests_by, requests, connects, plain_create, enqueued_by, enqueue_once, Answer, Gave, Idle, Spent, turned, took_by, take_once, does}
-use Rattle.ls_world.proofs.Rules.{session_rule, cond_rule, repeated_keeps}
+use Rattle.ls_step.specs.declared.step.Step.{Step}
+use Rattle.ls_step.specs.declared.step.Step.TheVariants as step
+use Rattle.ls_step.specs.Adding.{add_pairs}
+use Rattle.ls_world.specs.World.{World, Session, history_of, change, live_at, enqueued_in, on_board, opened}
+use Rattle.ls_world.specs.Acting.{subscribed, add_code, create_code}
+use Rattle.ls_world.specs.Steps.{Stepped, Once, repeated, session_of, grown, is_whole, cause_to_refuse, publishes, with_link, creates, operates, session_named}
+use Rattle.ls_world.specs.Steps.{acts, is_opening, malformed, request_on, requests, connects, plain_create, enqueue_once, TurnGives, Gave, Idle, Spent}
+use Rattle.ls_world.specs.Steps.{session_turn, took, take_once, does}
+use Rattle.ls_world.proofs.Rules.{found_rule, session_rule, cond_rule, repeated_keeps}
 
 -- what is true of a world stays true, whatever becomes of its sessions and of its items' histories
 pub record Unmoved (P : World → Type 0) : Type 0 where
@@ -36,19 +33,16 @@ pub record Unlinked (P : World → Type 0) : Type 0 where
   pub links : (w : World) (connection session : ℕ) → P w → P (with_link connection session w)
 
 -- enqueues and turns
-enqueued_unmoved : (P : World → Type 0) → Unmoved P → (w : World) (n sub place : ℕ) (o : Option Live) → P w → P (enqueued_by w n sub place o).after
-enqueued_unmoved P k w n sub place None p = p
-enqueued_unmoved P k w n sub place (Some v) p =
-    cond_rule (λ (r : Once). P r.after) (nat_lt v.slot.last (length (history_of w.items v.item))) _ _
-    (λ t. k.sessions w (change n (on_board (enqueued_in w.items sub place)) w.sessions) p) (λ t. p)
+pub enqueues_unmoved : (P : World → Type 0) → Unmoved P → (connection sub rank times : ℕ) (w : World) → P w
+    → P (repeated (enqueue_once connection sub rank) times w).after
+enqueues_unmoved P k connection sub rank times w p =
+    repeated_keeps P (enqueue_once connection sub rank) times w
+    (λ v q. session_rule (λ (r : Once). P r.after) v.sessions (session_of v connection) _ _ q
+    (λ n s is. found_rule (λ (r : Once). P r.after) (live_at sub rank s.board.round) _ _ (λ e. q)
+    (λ u e. cond_rule (λ (r : Once). P r.after) (nat_lt u.slot.last (length (history_of v.items u.item))) _ _
+    (λ t. k.sessions v (change n (on_board (enqueued_in v.items sub rank)) v.sessions) q) (λ t. q)))) p
 
-pub enqueues_unmoved : (P : World → Type 0) → Unmoved P → (connection sub place times : ℕ) (w : World) → P w → P (repeated (enqueue_once connection sub place) times w).after
-enqueues_unmoved P k connection sub place times w p =
-    repeated_keeps P (enqueue_once connection sub place) times w
-    (λ v q. session_rule (λ (r : Once). P r.after) v.sessions (session_of v connection) _ (λ n s. enqueued_by v n sub place (live_at sub place s.board.round)) q
-    (λ n s is. enqueued_unmoved P k v n sub place (live_at sub place s.board.round) q)) p
-
-took_unmoved : (P : World → Type 0) → Unmoved P → (w : World) (connection n : ℕ) (s : Session) (a : Answer) → P w → P (took_by w connection n s a).after
+took_unmoved : (P : World → Type 0) → Unmoved P → (w : World) (connection n : ℕ) (s : Session) (g : TurnGives) → P w → P (took w connection n s g).after
 took_unmoved P k w connection n s (Gave text) p = k.sessions w (change n (λ old. s) w.sessions) p
 took_unmoved P k w connection n s Idle p = k.sessions w (change n (λ old. s) w.sessions) p
 took_unmoved P k w connection n s Spent p = p
@@ -56,37 +50,29 @@ took_unmoved P k w connection n s Spent p = p
 pub takes_unmoved : (P : World → Type 0) → Unmoved P → (connection times : ℕ) (w : World) → P w → P (repeated (take_once connection) times w).after
 takes_unmoved P k connection times w p =
     repeated_keeps P (take_once connection) times w
-    (λ v q. session_rule (λ (r : Once). P r.after) v.sessions (session_of v connection) _ (λ n s. took_by v connection n (turned v.items s).session (turned v.items s).answer) q
-    (λ n s is. took_unmoved P k v connection n (turned v.items s).session (turned v.items s).answer q)) p
+    (λ v q. session_rule (λ (r : Once). P r.after) v.sessions (session_of v connection) _ _ q
+    (λ n s is. took_unmoved P k v connection n (session_turn v.items s).session (session_turn v.items s).gives q)) p
 
 -- a publish
 pub publishes_unmoved : (P : World → Type 0) → Unmoved P → (w : World) (item : ℕ) (e : Entry) → P w → P (publishes w item e).after
-publishes_unmoved P k w item e p = by_item (slice_get w.items item)
-  where
-    by_cause : (i : Item) (o : Option PublishRefused) → P (published_by w item e (length i.history + 1) o).after
-    by_cause i None = k.grows w item e p
-    by_cause i (Some cause) = p
-
-    by_item : (o : Option Item) → P (published w item e o).after
-    by_item None = p
-    by_item (Some i) =
-        cond_rule (λ (r : Stepped). P r.after) (is_whole (length i.definition.fields) e.event) _ _
-        (λ t. by_cause i (refusal (shape_of i.definition) i.history (least_far item (length i.history) w.sessions) e.adapter e.seq e.event)) (λ t. p)
+publishes_unmoved P k w item e p =
+    found_rule (λ (r : Stepped). P r.after) (slice_get w.items item) _ _ (λ x. p)
+    (λ i x. cond_rule (λ (r : Stepped). P r.after) (is_whole (length i.definition.fields) e.event) _ _
+    (λ t. found_rule (λ (r : Stepped). P r.after) (cause_to_refuse w item e i) _ _ (λ y. k.grows w item e p) (λ cause y. p)) (λ t. p))
 
 -- requests
-created_unmoved : (P : World → Type 0) → Unlinked P → (w : World) (connection : ℕ) (c : Create) (o : Option ℕ) → P w → P (creates_by w connection c o).after
-created_unmoved P k w connection c None p =
+creates_unmoved : (P : World → Type 0) → Unlinked P → (w : World) (connection : ℕ) (c : Create) → P w → P (creates w connection c).after
+creates_unmoved P k w connection c p =
     let ss : List Session = w.sessions ++ opened (length w.sessions + 1) c.keepalive ∷ [] in
-    k.links (record w { sessions = ss }) connection (length w.sessions) (k.rest.sessions w ss p)
-created_unmoved P k w connection c (Some code) p = p
+    found_rule (λ (r : Stepped). P r.after) (create_code w c) _ _
+    (λ x. k.links (record w { sessions = ss }) connection (length w.sessions) (k.rest.sessions w ss p)) (λ code x. p)
 
-adds_unmoved : (P : World → Type 0) → Unlinked P → (w : World) (connection : ℕ) (req : List ℕ) (a : Add) (n : ℕ) (o : Result (List Ask) ℕ) → P w → P (adds_by w connection req a n o).after
-adds_unmoved P k w connection req a n (Err code) p = p
-adds_unmoved P k w connection req a n (Ok asks) p =
-    k.rest.sessions w (change n (on_board (added w.items (free_number w.sessions) a.sub (length a.schema) asks)) w.sessions) p
-
-operates_unmoved : (P : World → Type 0) → Unlinked P → (w : World) (connection : ℕ) (req : List ℕ) (o : Op) (n : ℕ) (s : Session) → P w → P (operates w connection req o n s).after
-operates_unmoved P k w connection req (op.Add a) n s p = adds_unmoved P k w connection req a n (add_asked w s a) p
+operates_unmoved : (P : World → Type 0) → Unlinked P → (w : World) (connection : ℕ) (req : List ℕ) (o : Op) (n : ℕ) (s : Session) → P w
+    → P (operates w connection req o n s).after
+operates_unmoved P k w connection req (op.Add a) n s p =
+    found_rule (λ (r : Stepped). P r.after) (add_code w s a) _ _
+    (λ x. k.rest.sessions w (change n (subscribed w a) w.sessions) p)
+    (λ code x. p)
 operates_unmoved P k w connection req (op.Delete sub) n s p = p
 operates_unmoved P k w connection req (op.Reconf sub frequency) n s p = p
 operates_unmoved P k w connection req (op.Constrain bandwidth) n s p = p
@@ -94,7 +80,7 @@ operates_unmoved P k w connection req op.ForceRebind n s p = p
 operates_unmoved P k w connection req op.Destroy n s p = p
 
 acts_unmoved : (P : World → Type 0) → Unlinked P → (w : World) (connection : ℕ) (r : Request) → P w → P (acts w connection r).after
-acts_unmoved P k w connection (request.Create c) p = created_unmoved P k w connection c (create_code w c) p
+acts_unmoved P k w connection (request.Create c) p = creates_unmoved P k w connection c p
 acts_unmoved P k w connection (request.Bind b) p = p
 acts_unmoved P k w connection (request.Control c) p =
     session_rule (λ (r : Stepped). P r.after) w.sessions (session_named w connection c.session) _ (operates w connection c.req c.op) p
@@ -102,23 +88,22 @@ acts_unmoved P k w connection (request.Control c) p =
 acts_unmoved P k w connection request.Wsok p = p
 
 malformed_unmoved : (P : World → Type 0) (w : World) (connection : ℕ) (name : List ℕ) (req : Option (List ℕ)) → P w → P (malformed w connection name req).after
-malformed_unmoved P w connection name req p = cond_rule (λ (r : Stepped). P r.after) (is_opening name) _ _ (λ t. p) (λ t. by_req req)
-  where
-    by_req : (o : Option (List ℕ)) → P (malformed_control w connection o).after
-    by_req None = p
-    by_req (Some req) = p
+malformed_unmoved P w connection name req p =
+    cond_rule (λ (r : Stepped). P r.after) (is_opening name) _ _ (λ t. p) (λ t. found_rule (λ (r : Stepped). P r.after) req _ _ (λ x. p) (λ r x. p))
 
-requests_unmoved : (P : World → Type 0) → Unlinked P → (w : World) (connection : ℕ) (name : List ℕ) (ps : Option (List Pair)) → P w → P (requests w connection name ps).after
-requests_unmoved P k w connection name ps p = by_request (request_on w connection name ps)
-  where
-    by_request : (o : Option Request) → P (requests_by w connection name (option_and_then (req_behind name) ps) o).after
-    by_request None = malformed_unmoved P w connection name (option_and_then (req_behind name) ps) p
-    by_request (Some r) = acts_unmoved P k w connection r p
+requests_unmoved : (P : World → Type 0) → Unlinked P → (w : World) (connection : ℕ) (name : List ℕ) (ps : Option (List Pair)) → P w
+    → P (requests w connection name ps).after
+requests_unmoved P k w connection name ps p =
+    found_rule (λ (r : Stepped). P r.after) (request_on w connection name ps) _ (acts w connection)
+    (λ x. malformed_unmoved P w connection name (option_and_then (req_behind name) ps) p) (λ r x. acts_unmoved P k w connection r p)
 
 -- what a step itself declares
 abbrev pub declared_by : World → Step → World
 declared_by w (step.Set name) = record w { set = name }
-declared_by w (step.Item name k fields) = record w { items = w.items ++ record { definition = record { name = name; kind = k; fields = fields }; history = [] } ∷ [] }
+declared_by w (step.Item name k fields) = record w {
+  items = w.items ++ record { definition = record { name = name; kind = k; fields = fields }; history = [] }
+      ∷ [];
+}
 declared_by w (step.Tick ms) = record w { tick = ms }
 declared_by w (step.Conn name l) = connects w name l
 declared_by w (step.Open name) = connects w name link.Ws
@@ -126,7 +111,7 @@ declared_by w (step.Add connection words) = w
 declared_by w (step.Request connection name parameters) = w
 declared_by w (step.Publish adapter seq item cells) = w
 declared_by w (step.Clear adapter seq item) = w
-declared_by w (step.Enqueue connection sub place) = w
+declared_by w (step.Enqueue connection sub rank) = w
 declared_by w (step.Take connection) = w
 declared_by w (step.Lose connection) = w
 
@@ -137,11 +122,12 @@ does_unmoved P k w (step.Item name kind fields) times p = p
 does_unmoved P k w (step.Tick ms) times p = p
 does_unmoved P k w (step.Conn name l) times p = p
 does_unmoved P k w (step.Open name) times p =
-    created_unmoved P k (connects w name link.Ws) (length w.connections) plain_create (create_code (connects w name link.Ws) plain_create) p
+    creates_unmoved P k (connects w name link.Ws) (length w.connections) plain_create p
 does_unmoved P k w (step.Add connection words) times p = requests_unmoved P k w connection (codes "control") (add_pairs w.line words) p
 does_unmoved P k w (step.Request connection name parameters) times p = requests_unmoved P k w connection name (form_of parameters) p
-does_unmoved P k w (step.Publish adapter seq item cells) times p = publishes_unmoved P k.rest w item (record { adapter = adapter; seq = seq; event = Update cells }) p
+does_unmoved P k w (step.Publish adapter seq item cells) times p = publishes_unmoved P k.rest w item
+    (record { adapter = adapter; seq = seq; event = Update cells }) p
 does_unmoved P k w (step.Clear adapter seq item) times p = publishes_unmoved P k.rest w item (record { adapter = adapter; seq = seq; event = Clear }) p
-does_unmoved P k w (step.Enqueue connection sub place) times p = enqueues_unmoved P k.rest connection sub place times w p
+does_unmoved P k w (step.Enqueue connection sub rank) times p = enqueues_unmoved P k.rest connection sub rank times w p
 does_unmoved P k w (step.Take connection) times p = takes_unmoved P k.rest connection times w p
 does_unmoved P k w (step.Lose connection) times p = p

@@ -1,20 +1,23 @@
 -- What is done on a request: the order of its refusals, and what is asked of the items of a new subscription (TLCP 2.1,
 -- requests; the codes are this project's profile).
-use Rattle.std.specs.Prelude.{◌==◌, ℕ, ◌+◌, ◌-◌, ◌^◌, List, [], ◌∷◌, length, map, sum_by, Bool, true, false, not, ◌&&◌, ◌||◌, Option, None, Some, is_some, Result, Ok, Err, nat_lt, nat_le, codes, if◌then◌else◌, option_and_then, slice_get}
-use Rattle.std.specs.Option.{option_map_or}
+use Rattle.std.specs.Prelude.{◌==◌, ℕ, ◌+◌, ◌-◌, List, [], ◌∷◌, length, map, sum_by, Bool, true, not, ◌&&◌, ◌||◌}
+use Rattle.std.specs.Prelude.{Option, None, Some, is_some, nat_lt, nat_le, codes, if◌then◌else◌, unwrap_or}
 use Rattle.std.specs.List.{list_all}
 use Rattle.ls_value.specs.Values.{text_eq, place_of}
 use Rattle.ls_event.specs.declared.event.Mode.{Mode}
 use Rattle.ls_event.specs.declared.event.Mode.TheVariants as mode
 use Rattle.ls_event.specs.declared.event.Snap.{Snap}
-use Rattle.ls_event.specs.declared.item.Kind.{Kind}
-use Rattle.ls_event.specs.declared.item.Kind.TheVariants as kind
-use Rattle.ls_event.specs.Joining.{rows_asked, buffer_size}
+use Rattle.ls_event.specs.Joining.{is_mode_of, rows_asked, buffer_size}
 use Rattle.ls_request.specs.declared.request.Add.{Add}
 use Rattle.ls_request.specs.declared.request.Create.{Create}
-use Rattle.ls_config.specs.Items.{are_distinct}
+use Rattle.ls_value.specs.Values.{are_distinct}
 use Rattle.ls_world.specs.Cutting.{Ask}
-use Rattle.ls_world.specs.World.{World, Item, Live, Session, is_used, all_live}
+use Rattle.ls_world.specs.Cases.{first_code}
+use Rattle.ls_world.specs.World.{World, Item, Live, Session, is_used, all_live, shape_at, fields_at, free_number}
+use Rattle.ls_world.specs.World.{added, on_board}
+use Rattle.ls_world.specs.declared.TheConstants.{MOST_GROUP_ITEMS, MOST_SESSIONS, MOST_SUBSCRIPTIONS, MOST_UNSENT}
+use Rattle.ls_event.specs.declared.limits.TheConstants.{MOST_FIELDS, MOST_SLOTS}
+use Rattle.ls_value.specs.declared.limits.TheConstants.{GREATEST_NUMBER}
 
 -- the text of a code
 abbrev pub message_of : ℕ → List ℕ
@@ -32,105 +35,98 @@ message_of code =
     else if code == 74 then codes "Counter spent"
     else []
 
--- the places of these names among others, where each is there
-abbrev pub placed : Option ℕ → Option (List ℕ) → Option (List ℕ)
-placed None places = None
-placed (Some place) None = None
-placed (Some place) (Some places) = Some (place ∷ places)
+-- whether each of these names is among others, and their places there
+abbrev pub are_among : List (List ℕ) → List (List ℕ) → Bool
+are_among names others = list_all (λ t. is_some (place_of names t)) others
 
-abbrev pub places_among : List (List ℕ) → List (List ℕ) → Option (List ℕ)
-places_among names [] = Some []
-places_among names (name ∷ others) = placed (place_of names name) (places_among names others)
+abbrev pub places_among : List (List ℕ) → List (List ℕ) → List ℕ
+places_among names others = map (λ t. unwrap_or (place_of names t) 0) others
 
--- 1 to 64 distinct names
-abbrev pub are_some_names : List (List ℕ) → Bool
-are_some_names names = nat_le 1 (length names) && nat_le (length names) 64 && are_distinct names
+-- whether texts are distinct names, at least 1 and at most so many
+abbrev pub are_names : ℕ → List (List ℕ) → Bool
+are_names most names = nat_le 1 (length names) && nat_le (length names) most && are_distinct names
 
--- the items of a group by their places, where it names 1 to 64 distinct items
-abbrev pub group_of : List Item → List (List ℕ) → Option (List ℕ)
-group_of items names = if are_some_names names then places_among (map (λ i. i.definition.name) items) names else None
+-- whether a group is one of declared items, at most as many as it may name, and its items by their places
+abbrev pub is_group : List Item → List (List ℕ) → Bool
+is_group items group = are_names MOST_GROUP_ITEMS group && are_among (map (λ i. i.definition.name) items) group
 
--- RAW is allowed on each item, and else the item's own mode
-abbrev pub is_mode_of : Mode → Kind → Bool
-is_mode_of mode.Raw k = true
-is_mode_of mode.Merge kind.Merge = true
-is_mode_of mode.Distinct kind.Distinct = true
-is_mode_of mode.Command kind.Command = true
-is_mode_of m k = false
+abbrev pub group_of : List Item → List (List ℕ) → List ℕ
+group_of items group = places_among (map (λ i. i.definition.name) items) group
 
-abbrev pub is_allowed : List Item → Mode → ℕ → Bool
-is_allowed items m n = option_map_or (λ i. is_mode_of m i.definition.kind) (slice_get items n) false
-
--- RAW has no snapshot
-abbrev pub snapshot_asked : Mode → Snap → Option ℕ
-snapshot_asked mode.Raw s = None
-snapshot_asked m s = rows_asked s
+-- whether a mode is allowed on each of these items
+abbrev pub is_allowed : List Item → Mode → List ℕ → Bool
+is_allowed items m group = list_all (λ n. is_mode_of m (shape_at items n).kind) group
 
 -- in mode COMMAND a schema shows the key and the command
 abbrev pub shows_keys : Mode → List (List ℕ) → Bool
 shows_keys mode.Command schema = is_some (place_of schema (codes "key")) && is_some (place_of schema (codes "command"))
 shows_keys m schema = true
 
--- what is asked of an item
+-- whether a schema is one of a mode, and each of these items has its fields
+abbrev pub is_schema : List Item → Mode → List ℕ → List (List ℕ) → Bool
+is_schema items m group schema =
+    are_names MOST_FIELDS schema && shows_keys m schema
+    && list_all (λ n. are_among (fields_at items n) schema) group
+
+-- RAW has no snapshot
+abbrev pub snapshot_asked : Mode → Snap → Option ℕ
+snapshot_asked mode.Raw s = None
+snapshot_asked m s = rows_asked s
+
+-- what an add asks of an item, by the places of the schema in it
 abbrev pub ask_of : Add → ℕ → List ℕ → Ask
 ask_of a item places =
-    record { item = item; mode = a.mode; size = buffer_size a.mode a.size; wanted = record { places = places; snapshot = snapshot_asked a.mode a.snapshot } }
+    record {
+      item = item;
+      mode = a.mode;
+      size = buffer_size a.mode a.size;
+      wanted = record { places = places; snapshot = snapshot_asked a.mode a.snapshot };
+    }
 
--- the places of the schema in an item
-abbrev pub schema_in : List Item → List (List ℕ) → ℕ → Option (List ℕ)
-schema_in items schema n = option_and_then (λ i. places_among i.definition.fields schema) (slice_get items n)
+-- what it asks of each item of its group, in their order
+abbrev pub asks_of : List Item → Add → List Ask
+asks_of items a = map (λ n. ask_of a n (places_among (fields_at items n) a.schema)) (group_of items a.group)
 
-abbrev pub asked_more : Add → ℕ → Option (List ℕ) → Option (List Ask) → Option (List Ask)
-asked_more a item None asks = None
-asked_more a item (Some places) None = None
-asked_more a item (Some places) (Some asks) = Some (ask_of a item places ∷ asks)
-
--- what is asked of these items, where each has all fields of the schema
-abbrev pub asks_of : List Item → Add → List ℕ → Option (List Ask)
-asks_of items a [] = Some []
-asks_of items a (n ∷ group) = asked_more a n (schema_in items a.schema n) (asks_of items a group)
-
-abbrev pub schema_asked : List Item → Add → List ℕ → Option (List Ask)
-schema_asked items a group =
-    if are_some_names a.schema && shows_keys a.mode a.schema then asks_of items a group else None
+-- a session with the subscription that an add asks for
+abbrev pub subscribed : World → Add → Session → Session
+subscribed w a =
+    on_board (added w.items (free_number w.sessions) a.sub (length a.schema) (asks_of w.items a))
 
 -- how many subscriptions are in a round: each has one first item
 abbrev pub subscriptions : List Live → ℕ
-subscriptions round = sum_by (λ v. if v.place == 1 then 1 else 0) round
+subscriptions round = sum_by (λ v. if v.rank == 1 then 1 else 0) round
 
 -- how many numbered lines aren't given yet
 abbrev pub unsent : Session → ℕ
 unsent s = length s.board.lines - s.sent
 
--- why an add to a session is refused, by the first code of the order, or what is asked of its items
-abbrev pub asked_or_spent : World → Session → List Ask → Result (List Ask) ℕ
-asked_or_spent w s asks =
-    if nat_le 256 (subscriptions s.board.round) || nat_lt 4096 (length (all_live w.sessions) + length asks) then Err 71
-    else if nat_lt (2 ^ 60) (length s.board.lines + 2) then Err 74
-    else Ok asks
+-- whether the session, or all of them, have no room for the slots of a group
+abbrev pub is_full : World → Session → List (List ℕ) → Bool
+is_full w s group =
+    nat_le MOST_SUBSCRIPTIONS (subscriptions s.board.round)
+    || nat_lt MOST_SLOTS (length (all_live w.sessions) + length group)
 
-abbrev pub asked_with : World → Session → Option (List Ask) → Result (List Ask) ℕ
-asked_with w s None = Err 23
-asked_with w s (Some asks) = asked_or_spent w s asks
+-- what an add to a session is refused for: each code beside its condition, in their order
+abbrev pub add_refusals : World → Session → Add → List (ℕ × Bool)
+add_refusals w s a =
+    (72, is_used a.sub s.board.round)
+    ∷ (70, nat_lt MOST_UNSENT (unsent s + 2))
+    ∷ (21, not (is_group w.items a.group))
+    ∷ (24, not (is_allowed w.items a.mode (group_of w.items a.group)))
+    ∷ (23, not (is_schema w.items a.mode (group_of w.items a.group) a.schema))
+    ∷ (71, is_full w s a.group)
+    ∷ (74, nat_lt GREATEST_NUMBER (length s.board.lines + 2))
+    ∷ []
 
-abbrev pub asked_of : World → Session → Add → Option (List ℕ) → Result (List Ask) ℕ
-asked_of w s a None = Err 21
-asked_of w s a (Some group) =
-    if list_all (is_allowed w.items a.mode) group then asked_with w s (schema_asked w.items a group) else Err 24
+abbrev pub add_code : World → Session → Add → Option ℕ
+add_code w s a = first_code (add_refusals w s a)
 
-abbrev pub add_asked : World → Session → Add → Result (List Ask) ℕ
-add_asked w s a =
-    if is_used a.sub s.board.round then Err 72
-    else if nat_lt 512 (unsent s + 2) then Err 70
-    else asked_of w s a (group_of w.items a.group)
-
--- why a create is refused, by the first code of the order
+-- the adapter set is the one that is named, where one is
 abbrev pub is_set_of : World → Option (List ℕ) → Bool
 is_set_of w None = true
 is_set_of w (Some name) = text_eq name w.set
 
+-- what a create is refused for, in this order
 abbrev pub create_code : World → Create → Option ℕ
 create_code w c =
-    if not (is_set_of w c.set) then Some 2
-    else if nat_le 1024 (length w.sessions) then Some 8
-    else None
+    first_code ((2, not (is_set_of w c.set)) ∷ (8, nat_le MOST_SESSIONS (length w.sessions)) ∷ [])

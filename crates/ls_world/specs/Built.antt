@@ -1,6 +1,7 @@
 -- Which steps are built yet: one item, one session, and one subscription of one item, without frequencies, bandwidths,
 -- losses and binds (this project's state).
-use Rattle.std.specs.Prelude.{ℕ, List, [], ◌∷◌, length, Bool, true, false, not, ◌&&◌, ◌||◌, Option, None, Some, is_none, Result, Ok, Err, nat_le, codes}
+use Rattle.std.specs.Prelude.{ℕ, List, [], ◌∷◌, length, Bool, true, false, not, ◌&&◌, ◌||◌, Option, None, Some, is_none}
+use Rattle.std.specs.Prelude.{nat_le, codes}
 use Rattle.ls_form.specs.declared.form.Pair.{Pair}
 use Rattle.ls_form.specs.Forms.{form_of, has_name}
 use Rattle.ls_request.specs.declared.request.LinkKind.{LinkKind}
@@ -10,12 +11,11 @@ use Rattle.ls_request.specs.declared.request.Request.TheVariants as request
 use Rattle.ls_request.specs.declared.request.Control.{Control}
 use Rattle.ls_request.specs.declared.request.Op.{Op}
 use Rattle.ls_request.specs.declared.request.Op.TheVariants as op
-use Rattle.ls_script.specs.declared.step.Step.{Step}
-use Rattle.ls_script.specs.declared.step.Step.TheVariants as step
-use Rattle.ls_script.specs.Adding.{add_pairs}
-use Rattle.ls_world.specs.Cutting.{Ask}
+use Rattle.ls_step.specs.declared.step.Step.{Step}
+use Rattle.ls_step.specs.declared.step.Step.TheVariants as step
+use Rattle.ls_step.specs.Adding.{add_pairs}
 use Rattle.ls_world.specs.World.{World, Session}
-use Rattle.ls_world.specs.Acting.{add_asked, create_code}
+use Rattle.ls_world.specs.Acting.{add_code, create_code}
 use Rattle.ls_world.specs.Steps.{with_session, session_named, request_on}
 
 -- there is none yet
@@ -28,6 +28,7 @@ abbrev pub has_lines : List Session → Bool
 has_lines [] = false
 has_lines (s ∷ sessions) = nat_le 1 (length s.board.lines) || has_lines sessions
 
+-- whether a connection goes over a WebSocket
 abbrev pub is_ws : LinkKind → Bool
 is_ws link.Ws = true
 is_ws link.Http = false
@@ -36,19 +37,12 @@ is_ws link.Http = false
 abbrev pub lacks : List Pair → List ℕ → Bool
 lacks ps name = not (has_name ps name)
 
-abbrev pub is_accepted : Result (List Ask) ℕ → Bool
-is_accepted (Ok asks) = true
-is_accepted (Err code) = false
-
 -- the first subscription, without a frequency, where nothing stands against it
 abbrev pub is_built_op : World → List Pair → Op → ℕ → Session → Bool
-is_built_op w ps (op.Add a) n s = lacks ps (codes "LS_requested_max_frequency") && is_accepted (add_asked w s a)
-is_built_op w ps (op.Delete sub) n s = false
-is_built_op w ps (op.Reconf sub frequency) n s = false
-is_built_op w ps (op.Constrain bandwidth) n s = false
-is_built_op w ps op.ForceRebind n s = false
-is_built_op w ps op.Destroy n s = false
+is_built_op w ps (op.Add a) n s = lacks ps (codes "LS_requested_max_frequency") && is_none (add_code w s a)
+is_built_op w ps o n s = false
 
+-- a control request is built before the first numbered line
 abbrev pub is_built_control : World → ℕ → List Pair → Control → Bool
 is_built_control w connection ps c =
     not (has_lines w.sessions)
@@ -67,10 +61,12 @@ abbrev pub is_built_if_read : World → ℕ → List Pair → Option Request →
 is_built_if_read w connection ps None = true
 is_built_if_read w connection ps (Some r) = is_built_request w connection ps r
 
+-- requests by their names and pairs; a malformed form is built
 abbrev pub are_built : World → ℕ → List ℕ → Option (List Pair) → Bool
 are_built w connection name None = true
 are_built w connection name (Some ps) = is_built_if_read w connection ps (request_on w connection name (Some ps))
 
+-- whether a step is built
 abbrev pub is_built : World → Step → Bool
 is_built w (step.Set name) = true
 is_built w (step.Item name k fields) = none_yet w.items
@@ -81,6 +77,6 @@ is_built w (step.Add connection words) = are_built w connection (codes "control"
 is_built w (step.Request connection name parameters) = are_built w connection name (form_of parameters)
 is_built w (step.Publish adapter seq item cells) = true
 is_built w (step.Clear adapter seq item) = true
-is_built w (step.Enqueue connection sub place) = true
+is_built w (step.Enqueue connection sub rank) = true
 is_built w (step.Take connection) = true
 is_built w (step.Lose connection) = false

@@ -1,5 +1,7 @@
--- What is true of a slot of mode COMMAND: the client's table agrees with the item's at the place of each key (General Concepts, mode COMMAND).
-use Rattle.std.specs.Prelude.{◌≡◌, ◌<◌, ◌≤◌, ◌⊎◌, ℕ, List, [], ◌∷◌, ◌++◌, length, map, true, Option, None, Some, codes, if◌then◌else◌}
+-- What is true of a slot of mode COMMAND: the client's table agrees with the item's at the cursor of each key (General
+-- Concepts, mode COMMAND).
+use Rattle.std.specs.Prelude.{◌≡◌, ◌<◌, ◌≤◌, ◌⊎◌, ℕ, List, [], ◌∷◌, ◌++◌, length, map, true, Option, None, Some, codes}
+use Rattle.std.specs.Prelude.{if◌then◌else◌}
 use Rattle.ls_value.specs.Values.{text_eq}
 use Rattle.ls_value.specs.declared.row.Value.{Value}
 use Rattle.ls_event.specs.declared.event.Event.{Event}
@@ -7,13 +9,15 @@ use Rattle.ls_event.specs.declared.event.Event.TheVariants.{Update, Clear}
 use Rattle.ls_event.specs.declared.event.Entry.{Entry}
 use Rattle.ls_event.specs.History.{between}
 use Rattle.ls_event.specs.Shapes.{Shape}
-use Rattle.ls_event.specs.Slots.{Plan, Slot, Noted}
+use Rattle.ls_event.specs.Slots.{Plan, Slot, KeyCursor}
 use Rattle.ls_event.specs.Updates.{last_of, last_clear}
 use Rattle.ls_event.specs.Keyed.{key_of, row_at, keyed}
 use Rattle.ls_event.specs.CommandCuts.{has_key}
+use Rattle.ls_mirror.specs.declared.command.KeyPlaces.{KeyPlaces}
 use Rattle.ls_world.specs.Came.{Came, whats}
 use Rattle.ls_mirror.specs.Client.{What, Row, Cleared}
-use Rattle.ls_world.specs.Tables.{InSchema, place_in, shown_at, table_at, projected_row, with_word, delete_row}
+use Rattle.ls_world.specs.Tables.{place_of_field, keys_shown_at, table_at, projected_row, with_word}
+use Rattle.ls_world.specs.Tables.{delete_row}
 use Rattle.ls_world.specs.Cutting.{Wanted, schema_of}
 
 -- the item has a key and a command, and the schema shows both
@@ -21,43 +25,50 @@ pub record IsKeyed (p : Plan) (places : List ℕ) : Type 0 where
   pub key : p.shape.key < p.shape.fields
   pub command : p.shape.command < p.shape.fields
   pub apart : p.shape.key ≡ p.shape.command → ⊥
-  pub key_shown : place_in p.shape.key places < length places
-  pub command_shown : place_in p.shape.command places < length places
+  pub key_shown : place_of_field p.shape.key places < length places
+  pub command_shown : place_of_field p.shape.command places < length places
 
--- a key's place, where it is noted
-abbrev pub noted_at : List ℕ → List Noted → Option ℕ
-noted_at k [] = None
-noted_at k (n ∷ ns) = if text_eq n.key k then Some n.place else noted_at k ns
+-- a key's cursor, where it is noted
+abbrev pub cursor_of_key : List ℕ → List KeyCursor → Option ℕ
+cursor_of_key k [] = None
+cursor_of_key k (n ∷ ns) = if text_eq n.key k then Some n.cursor else cursor_of_key k ns
 
--- a client's row of a key that had a turn is the item's at the place of the key, as the schema shows it; other keys
+-- a client's row of a key that had a turn is the item's at the cursor of the key, as the schema shows it; other keys
 -- are absent
-abbrev pub RowAgrees : Shape → List Entry → List ℕ → ℕ → ℕ → List ℕ → Option (List Value) → Option ℕ → Type 0
-RowAgrees p h schema place last k row None = row ≡ None
-RowAgrees p h schema place last k row (Some q) =
-    (place ≤ q) × (q ≤ last) × (row ≡ projected_row schema (row_at k (keyed p h q)))
+abbrev pub RowAgrees : List Entry → Wanted → Slot → List ℕ → Option (List Value) → Option ℕ → Type 0
+RowAgrees h w s k row None = row ≡ None
+RowAgrees h w s k row (Some q) =
+    (s.cursor ≤ q) × (q ≤ s.last) × (row ≡ projected_row w.places (row_at k (keyed s.plan.shape h q)))
 
 -- the row by which the word of a key's line is chosen agrees
-abbrev pub AgreesAt : List Entry → Wanted → Plan → ℕ → ℕ → List Came → List ℕ → Option ℕ → Type 0
-AgreesAt h w p place last cs k o = RowAgrees p.shape h w.places place last k (table_at (schema_of w p) k (whats cs)) o
+abbrev pub AgreesAt : List Entry → Wanted → Slot → List Came → List ℕ → Option ℕ → Type 0
+AgreesAt h w s cs k o = RowAgrees h w s k (table_at (schema_of w s.plan) k (whats cs)) o
 
--- a key that had no turn: none was asked of it, or its turn is owed, or the item doesn't have it at the slot's place, or a Clear waits
-abbrev pub NoTurn : List Entry → Wanted → Plan → ℕ → ℕ → ℕ → List ℕ → Type 0
-NoTurn h w p place last owed k =
-    ((place ≡ p.base) × (w.snapshot ≡ None)) ⊎ ((has_key (last_of owed (map (λ x. x.key) (keyed p.shape h p.base))) k ≡ true) ⊎ ((row_at k (keyed p.shape h place) ≡ None) ⊎ ((c : ℕ) × (last_clear h place last ≡ Some c))))
+-- a key that had no turn: none was asked of it, or its turn is owed, or the item doesn't have it at the slot's cursor,
+-- or a Clear waits
+abbrev pub NoTurn : List Entry → Wanted → Slot → List ℕ → Type 0
+NoTurn h w s k =
+    ((s.cursor ≡ s.plan.base) × (w.snapshot ≡ None))
+    ⊎ ((has_key (last_of s.owed (map (λ x. x.key) (keyed s.plan.shape h s.plan.base))) k ≡ true)
+    ⊎ ((row_at k (keyed s.plan.shape h s.cursor) ≡ None)
+    ⊎ ((c : ℕ) × (last_clear h s.cursor s.last ≡ Some c))))
 
--- the row of a key's turn, by the client's row of the key and the item's: ADD where the item alone has one, UPDATE where both have one and they differ, DELETE where the
--- client alone has one. Else no row is told
-abbrev pub KeyTold : InSchema → ℕ → List ℕ → Option (List Value) → Option (List Value) → List Value → Type 0
-KeyTold at fields k None None r = ⊥
-KeyTold at fields k None (Some new) r = r ≡ with_word at (codes "ADD") new
-KeyTold at fields k (Some old) None r = r ≡ delete_row at fields k
-KeyTold at fields k (Some old) (Some new) r = (old ≡ new → ⊥) × (r ≡ with_word at (codes "UPDATE") new)
+-- the row of a key's turn, by the client's row of the key and the item's: ADD where the item alone has one, UPDATE
+-- where both have one and they differ, DELETE where the client alone has one. Else there is no row
+abbrev pub IsKeyRow : KeyPlaces → ℕ → List ℕ → Option (List Value) → Option (List Value) → List Value → Type 0
+IsKeyRow at fields k None None r = ⊥
+IsKeyRow at fields k None (Some new) r = r ≡ with_word at (codes "ADD") new
+IsKeyRow at fields k (Some old) None r = r ≡ delete_row at fields k
+IsKeyRow at fields k (Some old) (Some new) r = (old ≡ new → ⊥) × (r ≡ with_word at (codes "UPDATE") new)
 
--- a row tells a client, to whom this had come, of a key as the item had it after so many events of its history, at the places of a schema
-pub record HadKey (p : Shape) (h : List Entry) (places : List ℕ) (before : List What) (i : ℕ) (r : List Value) : Type 0 where
-  pub within : i ≤ length h
-  pub key : List ℕ
-  pub told : KeyTold (shown_at p places) (length places) key (table_at (shown_at p places) key before) (projected_row places (row_at key (keyed p h i))) r
+-- a row tells a client, to whom this had come, of a key as the item had it after so many events of its history, at the
+-- places of a schema
+pub record HadKey (p : Shape) (h : List Entry) (places : List ℕ) (before : List What) (i : ℕ) (r : List Value) : Type 0
+  where
+    pub within : i ≤ length h
+    pub key : List ℕ
+    pub row : IsKeyRow (keys_shown_at p places) (length places) key (table_at (keys_shown_at p places) key before)
+        (projected_row places (row_at key (keyed p h i))) r
 
 -- a line of mode COMMAND, by what had come before it: a row tells of all events that were enqueued then
 pub record IsKeyLine (p : Shape) (h : List Entry) (places : List ℕ) (before : List What) (c : Came) : Type 0 where
@@ -66,42 +77,45 @@ pub record IsKeyLine (p : Shape) (h : List Entry) (places : List ℕ) (before : 
   pub rows : (r : List Value) → c.what ≡ Row r → (c.upto ≡ c.at) × HadKey p h places before c.upto r
 
 -- each tells of no more than so many events
-abbrev pub ToldUpTo : ℕ → List Came → Type 0
-ToldUpTo n [] = Unit {0}
-ToldUpTo n (c ∷ cs) = (c.upto ≤ n) × ToldUpTo n cs
+abbrev pub AreUpTo : ℕ → List Came → Type 0
+AreUpTo n [] = Unit {0}
+AreUpTo n (c ∷ cs) = (c.upto ≤ n) × AreUpTo n cs
 
--- each is such a line, the numbers that were enqueued then never fall, and a Clear is told behind all that was told
--- before
+-- each is such a line, the numbers that were enqueued then never fall, and a Clear tells of no fewer events than any
+-- line before it
 abbrev pub KeyLines : Shape → List Entry → List ℕ → ℕ → List Came → Type 0
 KeyLines p h places top [] = Unit {0}
 KeyLines p h places top (c ∷ cs) =
     (c.at ≤ top) × IsKeyLine p h places (whats cs) c × KeyLines p h places c.at cs
-    × (c.what ≡ Cleared → ToldUpTo c.upto cs)
+    × (c.what ≡ Cleared → AreUpTo c.upto cs)
 
--- no Clear behind this place was passed over: none stands before a number up to which a line tells
+-- no Clear behind this cursor was passed over: none stands before a number up to which a line tells
 abbrev pub NoneCleared : List Entry → ℕ → List Came → Type 0
-NoneCleared h place [] = Unit {0}
-NoneCleared h place (c ∷ cs) = (last_clear h place c.upto ≡ None) × NoneCleared h place cs
+NoneCleared h cursor [] = Unit {0}
+NoneCleared h cursor (c ∷ cs) = (last_clear h cursor c.upto ≡ None) × NoneCleared h cursor cs
 
+-- a slot of mode COMMAND, and what came to its client
 pub record LawfulCommand (h : List Entry) (w : Wanted) (s : Slot) (cs : List Came) : Type 0 where
   pub sound : IsKeyed s.plan w.places
-  pub begun : s.plan.base ≤ s.place
-  pub behind : s.place ≤ s.last
+  pub begun : s.plan.base ≤ s.cursor
+  pub behind : s.cursor ≤ s.last
   pub within : s.last ≤ length h
-  pub agrees : (k : List ℕ) → AgreesAt h w s.plan s.place s.last cs k (noted_at k s.noted)
-  pub first : (k : List ℕ) → noted_at k s.noted ≡ None → NoTurn h w s.plan s.place s.last s.owed k
+  pub agrees : (k : List ℕ) → AgreesAt h w s cs k (cursor_of_key k s.key_cursors)
+  pub first : (k : List ℕ) → cursor_of_key k s.key_cursors ≡ None → NoTurn h w s k
   pub lines : KeyLines s.plan.shape h w.places s.last cs
-  pub clears : NoneCleared h s.place cs
+  pub clears : NoneCleared h s.cursor cs
 
 -- the keys that updates among these entries name
 abbrev pub keys_named : Plan → Event → List (List ℕ)
 keys_named p (Update cells) = key_of p.shape cells ∷ []
 keys_named p Clear = []
 
+-- and all those that they name, in their order
 abbrev pub touched_in : Plan → List Entry → List (List ℕ)
 touched_in p [] = []
 touched_in p (e ∷ es) = keys_named p e.event ++ touched_in p es
 
--- a key that a client is to know: with a snapshot each, and else one that an update behind the slot's first place named
+-- a key that a client is to know: with a snapshot each, and else one that an update behind the slot's first cursor
+-- named
 abbrev pub IsToKnow : List Entry → Wanted → Slot → List ℕ → Type 0
 IsToKnow h w s k = (w.snapshot ≡ None → ⊥) ⊎ (has_key (touched_in s.plan (between h s.plan.base s.last)) k ≡ true)

@@ -1,4 +1,5 @@
--- What is true of each world: each client is at a state of its item that the item had, and never goes back (the headline).
+-- What is true of each world: each client is at a state of its item that the item had, and never goes back (the
+-- headline).
 use Rattle.std.specs.Prelude.{◌≡◌, ◌+◌, ◌-◌, ◌<◌, ◌≤◌, length, ℕ, List, [], ◌∷◌, true, false, Some}
 use Rattle.ls_value.specs.Values.{projected}
 use Rattle.ls_event.specs.declared.event.Entry.{Entry}
@@ -8,7 +9,7 @@ use Rattle.ls_event.specs.Shapes.{shape_of, IsShape}
 use Rattle.ls_event.specs.History.{merged}
 use Rattle.ls_event.specs.Publishes.{IsHistory}
 use Rattle.ls_event.specs.Slots.{Plan, Slot}
-use Rattle.ls_config.specs.Items.{are_distinct}
+use Rattle.ls_value.specs.Values.{are_distinct}
 use Rattle.ls_mirror.specs.Client.{What, Row, HasCome}
 use Rattle.ls_world.specs.Came.{Came, whats}
 use Rattle.ls_line.specs.declared.line.Line.{Line as WireLine}
@@ -20,6 +21,7 @@ use Rattle.ls_world.specs.DistinctMode.{LawfulDistinct}
 use Rattle.ls_world.specs.CommandMode.{LawfulCommand}
 use Rattle.ls_world.specs.ClientKeys.{KeysOf}
 use Rattle.ls_world.specs.World.{World, Session, Board, Stream, Item, Live, history_of, shape_at, is_at}
+use Rattle.ls_value.specs.declared.limits.TheConstants.{GREATEST_ORDINAL}
 
 -- it is true of each
 abbrev pub Each : {A : Type 0} → (A → Type 0) → List A → Type 0
@@ -39,35 +41,39 @@ MergeLines p w h top [] = Unit {0}
 MergeLines p w h top (c ∷ cs) = (c.upto < top) × IsMergeLine p w h c × MergeLines p w h c.upto cs
 
 -- a slot of mode MERGE: before its first line the client has nothing of it, and from then on the last row that came is
--- the item's state at the slot's place
+-- the item's state at the slot's cursor
 pub record LawfulMerge (h : List Entry) (w : Wanted) (s : Slot) (cs : List Came) : Type 0 where
   pub some : 0 < s.plan.size
-  pub behind : s.place ≤ s.last
+  pub behind : s.cursor ≤ s.last
   pub within : s.last ≤ length h
-  pub before : s.given ≡ false → cs ≡ []
-  pub row : s.given ≡ true → last_row cs ≡ Some (projected (merged s.plan.shape.fields h s.place) w.places)
-  pub lines : MergeLines s.plan w h (s.place + 1) cs
+  pub before : s.has_started ≡ false → cs ≡ []
+  pub row : s.has_started ≡ true → last_row cs ≡ Some (projected (merged s.plan.shape.fields h s.cursor) w.places)
+  pub lines : MergeLines s.plan w h (s.cursor + 1) cs
 
+-- a slot of a mode, and what came to its client
 abbrev pub LawfulOf : Mode → List Entry → Wanted → Slot → List Came → Type 0
 LawfulOf mode.Merge h w s cs = LawfulMerge h w s cs
 LawfulOf mode.Raw h w s cs = LawfulRaw h w s cs
 LawfulOf mode.Distinct h w s cs = LawfulDistinct h w s cs
 LawfulOf mode.Command h w s cs = LawfulCommand h w s cs
 
+-- of its own mode
 abbrev pub LawfulSlot : List Entry → Wanted → Slot → List Came → Type 0
 LawfulSlot h w s cs = LawfulOf s.plan.mode h w s cs
 
--- no two slots of a session are of one place in one subscription
+-- no two slots of a session are of one rank in one subscription
 abbrev pub Apart : List Live → Type 0
 Apart [] = Unit {0}
-Apart (v ∷ vs) = Each (λ u. is_at v.sub v.place u ≡ false) vs × Apart vs
+Apart (v ∷ vs) = Each (λ u. is_at v.sub v.rank u ≡ false) vs × Apart vs
 
--- a slot is of a declared item and has its shape, and what came to the slot's client, by all lines of the session, is lawful on the item's whole history
+-- a slot is of a declared item and has its shape, and what came to the slot's client, by all lines of the session, is
+-- lawful on the item's whole history
 pub record LawfulLive (items : List Item) (lines : List Line) (v : Live) : Type 0 where
   pub declared : v.item < length items
   pub shape : v.slot.plan.shape ≡ shape_at items v.item
-  pub told : LawfulSlot (history_of items v.item) v.wanted v.slot (came v.sub v.place lines)
+  pub came : LawfulSlot (history_of items v.item) v.wanted v.slot (came v.sub v.rank lines)
 
+-- a session's slots stand apart, and each is lawful
 pub record LawfulBoard (items : List Item) (b : Board) : Type 0 where
   pub apart : Apart b.round
   pub slots : Each (LawfulLive items b.lines) b.round
@@ -82,13 +88,14 @@ abbrev pub LawfulStreams : ℕ → List Stream → Type 0
 LawfulStreams sent [] = ⊥
 LawfulStreams sent (t ∷ ts) = (sent ≡ t.from + length t.given) × Each (λ u. Follows u.from u.given) (t ∷ ts)
 
+-- a session's board is lawful, no more lines were given than numbered, and each stream has its own without a gap
 pub record LawfulSession (items : List Item) (s : Session) : Type 0 where
   pub board : LawfulBoard items s.board
   pub sent : s.sent ≤ length s.board.lines
   pub streams : LawfulStreams s.sent s.streams
 
--- an item has a definition of 1 to 64 fields with distinct names, among them in kind COMMAND a key and a command, and a
--- history
+-- an item has a shape (as many fields as it may have, and in kind COMMAND a key and a command apart), fields with
+-- distinct names, and a history
 pub record IsSound (i : Item) : Type 0 where
   pub shape : IsShape (shape_of i.definition)
   pub distinct : are_distinct i.definition.fields ≡ true
@@ -111,21 +118,21 @@ AreRead (text ∷ texts) (l ∷ ls) = Says text l × AreRead texts ls
 pub record Decodes (h : List Entry) (v : Live) (all : List (List ℕ)) (ws : List What) : Type 0 where
   pub lines : List WireLine
   pub read : AreRead all lines
-  pub came : HasCome v.sub v.place lines ws
+  pub came : HasCome v.sub v.rank lines ws
   pub schema : came.subscription.fields ≡ length v.wanted.places
-  pub most : length v.wanted.places ≤ 999999999
+  pub most : length v.wanted.places ≤ GREATEST_ORDINAL
   pub keys : KeysOf v.slot.plan.mode h v.wanted v.slot came.subscription.keyed ws
 
 -- a slot's client decodes what the records say came to it
-abbrev pub DecodesLive : List Item → List Line → Live → Type 0
-DecodesLive items lines v = Decodes (history_of items v.item) v (texts lines) (whats (came v.sub v.place lines))
+abbrev pub ClientDecodes : List Item → List Line → Live → Type 0
+ClientDecodes items lines v = Decodes (history_of items v.item) v (texts lines) (whats (came v.sub v.rank lines))
 
 -- of each slot of a session, what the records say came to its client is what the client decodes from the texts of all
 -- numbered lines
-abbrev pub Decoded : List Item → Session → Type 0
-Decoded items s = Each (DecodesLive items s.board.lines) s.board.round
+abbrev pub ClientsDecode : List Item → Session → Type 0
+ClientsDecode items s = Each (ClientDecodes items s.board.lines) s.board.round
 
 -- the headline of a world: what each client decodes from the bytes of its lines is true of the items' histories
 pub record Lawful (w : World) : Type 0 where
   pub records : LawfulRecords w
-  pub clients : Each (Decoded w.items) w.sessions
+  pub clients : Each (ClientsDecode w.items) w.sessions

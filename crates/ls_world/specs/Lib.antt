@@ -1,3 +1,4 @@
+pub mod Cases
 pub mod Came
 pub mod Tables
 pub mod Lines

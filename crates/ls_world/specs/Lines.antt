@@ -5,27 +5,27 @@ use Rattle.ls_value.specs.declared.row.Value.{Value}
 use Rattle.ls_update.specs.Fields.{spelled}
 use Rattle.ls_line.specs.declared.line.Line.{Line as WireLine}
 use Rattle.ls_line.specs.declared.line.Line.TheVariants as line
-use Rattle.ls_line.specs.Lines.{text_of}
+use Rattle.ls_line.specs.Lines.{text_of_line}
+use Rattle.ls_mirror.specs.declared.command.KeyPlaces.{KeyPlaces}
 use Rattle.ls_mirror.specs.Client.{What, Row, Lost, Cleared, End, last_row as last_row_of}
 use Rattle.ls_world.specs.Came.{Came, whats}
-use Rattle.ls_world.specs.Tables.{InSchema}
 
 -- SUBOK with its numbers of items and fields, or SUBCMD where the places of a key and a command stand behind them;
 -- UNSUB; CONF, filtered or not; and a line that tells of an item of a subscription: U, OV, CS or EOS
 pub data Line : Type 0 where
-  Begins : ℕ → ℕ → ℕ → Option InSchema → Line
+  Begins : ℕ → ℕ → ℕ → Option KeyPlaces → Line
   Ends : ℕ → Line
   Configures : ℕ → Bool → Line
   Tells : ℕ → ℕ → Came → Line
 
 -- what came of an item of a subscription since it began, the newest first, as the lines
 abbrev pub came : ℕ → ℕ → List Line → List Came
-came sub place [] = []
-came sub place (Begins s items fields keys ∷ lines) = if s == sub then [] else came sub place lines
-came sub place (Ends s ∷ lines) = if s == sub then [] else came sub place lines
-came sub place (Configures s filtered ∷ lines) = came sub place lines
-came sub place (Tells s p c ∷ lines) =
-    if (s == sub) && (p == place) then c ∷ came sub place lines else came sub place lines
+came sub rank [] = []
+came sub rank (Begins s items fields keys ∷ lines) = if s == sub then [] else came sub rank lines
+came sub rank (Ends s ∷ lines) = if s == sub then [] else came sub rank lines
+came sub rank (Configures s filtered ∷ lines) = came sub rank lines
+came sub rank (Tells s p c ∷ lines) =
+    if (s == sub) && (p == rank) then c ∷ came sub rank lines else came sub rank lines
 
 -- the last row that came
 abbrev pub last_row : List Came → Option (List Value)
@@ -33,17 +33,17 @@ last_row cs = last_row_of (whats cs)
 
 -- the line of the protocol that tells, where the last row was this one: a row is coded against it
 abbrev pub tells_line : Option (List Value) → ℕ → ℕ → What → WireLine
-tells_line prev sub place (Row r) = line.U sub place (spelled prev r)
-tells_line prev sub place (Lost k) = line.Ov sub place k
-tells_line prev sub place Cleared = line.Cs sub place
-tells_line prev sub place End = line.Eos sub place
+tells_line prev sub rank (Row r) = line.U sub rank (spelled prev r)
+tells_line prev sub rank (Lost k) = line.Ov sub rank k
+tells_line prev sub rank Cleared = line.Cs sub rank
+tells_line prev sub rank End = line.Eos sub rank
 
 -- its text
 abbrev pub tells_text : Option (List Value) → ℕ → ℕ → What → List ℕ
-tells_text prev sub place what = text_of (tells_line prev sub place what)
+tells_text prev sub rank what = text_of_line (tells_line prev sub rank what)
 
 -- the line with which a subscription begins; places in it count from 1
-abbrev pub begins_line : ℕ → ℕ → ℕ → Option InSchema → WireLine
+abbrev pub begins_line : ℕ → ℕ → ℕ → Option KeyPlaces → WireLine
 begins_line sub items fields None = line.SubOk sub items fields
 begins_line sub items fields (Some at) = line.SubCmd sub items fields (at.key + 1) (at.command + 1)
 
@@ -53,11 +53,11 @@ wire lines (Begins sub items fields keys) = begins_line sub items fields keys
 wire lines (Ends sub) = line.Unsub sub
 wire lines (Configures sub filtered) =
     line.Conf sub (codes "unlimited") (if filtered then codes "filtered" else codes "unfiltered")
-wire lines (Tells sub place c) = tells_line (last_row (came sub place lines)) sub place c.what
+wire lines (Tells sub rank c) = tells_line (last_row (came sub rank lines)) sub rank c.what
 
 -- the text of a line behind the lines before it
 abbrev pub line_text : List Line → Line → List ℕ
-line_text lines l = text_of (wire lines l)
+line_text lines l = text_of_line (wire lines l)
 
 -- the texts of all lines
 abbrev pub texts : List Line → List (List ℕ)

@@ -5,11 +5,12 @@ use Rattle.std.specs.Str.{IsUtf8}
 use Rattle.ls_value.specs.declared.row.Cell.{Cell}
 use Rattle.ls_value.specs.declared.row.Cell.TheVariants as cell
 use Rattle.ls_event.specs.Shapes.{shape_of, IsShape}
-use Rattle.ls_config.specs.Items.{are_distinct}
-use Rattle.ls_script.specs.declared.step.Step.{Step}
-use Rattle.ls_script.specs.declared.step.Step.TheVariants as step
-use Rattle.ls_script.specs.declared.step.Repeat.{Repeat}
+use Rattle.ls_value.specs.Values.{are_distinct}
+use Rattle.ls_step.specs.declared.step.Step.{Step}
+use Rattle.ls_step.specs.declared.step.Step.TheVariants as step
+use Rattle.ls_step.specs.declared.step.Repeat.{Repeat}
 use Rattle.ls_world.specs.Lawful.{Each}
+use Rattle.ls_value.specs.declared.limits.TheConstants.{GREATEST_ORDINAL}
 
 -- a cell whose text, if it has one, is UTF-8
 abbrev pub IsTextual : Cell → Type 0
@@ -18,11 +19,12 @@ IsTextual cell.Null = Unit {0}
 IsTextual (cell.Text t) = IsUtf8 t
 
 -- a number of a subscription, an item or a field
-pub record IsPlace (n : ℕ) : Type 0 where
+pub record IsOrdinal (n : ℕ) : Type 0 where
   pub some : 1 ≤ n
-  pub most : n ≤ 999999999
+  pub most : n ≤ GREATEST_ORDINAL
 
--- a new item has 1 to 64 fields, among them in kind COMMAND a key and a command apart; an update's texts are UTF-8
+-- a new item has as many fields as it may have, among them in kind COMMAND a key and a command apart; an update's texts
+-- are UTF-8
 abbrev pub StepInRange : Step → Type 0
 StepInRange (step.Set name) = Unit {0}
 StepInRange (step.Item name k fields) = IsShape (shape_of (record { name = name; kind = k; fields = fields }))
@@ -33,7 +35,7 @@ StepInRange (step.Add connection words) = Unit {0}
 StepInRange (step.Request connection name parameters) = Unit {0}
 StepInRange (step.Publish adapter seq item cells) = Each IsTextual cells
 StepInRange (step.Clear adapter seq item) = Unit {0}
-StepInRange (step.Enqueue connection sub place) = Unit {0}
+StepInRange (step.Enqueue connection sub rank) = Unit {0}
 StepInRange (step.Take connection) = Unit {0}
 StepInRange (step.Lose connection) = Unit {0}
 
@@ -48,9 +50,10 @@ HasDistinctFields (step.Add connection words) = Unit {0}
 HasDistinctFields (step.Request connection name parameters) = Unit {0}
 HasDistinctFields (step.Publish adapter seq item cells) = Unit {0}
 HasDistinctFields (step.Clear adapter seq item) = Unit {0}
-HasDistinctFields (step.Enqueue connection sub place) = Unit {0}
+HasDistinctFields (step.Enqueue connection sub rank) = Unit {0}
 HasDistinctFields (step.Take connection) = Unit {0}
 HasDistinctFields (step.Lose connection) = Unit {0}
 
+-- a repeated step keeps to both
 abbrev pub InRange : Repeat → Type 0
 InRange r = StepInRange r.step × HasDistinctFields r.step

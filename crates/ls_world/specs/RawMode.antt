@@ -9,6 +9,7 @@ use Rattle.ls_event.specs.Updates.{updates_between}
 use Rattle.ls_mirror.specs.Client.{What, Row, Lost, Cleared, End}
 use Rattle.ls_world.specs.Came.{Came}
 use Rattle.ls_world.specs.Cutting.{Wanted}
+use Rattle.ls_event.specs.declared.limits.TheConstants.{RAW_KEEPS}
 
 -- what a line says of the updates that it passes over: the own row of the only one, or how many are lost
 abbrev pub RawSays : List ℕ → What → List OwnRow → Type 0
@@ -24,15 +25,16 @@ RowsAt (Lost k) upto gone = Unit {0}
 RowsAt Cleared upto gone = Unit {0}
 RowsAt End upto gone = Unit {0}
 
--- how many updates waited when a line came: at most 256 for a row, and else 256 and those that are lost, at least one
+-- how many updates waited when a line came: at most as many as are kept for a row, and else these and those that are
+-- lost, at least one
 abbrev pub RawWaited : What → ℕ → Type 0
-RawWaited (Row r) waited = waited ≤ 256
-RawWaited (Lost k) waited = (1 ≤ k) × (waited ≡ 256 + k)
+RawWaited (Row r) waited = waited ≤ RAW_KEEPS
+RawWaited (Lost k) waited = (1 ≤ k) × (waited ≡ RAW_KEEPS + k)
 RawWaited Cleared waited = Unit {0}
 RawWaited End waited = Unit {0}
 
--- a line of mode RAW passes over the updates from the place before it up to its number; those from that place up to the
--- last that was enqueued waited
+-- a line of mode RAW passes over the updates from the cursor before it up to its number; those from that cursor up to
+-- the last that was enqueued waited
 pub record IsRawLine (places : List ℕ) (h : List Entry) (c : Came) : Type 0 where
   pub rises : c.before < c.upto
   pub reached : c.upto ≤ c.at
@@ -41,16 +43,17 @@ pub record IsRawLine (places : List ℕ) (h : List Entry) (c : Came) : Type 0 wh
   pub says : RawSays places c.what (updates_between h c.before c.upto)
   pub rows : RowsAt c.what c.upto (updates_between h c.before c.upto)
 
--- the lines lead from the slot's first place to this one, each from that of the line before it
+-- the lines lead from the slot's first cursor to this one, each from that of the line before it
 abbrev pub RawLines : List ℕ → List Entry → ℕ → ℕ → List Came → Type 0
-RawLines places h base place [] = place ≡ base
-RawLines places h base place (c ∷ cs) = (c.upto ≡ place) × IsRawLine places h c × RawLines places h base c.before cs
+RawLines places h base cursor [] = cursor ≡ base
+RawLines places h base cursor (c ∷ cs) = (c.upto ≡ cursor) × IsRawLine places h c × RawLines places h base c.before cs
 
+-- a slot of mode RAW, and what came to its client
 pub record LawfulRaw (h : List Entry) (w : Wanted) (s : Slot) (cs : List Came) : Type 0 where
-  pub begun : s.plan.base ≤ s.place
-  pub behind : s.place ≤ s.last
+  pub begun : s.plan.base ≤ s.cursor
+  pub behind : s.cursor ≤ s.last
   pub within : s.last ≤ length h
-  pub lines : RawLines w.places h s.plan.base s.place cs
+  pub lines : RawLines w.places h s.plan.base s.cursor cs
 
 -- what came, the newest first, accounts for these updates: each is told by its own row or counted among the lost, once
 -- and in order

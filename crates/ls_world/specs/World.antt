@@ -1,6 +1,7 @@
 -- The world: all items with their whole histories, all sessions with all their numbered lines, and the connections
 -- (this project's profile).
-use Rattle.std.specs.Prelude.{◌==◌, ℕ, zero, suc, ◌+◌, List, [], ◌∷◌, ◌++◌, length, map, min, Bool, true, false, ◌&&◌, ◌||◌, Option, None, Some, nat_lt, codes, if◌then◌else◌, option_and_then}
+use Rattle.std.specs.Prelude.{◌==◌, ℕ, zero, suc, ◌+◌, List, [], ◌∷◌, ◌++◌, length, map, min, Bool, true, false, ◌&&◌}
+use Rattle.std.specs.Prelude.{◌||◌, Option, None, Some, nat_lt, codes, if◌then◌else◌, option_and_then}
 use Rattle.std.specs.Option.{option_map_or}
 use Rattle.std.specs.List.{flat_map}
 use Rattle.std.specs.Fmt.{decimal}
@@ -13,11 +14,13 @@ use Rattle.ls_event.specs.Shapes.{Shape, shape_of}
 use Rattle.ls_event.specs.Slots.{Slot, enqueued, is_far}
 use Rattle.ls_event.specs.Joining.{plan_of, joined}
 use Rattle.ls_request.specs.declared.request.LinkKind.{LinkKind}
+use Rattle.ls_mirror.specs.declared.command.KeyPlaces.{KeyPlaces}
+use Rattle.ls_world.specs.Cases.{with_found}
 use Rattle.ls_world.specs.Came.{Came}
 use Rattle.ls_line.specs.declared.line.Line.TheVariants as line
-use Rattle.ls_line.specs.Lines.{text_of}
+use Rattle.ls_line.specs.Lines.{text_of_line}
 use Rattle.ls_world.specs.Lines.{Line, Begins, Configures, Tells, came}
-use Rattle.ls_world.specs.Tables.{InSchema, shown_at}
+use Rattle.ls_world.specs.Tables.{keys_shown_at}
 use Rattle.ls_world.specs.Cutting.{Wanted, Ask, Turn, turn}
 
 -- an item: its definition and its history
@@ -25,11 +28,11 @@ pub record Item : Type 0 where
   pub definition : ItemDef
   pub history : List Entry
 
--- a slot of a session: the subscription, the place of the item in it, the item, the slot's number on the item, and what
+-- a slot of a session: the subscription, the rank of the item in it, the item, the slot's number on the item, and what
 -- the subscription wants
 pub record Live : Type 0 where
   pub sub : ℕ
-  pub place : ℕ
+  pub rank : ℕ
   pub item : ℕ
   pub number : ℕ
   pub wanted : Wanted
@@ -68,10 +71,11 @@ pub record World : Type 0 where
   pub sessions : List Session
   pub connections : List Connection
 
+-- the world before the first step
 abbrev pub empty : World
 empty = record { line = 0; set = codes "DEFAULT"; tick = 0; items = []; sessions = []; connections = [] }
 
--- an item's history, and its shape; past the last there is nothing
+-- an item's history, its shape and its fields; past the last item there is nothing
 abbrev pub history_of : List Item → ℕ → List Entry
 history_of [] n = []
 history_of (i ∷ items) zero = i.history
@@ -82,26 +86,33 @@ shape_at [] n = record { kind = kind.Merge; fields = 0; key = 0; command = 0 }
 shape_at (i ∷ items) zero = shape_of i.definition
 shape_at (i ∷ items) (suc n) = shape_at items n
 
+abbrev pub fields_at : List Item → ℕ → List (List ℕ)
+fields_at [] n = []
+fields_at (i ∷ items) zero = i.definition.fields
+fields_at (i ∷ items) (suc n) = fields_at items n
+
 -- the list with the n-th changed
 abbrev pub change : {A : Type 0} → ℕ → (A → A) → List A → List A
 change n f [] = []
 change zero f (x ∷ xs) = f x ∷ xs
 change (suc n) f (x ∷ xs) = x ∷ change n f xs
 
+-- whether a slot is of this rank in this subscription, and whether it is of the subscription
 abbrev pub is_at : ℕ → ℕ → Live → Bool
-is_at sub place v = (sub == v.sub) && (place == v.place)
+is_at sub rank v = (sub == v.sub) && (rank == v.rank)
 
 abbrev pub is_of : ℕ → Live → Bool
 is_of sub v = sub == v.sub
 
+-- whether a subscription has a slot
 abbrev pub is_used : ℕ → List Live → Bool
 is_used sub [] = false
 is_used sub (v ∷ vs) = is_of sub v || is_used sub vs
 
--- the slot of a place in a subscription
+-- the slot of a rank in a subscription
 abbrev pub live_at : ℕ → ℕ → List Live → Option Live
-live_at sub place [] = None
-live_at sub place (v ∷ vs) = if is_at sub place v then Some v else live_at sub place vs
+live_at sub rank [] = None
+live_at sub rank (v ∷ vs) = if is_at sub rank v then Some v else live_at sub rank vs
 
 -- the slots of all sessions
 abbrev pub all_live : List Session → List Live
@@ -112,21 +123,23 @@ abbrev pub numbers_of : ℕ → List Live → List ℕ
 numbers_of item [] = []
 numbers_of item (v ∷ vs) = if item == v.item then v.number ∷ numbers_of item vs else numbers_of item vs
 
--- those that lag by 64 behind so many events
+-- those that lag by as much as a slot may behind so many events
 abbrev pub far_numbers : ℕ → ℕ → List Live → List ℕ
 far_numbers item events [] = []
 far_numbers item events (v ∷ vs) =
     if (item == v.item) && is_far events v.slot then v.number ∷ far_numbers item events vs
     else far_numbers item events vs
 
+-- the least of them, if there is any
 abbrev pub least_of : List ℕ → Option ℕ
 least_of [] = None
 least_of (n ∷ ns) = Some (option_map_or (min n) (least_of ns) n)
 
--- the least slot on an item that lags by 64
+-- the least slot on an item that lags by as much as one may
 abbrev pub least_far : ℕ → ℕ → List Session → Option ℕ
 least_far item events sessions = least_of (far_numbers item events (all_live sessions))
 
+-- whether a number is among others
 abbrev pub holds : ℕ → List ℕ → Bool
 holds n [] = false
 holds n (m ∷ ms) = (n == m) || holds n ms
@@ -143,13 +156,22 @@ free_number sessions item = let used = numbers_of item (all_live sessions) in le
 -- the slot that joins an item, as is asked
 abbrev pub joined_slot : List Item → Ask → Slot
 joined_slot items a =
-    joined (plan_of (shape_at items a.item) (history_of items a.item) a.mode a.size) (history_of items a.item) a.wanted.snapshot
+    joined (plan_of (shape_at items a.item) (history_of items a.item) a.mode a.size) (history_of items a.item)
+    a.wanted.snapshot
 
--- the slots of a new subscription, from this place on, where an item's next slot gets this number
+-- the slots of a new subscription, from this rank on, where an item's next slot gets this number
 abbrev pub joined_all : List Item → (ℕ → ℕ) → ℕ → ℕ → List Ask → List Live
-joined_all items free sub place [] = []
-joined_all items free sub place (a ∷ asks) =
-    record { sub = sub; place = place; item = a.item; number = free a.item; wanted = a.wanted; slot = joined_slot items a } ∷ joined_all items free sub (place + 1) asks
+joined_all items free sub rank [] = []
+joined_all items free sub rank (a ∷ asks) =
+    record {
+      sub = sub;
+      rank = rank;
+      item = a.item;
+      number = free a.item;
+      wanted = a.wanted;
+      slot = joined_slot items a;
+    }
+    ∷ joined_all items free sub (rank + 1) asks
 
 -- the first of what is asked, if anything is
 abbrev pub first_of : List Ask → Option Ask
@@ -157,20 +179,21 @@ first_of [] = None
 first_of (a ∷ asks) = Some a
 
 -- a schema shows the key and the command in mode COMMAND alone
-abbrev pub keys_in : Mode → InSchema → Option InSchema
+abbrev pub keys_in : Mode → KeyPlaces → Option KeyPlaces
 keys_in mode.Command at = Some at
 keys_in m at = None
 
 -- their places in the schema of a subscription, by what is asked of its first item
-abbrev pub keys_shown : List Item → List Ask → Option InSchema
+abbrev pub keys_shown : List Item → List Ask → Option KeyPlaces
 keys_shown items asks =
-    option_and_then (λ a. keys_in a.mode (shown_at (shape_at items a.item) a.wanted.places)) (first_of asks)
+    option_and_then (λ a. keys_in a.mode (keys_shown_at (shape_at items a.item) a.wanted.places)) (first_of asks)
 
 -- RAW knows no frequency, so it isn't filtered
 abbrev pub is_filtered : Mode → Bool
 is_filtered mode.Raw = false
 is_filtered m = true
 
+-- whether the updates of a subscription are filtered, by what is asked of its first item
 abbrev pub are_filtered : List Ask → Bool
 are_filtered asks = option_map_or (λ a. is_filtered a.mode) (first_of asks) true
 
@@ -186,56 +209,50 @@ added items free sub fields asks b =
 abbrev pub enqueue_slot : List Entry → Live → Live
 enqueue_slot h v = if nat_lt v.slot.last (length h) then record v { slot = enqueued v.slot } else v
 
+-- the slot of a rank in a subscription does, and no other
 abbrev pub enqueue_at : List Item → ℕ → ℕ → Live → Live
-enqueue_at items sub place v = if is_at sub place v then enqueue_slot (history_of items v.item) v else v
+enqueue_at items sub rank v = if is_at sub rank v then enqueue_slot (history_of items v.item) v else v
 
 abbrev pub enqueued_in : List Item → ℕ → ℕ → Board → Board
-enqueued_in items sub place b = record b { round = map (enqueue_at items sub place) b.round }
+enqueued_in items sub rank b = record b { round = map (enqueue_at items sub rank) b.round }
 
 -- the slot of a round that gives a line, and what comes by it
-pub record Told : Type 0 where
+pub record RoundLine : Type 0 where
   pub live : Live
   pub came : Came
 
--- a round that was asked: the first slot that gave a line, and the others in their order
+-- a round that had its turns: the first slot that gave a line, and the others in their order
 pub record Round : Type 0 where
   pub kept : List Live
-  pub told : Option Told
+  pub came : Option RoundLine
 
 -- a slot that isn't due has no turn
-abbrev pub turn_if : Bool → Slot → Turn → Turn
-turn_if true s t = t
-turn_if false s t = record { slot = s; told = None }
-
 abbrev pub live_turn : (Live → Bool) → List Item → List Line → Live → Turn
 live_turn due items lines v =
-    turn_if (due v) v.slot (turn (history_of items v.item) v.wanted v.slot (came v.sub v.place lines))
+    if due v then turn (history_of items v.item) v.wanted v.slot (came v.sub v.rank lines)
+    else record { slot = v.slot; came = None }
 
-abbrev pub met_by : Live → Option Came → List Live → Round → Round
-met_by v (Some c) vs rest = record { kept = vs; told = Some (record { live = v; came = c }) }
-met_by v None vs rest = record rest { kept = v ∷ rest.kept }
+-- the slots of a round have their turns in its order, up to the first line
+abbrev pub round_of : (Live → Bool) → List Item → List Line → List Live → Round
+round_of due items lines [] = record { kept = []; came = None }
+round_of due items lines (v ∷ vs) =
+    let t : Turn = live_turn due items lines v in
+    let rest : Round = round_of due items lines vs in
+    with_found t.came (record rest { kept = record v { slot = t.slot } ∷ rest.kept })
+    (λ c. record { kept = vs; came = Some (record { live = record v { slot = t.slot }; came = c }) })
 
-abbrev pub met : Live → Turn → List Live → Round → Round
-met v t vs rest = met_by (record v { slot = t.slot }) t.told vs rest
-
--- the round is asked in its order, up to the first line
-abbrev pub asked : (Live → Bool) → List Item → List Line → List Live → Round
-asked due items lines [] = record { kept = []; told = None }
-asked due items lines (v ∷ vs) = met v (live_turn due items lines v) vs (asked due items lines vs)
-
--- the line is numbered, and its slot goes to the round's end
-abbrev pub given_by : Board → List Live → Option Told → Board
-given_by b kept None = record b { round = kept }
-given_by b kept (Some t) =
-    record b { lines = Tells t.live.sub t.live.place t.came ∷ b.lines; round = kept ++ t.live ∷ [] }
-
+-- the line that a round gives is numbered, and its slot goes to the round's end
 abbrev pub taken_in : (Live → Bool) → List Item → Board → Board
-taken_in due items b = given_by b (asked due items b.lines b.round).kept (asked due items b.lines b.round).told
+taken_in due items b =
+    let r : Round = round_of due items b.lines b.round in
+    with_found r.came (record b { round = r.kept })
+    (λ t. record b { lines = Tells t.live.sub t.live.rank t.came ∷ b.lines; round = r.kept ++ t.live ∷ [] })
 
 -- a step of the board
 abbrev pub on_board : (Board → Board) → Session → Session
 on_board f s = record s { board = f s.board }
 
+-- a line of this number was given on the newest stream
 abbrev pub noted_in : ℕ → List Stream → List Stream
 noted_in n [] = []
 noted_in n (t ∷ ts) = record t { given = n ∷ t.given } ∷ ts
@@ -252,10 +269,15 @@ given_next s = if is_unsent s then record s { sent = s.sent + 1; streams = noted
 -- server's name; the bandwidth (TLCP 2.1, CONOK, SERVNAME, CONS)
 abbrev pub opening_lines : ℕ → ℕ → List (List ℕ)
 opening_lines number keepalive =
-    text_of (line.ConOk (codes "S" ++ decimal number) keepalive) ∷ text_of line.ServName
-    ∷ text_of (line.Cons (codes "unlimited")) ∷ []
+    text_of_line (line.ConOk (codes "S" ++ decimal number) keepalive) ∷ text_of_line line.ServName
+    ∷ text_of_line (line.Cons (codes "unlimited")) ∷ []
 
 -- a session that begins, by its number from 1 and its keep-alive
 abbrev pub opened : ℕ → ℕ → Session
 opened number keepalive =
-    record { board = record { lines = []; round = [] }; sent = 0; owed = opening_lines number keepalive; streams = record { from = 0; given = [] } ∷ [] }
+    record {
+      board = record { lines = []; round = [] };
+      sent = 0;
+      owed = opening_lines number keepalive;
+      streams = record { from = 0; given = [] } ∷ [];
+    }

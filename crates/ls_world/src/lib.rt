@@ -1,6 +1,32 @@
-//! What is meant: the world of all items and all sessions, its steps, what a script prints, and when a world is lawful.
-//! What follows of these definitions is in `ls_laws`. The proofs here are the lemmas that the engine's crates need too.
+//! What is meant, and nothing that runs: the definitions in `specs/`, of which the engine's contracts speak.
+//!
+//! `World` is all items with their histories, all sessions with all their lines, and the connections. It begins as
+//! `empty`. `does` is the world after a step, and what the step prints; `step` does a script's line, and `output_of` is
+//! what a whole script prints. `add_code` and `create_code` say why a request is refused, `is_built` which steps are
+//! built yet, `wire` which line of the protocol a numbered line is. `Lawful` says when a world is lawful: what each
+//! client decodes from the bytes of its lines are states that its item had, and it never goes back.
+//!
+//! A contract of the engine begins with each world that its state stands for, and ends with the world after the step:
+//!
+//! ```text
+//! ensures { (w : World) → StandsHub self.old w → DidHub (requests w connection name params) outs.items self.new }
+//! ```
+//!
+//! What follows of the definitions is in `ls_laws`. The proofs here are the lemmas that the engine's crates need too.
+//! Of Rust there are only limits, and why a line of a script isn't done.
 #![tactic(auto)]
+
+/// How many items a group names at most.
+pub const MOST_GROUP_ITEMS: usize = 64;
+
+/// How many subscriptions a session has at most.
+pub const MOST_SUBSCRIPTIONS: usize = 256;
+
+/// How many sessions there are at most.
+pub const MOST_SESSIONS: usize = 1024;
+
+/// How many numbered lines may wait to be given on a session's stream.
+pub const MOST_UNSENT: usize = 512;
 
 /// Why a line of a script isn't done.
 #[derive(Clone, Copy, Debug, PartialEq, Eq)]

@@ -1,24 +1,23 @@
 -- A line of the engine is that of the world.
-use Rattle.std.proofs.Common.{◌≡◌, ℕ, ◌+◌, List, [], refl, sym, ◌∙◌, ap, subst, cond, Bool, true, false, Some, None, Result, Ok, Err}
-use Rattle.ls_script.specs.declared.out.Out.{Out}
-use Rattle.ls_script.specs.declared.step.Step.{Step}
-use Rattle.ls_script.specs.declared.step.Step.TheVariants as step
-use Rattle.ls_script.specs.declared.step.Repeat.{Repeat}
-use Rattle.ls_script.specs.Grammar.{Known, known_after, is_skipped, line_of}
-use Rattle.ls_script.specs.Ranges.{Fits}
+use Rattle.std.proofs.Common.{◌≡◌, ℕ, ◌+◌, List, [], append-nil, sym, ◌∙◌, ap, subst, cond, Bool, true, false, Some, None, Result, Ok, Err}
+use Rattle.ls_step.specs.declared.step.Step.{Step}
+use Rattle.ls_step.specs.declared.step.Step.TheVariants as step
+use Rattle.ls_step.specs.declared.step.Repeat.{Repeat}
+use Rattle.ls_step.specs.Grammar.{Known, known_after, is_skipped, line_of}
+use Rattle.ls_step.specs.Ranges.{Fits}
 use Rattle.ls_world.specs.declared.Refused.{Refused}
 use Rattle.ls_world.specs.declared.Refused.TheVariants.{BadScript, NotBuilt}
 use Rattle.ls_world.specs.World.{World}
 use Rattle.ls_world.specs.Steps.{Stepped, stays, does}
 use Rattle.ls_world.specs.Built.{is_built}
-use Rattle.ls_world.specs.Script.{known_of, counted, step as one_step, text_of_outs, asked_by}
+use Rattle.ls_world.specs.Script.{known_of, counted, step as one_step, stepped_by}
 use Rattle.ls_world.proofs.Knowing.{known_does, does_counts}
-use Rattle.ls_hub.specs.Hub.{StandsHub, DidHub, HasAdapter}
+use Rattle.ls_hub.specs.Hub.{StandsHub, Prints, HasAdapter}
 use Rattle.tlcpd.specs.Engine.{StandsEngine, Steps}
 use Rattle.ls_hub.specs.declared.hub.Hub.{Hub}
 use Rattle.tlcpd.specs.declared.engine.Engine.{Engine}
 
--- an event of a step that fits has an adapter of at most 64
+-- an event of a step that fits has an adapter within its range
 pub has_adapter : (k : Known) (s : Step) → Fits k s → HasAdapter s
 has_adapter k (step.Set name) f = tt
 has_adapter k (step.Item name kind fields) f = tt
@@ -29,32 +28,38 @@ has_adapter k (step.Add connection words) f = tt
 has_adapter k (step.Request connection name parameters) f = tt
 has_adapter k (step.Publish adapter seq item cells) f = f.published.most
 has_adapter k (step.Clear adapter seq item) f = f.most
-has_adapter k (step.Enqueue connection sub place) f = tt
+has_adapter k (step.Enqueue connection sub rank) f = tt
 has_adapter k (step.Take connection) f = tt
 has_adapter k (step.Lose connection) f = tt
 
 counted_hub : (h : Hub) (w : World) → StandsHub h w → StandsHub h (counted w)
 counted_hub h w st = record { set = st.set; connections = st.connections; parts = record { all = st.parts.all; leads = st.parts.leads } }
 
-read_is : (k : Known) (w : World) (line : List ℕ) (r : Repeat) → k ≡ known_of w → is_skipped line ≡ false → line_of k line ≡ Some r → one_step w line ≡ asked_by (counted w) (Some r)
+read_is : (k : Known) (w : World) (line : List ℕ) (r : Repeat) → k ≡ known_of w → is_skipped line ≡ false → line_of k line ≡ Some r
+    → one_step w line ≡ stepped_by (counted w) (Some r)
 read_is k w line r known skips is =
-    ap (λ b. cond b (Ok (stays (counted w) [])) (asked_by (counted w) (line_of (known_of w) line))) skips
-    ∙ ap (λ q. asked_by (counted w) (line_of q line)) (sym known) ∙ ap (asked_by (counted w)) is
+    ap (λ b. cond b (Ok (stays (counted w) [])) (stepped_by (counted w) (line_of (known_of w) line))) skips
+    ∙ ap (λ q. stepped_by (counted w) (line_of q line)) (sym known) ∙ ap (stepped_by (counted w)) is
 
-pub line_skipped : (e : Engine) (w : World) (line : List ℕ) → is_skipped line ≡ true → StandsEngine e w → Steps (one_step w line) [] (record e { line = e.line + 1 })
-line_skipped e w line skips st =
-    subst (λ (b : Bool). Steps (cond b (Ok (stays (counted w) [])) (asked_by (counted w) (line_of (known_of w) line))) [] (record e { line = e.line + 1 })) (sym skips)
-    (refl, record { line = ap (λ n. n + 1) st.line; known = st.known; hub = counted_hub e.hub w st.hub })
+pub line_skipped : (e : Engine) (w : World) (line text : List ℕ) → is_skipped line ≡ true → StandsEngine e w
+    → Steps (one_step w line) text text (record e { line = e.line + 1 })
+line_skipped e w line text skips st =
+    let read : Result Stepped Refused = stepped_by (counted w) (line_of (known_of w) line) in
+    subst (λ (b : Bool). Steps (cond b (Ok (stays (counted w) [])) read) text text (record e { line = e.line + 1 })) (sym skips)
+    (sym (append-nil text), record { line = ap (λ n. n + 1) st.line; known = st.known; hub = counted_hub e.hub w st.hub })
 
-pub line_did : (e e' : Engine) (w : World) (line : List ℕ) (s : Step) (times : ℕ) (text : List ℕ) (outs : List Out) → is_skipped line ≡ false → line_of e.script line ≡ Some (record { step = s; times = times })
-    → e'.line ≡ e.line + 1 → e'.script ≡ known_after e.script s → text ≡ text_of_outs outs
-    → ((v : World) → StandsHub e.hub v → e.line + 1 ≡ v.line → (is_built v s ≡ true) × DidHub (does v s times) outs e'.hub) → StandsEngine e w → Steps (one_step w line) text e'
-line_did e e' w line s times text outs skips is number known says did st =
-    let d : (is_built (counted w) s ≡ true) × DidHub (does (counted w) s times) outs e'.hub = did (counted w) (counted_hub e.hub w st.hub) (ap (λ n. n + 1) st.line) in
+pub line_did : (e e' : Engine) (w : World) (line : List ℕ) (s : Step) (times : ℕ) (text text' : List ℕ)
+    → is_skipped line ≡ false → line_of e.script line ≡ Some (record { step = s; times = times })
+    → e'.line ≡ e.line + 1 → e'.script ≡ known_after e.script s
+    → ((v : World) → StandsHub e.hub v → e.line + 1 ≡ v.line → (is_built v s ≡ true) × Prints (does v s times) text text' e'.hub)
+    → StandsEngine e w → Steps (one_step w line) text text' e'
+line_did e e' w line s times text text' skips is number known did st =
+    let d : (is_built (counted w) s ≡ true) × Prints (does (counted w) s times) text text' e'.hub =
+    did (counted w) (counted_hub e.hub w st.hub) (ap (λ n. n + 1) st.line) in
     let made : one_step w line ≡ Ok (does (counted w) s times) =
     read_is e.script w line (record { step = s; times = times }) st.known skips is ∙ ap (λ b. cond b (Ok (does (counted w) s times)) (Err NotBuilt)) d.0 in
-    subst (λ (r : Result Stepped Refused). Steps r text e') (sym made) (
-      says ∙ ap text_of_outs d.1.prints,
+    subst (λ (r : Result Stepped Refused). Steps r text text' e') (sym made) (
+      d.1.text,
       record {
         line = number ∙ ap (λ n. n + 1) st.line ∙ sym (does_counts (counted w) s times);
         known = known ∙ ap (λ k. known_after k s) st.known ∙ sym (known_does (counted w) s times);
@@ -62,13 +67,15 @@ line_did e e' w line s times text outs skips is number known says did st =
       },
     )
 
-pub line_unbuilt : (e : Engine) (w : World) (line : List ℕ) (s : Step) (times : ℕ) → is_skipped line ≡ false → line_of e.script line ≡ Some (record { step = s; times = times })
+pub line_unbuilt : (e : Engine) (w : World) (line : List ℕ) (s : Step) (times : ℕ) → is_skipped line ≡ false
+    → line_of e.script line ≡ Some (record { step = s; times = times })
     → ((v : World) → StandsHub e.hub v → e.line + 1 ≡ v.line → is_built v s ≡ false) → StandsEngine e w → one_step w line ≡ Err NotBuilt
 line_unbuilt e w line s times skips is none st =
     read_is e.script w line (record { step = s; times = times }) st.known skips is
     ∙ ap (λ b. cond b (Ok (does (counted w) s times)) (Err NotBuilt)) (none (counted w) (counted_hub e.hub w st.hub) (ap (λ n. n + 1) st.line))
 
-pub line_bad : (e : Engine) (w : World) (line : List ℕ) → is_skipped line ≡ false → line_of e.script line ≡ None → StandsEngine e w → one_step w line ≡ Err BadScript
+pub line_bad : (e : Engine) (w : World) (line : List ℕ) → is_skipped line ≡ false → line_of e.script line ≡ None → StandsEngine e w
+    → one_step w line ≡ Err BadScript
 line_bad e w line skips is st =
-    ap (λ b. cond b (Ok (stays (counted w) [])) (asked_by (counted w) (line_of (known_of w) line))) skips
-    ∙ ap (λ q. asked_by (counted w) (line_of q line)) (sym st.known) ∙ ap (asked_by (counted w)) is
+    ap (λ b. cond b (Ok (stays (counted w) [])) (stepped_by (counted w) (line_of (known_of w) line))) skips
+    ∙ ap (λ q. stepped_by (counted w) (line_of q line)) (sym st.known) ∙ ap (stepped_by (counted w)) is

@@ -1,159 +1,301 @@
 -- What feeding a line, and then more lines, does.
-use Rattle.std.proofs.Common.{◌≡◌, ℕ, ◌+◌, ◌<◌, List, [], ◌∷◌, ◌++◌, length, take, drop, refl, sym, ◌∙◌, ap, arith, append_assoc, append-nil, Option, Some, None, subst, length-append, get_or, ◌-◌, ◌⊎◌, ⊎_elim}
+use Rattle.std.proofs.Common.{◌≡◌, ℕ, ◌+◌, ◌<◌, ◌-◌, List, [], ◌∷◌, ◌++◌, length, take, drop, get_or, arith}
+use Rattle.std.proofs.Common.{refl, sym, ◌∙◌, ap, subst, append_assoc, append-nil, length-append, ◌⊎◌, ⊎_elim, inl, inr}
 use Rattle.std.proofs.lemmas.List.{take-append-drop}
-use Rattle.std.specs.Prelude.{Result, Ok, Err}
+use Rattle.std.specs.Prelude.{Option, Some, None, Result, Ok, Err}
 use Rattle.std.specs.Io.KnownBytes.{Appends}
 use Rattle.ls_outside.proofs.Bytes.{appends_on}
 use Rattle.ls_world.specs.declared.Refused.{Refused}
 use Rattle.ls_world.specs.World.{World}
 use Rattle.ls_world.specs.Steps.{Stepped}
-use Rattle.ls_world.specs.Script.{step, whole_from, rest_from, text_of, text_of_outs, world_of, done, first_refused, IsPrefix, last_line}
+use Rattle.ls_world.specs.Script.{step, whole_from, rest_from, output_of, text_of_outs, world_of, done}
+use Rattle.ls_world.specs.Script.{IsPrefix, last_line}
 use Rattle.tlcpd.specs.declared.engine.Engine.{Engine}
-use Rattle.tlcpd.specs.Engine.{StandsEngine, Steps}
-use Rattle.tlcpd.specs.Replay.{Midway, midway_after, line_after, kept_after, Met, Feeds, Puts, Holding, StandsFor, EndsNoLine}
+use Rattle.tlcpd.specs.Engine.{StandsEngine, Steps, Refuses}
+use Rattle.tlcpd.specs.Replay.{Progress, progress_after, line_after, rest_after, Kept, kept_with, StandsWithin, StandsFor}
+use Rattle.tlcpd.specs.Replay.{Meets, Feeds, Holds, Writes, EndsNoLine}
 use Rattle.tlcpd.specs.declared.replay.Fed.{Fed}
 use Rattle.tlcpd.specs.declared.replay.Fed.TheVariants as fed
-use Rattle.tlcpd.proofs.ScriptLines.{GoesOn, goes_on, Stops, stops, text_begins, whole_from-append, rest_from-append}
-use Rattle.tlcpd.proofs.PieceLines.{whole_from-line, whole_from-kept, midway_line, midway_kept, next_front}
+use Rattle.tlcpd.proofs.ScriptLines.{GoesOn, goes_on, Stops, stops, text_begins, lines_counted}
+use Rattle.tlcpd.proofs.ScriptLines.{whole_from-append, rest_from-append}
+use Rattle.tlcpd.proofs.PieceLines.{whole_from-line, whole_from-kept, progress_line, progress_rest, next_front}
 
 -- nothing is written
 pub nothing : (held : Option (List ℕ)) → Appends held held []
 nothing None = tt
 nothing (Some h) = sym (append-nil h)
 
-fed_step : (m : Midway) (line : List ℕ) (s : Stepped) (a : Fed) (held held' : Option (List ℕ)) → step m.world line ≡ Ok s → Puts a held held' (text_of_outs s.outs) → Feeds a m (line ∷ []) held held'
-fed_step m line s fed.All held held' is p = record { written = text_of_outs s.outs; appends = p; met = (rw is refl, rw is (sym (append-nil (text_of_outs s.outs)))) }
-fed_step m line s fed.WriteFault held held' is p =
-    record { written = take p.0 (text_of_outs s.outs); appends = p.1; met = (drop p.0 (text_of_outs s.outs), rw is (append-nil (text_of_outs s.outs) ∙ sym (take-append-drop p.0 (text_of_outs s.outs)))) }
-fed_step m line s (fed.Stopped refused number) held held' is p = absurd p
-fed_step m line s fed.NoMemory held held' is p = absurd p
-
--- a line that is done, and what became of its text
-pub fed_line : (m : Midway) (line : List ℕ) (a : Fed) (text : List ℕ) (e : Engine) (held held' : Option (List ℕ)) → Steps (step m.world line) text e → Puts a held held' text → Feeds a m (line ∷ []) held held'
-fed_line m line a text e held held' steps p = by_step (step m.world line) refl steps
+-- a line that is done, whose text is behind what was held back
+pub line_held : (w : World) (line text u u' : List ℕ) (e : Engine) → Steps (step w line) [] text e → u' ≡ u ++ text
+    → Holds fed.All w (line ∷ []) u u'
+line_held w line text u u' e steps is = by_step (step w line) refl steps
   where
-    by_step : (r : Result Stepped Refused) → step m.world line ≡ r → Steps r text e → Feeds a m (line ∷ []) held held'
-    by_step (Err c) is x = absurd x
-    by_step (Ok s) is x = fed_step m line s a held held' is (subst (λ (t : List ℕ). Puts a held held' t) x.0 p)
+    by_step : (r : Result Stepped Refused) → step w line ≡ r → Steps r [] text e → Holds fed.All w (line ∷ []) u u'
+    by_step (Err c) made x = absurd x
+    by_step (Ok s) made x =
+        record { text = text; behind = is; met = (rw made refl, rw made (x.0 ∙ sym (append-nil (text_of_outs s.outs)))) }
 
 -- the engine behind a line that is done
-pub stands_line : (w : World) (line : List ℕ) (text : List ℕ) (e : Engine) → Steps (step w line) text e → StandsEngine e (world_of w (line ∷ []))
-stands_line w line text e steps = by_step (step w line) refl steps
+pub line_engine : (w : World) (line text : List ℕ) (e : Engine) → Steps (step w line) [] text e
+    → StandsEngine e (world_of w (line ∷ []))
+line_engine w line text e steps = by_step (step w line) refl steps
   where
-    by_step : (r : Result Stepped Refused) → step w line ≡ r → Steps r text e → StandsEngine e (world_of w (line ∷ []))
-    by_step (Err c) is x = absurd x
-    by_step (Ok s) is x = rw is x.1
+    by_step : (r : Result Stepped Refused) → step w line ≡ r → Steps r [] text e
+        → StandsEngine e (world_of w (line ∷ []))
+    by_step (Err c) made x = absurd x
+    by_step (Ok s) made x = rw made x.1
 
 -- a line that is refused
-pub fed_refused : (m : Midway) (line : List ℕ) (refused : Refused) (number : ℕ) (held : Option (List ℕ)) → step m.world line ≡ Err refused → number ≡ m.count + 1 → Feeds (fed.Stopped refused number) m (line ∷ []) held held
-fed_refused m line refused number held is at =
-    record { written = []; appends = nothing held; met = (rw is (at ∙ omega arith), rw is (omega arith), rw is refl, rw is refl) }
+pub line_refused : (w : World) (line u u' : List ℕ) (refused : Refused) (number : ℕ) (e : Engine)
+    → Refuses w line refused e → number ≡ e.line → u' ≡ u → Holds (fed.Stopped refused number) w (line ∷ []) u u'
+line_refused w line u u' refused number e is same kept =
+    let made : step w line ≡ Err refused = is.0 in
+    record {
+      text = [];
+      behind = kept ∙ sym (append-nil u);
+      met = (rw made (same ∙ is.1 ∙ omega arith), rw made (omega arith), rw made refl, rw made refl);
+    }
 
--- want of memory before a byte is written
-pub fed_short : (m : Midway) (lines : List (List ℕ)) (held : Option (List ℕ)) → Feeds fed.NoMemory m lines held held
-fed_short m lines held = record { written = []; appends = nothing held; met = (text_of m.world lines, refl) }
+-- want of memory: no more is held back
+pub held_short : (w : World) (lines : List (List ℕ)) (u u' : List ℕ) → u' ≡ u → Holds fed.NoMemory w lines u u'
+held_short w lines u u' kept =
+    record { text = []; behind = kept ∙ sym (append-nil u); met = (output_of w lines, refl) }
 
 prefix_in : (part mid all : List ℕ) → IsPrefix part mid → IsPrefix mid all → IsPrefix part all
-prefix_in part mid all p q = (p.0 ++ q.0, q.1 ∙ ap (λ t. t ++ q.0) p.1 ∙ append_assoc part p.0 q.0)
+prefix_in part mid all x y = (x.0 ++ y.0, y.1 ∙ ap (λ t. t ++ y.0) x.1 ∙ append_assoc part x.0 y.0)
 
 prefix_behind : (front part all : List ℕ) → IsPrefix part all → IsPrefix (front ++ part) (front ++ all)
-prefix_behind front part all p = (p.0, ap (λ t. front ++ t) p.1 ∙ sym (append_assoc front part p.0))
+prefix_behind front part all x = (x.0, ap (λ t. front ++ t) x.1 ∙ sym (append_assoc front part x.0))
 
 -- each of the first lines is done, and then come more
-pub met_on : (a : Fed) (m n : Midway) (xs ys : List (List ℕ)) (v w : List ℕ) → done m.world xs ≡ length xs → n.world ≡ world_of m.world xs → n.count ≡ m.count + length xs → v ≡ text_of m.world xs → Met a n ys w → Met a m (xs ++ ys) (v ++ w)
-met_on fed.All m n xs ys v w all is count text met =
-    let g : GoesOn m.world xs ys = goes_on m.world xs ys all in
-    let first : done n.world ys ≡ length ys = met.0 in
-    let second : w ≡ text_of n.world ys = met.1 in
-    let first' : done (world_of m.world xs) ys ≡ length ys = rw is at first in
-    let second' : w ≡ text_of (world_of m.world xs) ys = rw is at second in
-    (omega (arith, g.count, first', length-append xs ys), rw (text, second') (sym g.text))
-met_on (fed.Stopped refused line) m n xs ys v w all is count text met =
-    let g : GoesOn m.world xs ys = goes_on m.world xs ys all in
-    let number : line ≡ n.count + done (world_of m.world xs) ys + 1 = rw is at met.0 in
-    let bad : done (world_of m.world xs) ys < length ys = rw is at met.1 in
-    let cause : first_refused (world_of m.world xs) ys ≡ Some refused = rw is at met.2 in
-    let printed : w ≡ text_of (world_of m.world xs) ys = rw is at met.3 in
-    (omega (arith, g.count, number, count), omega (arith, g.count, bad, length-append xs ys), g.cause ∙ cause, rw (text, printed) (sym g.text))
-met_on fed.WriteFault m n xs ys v w all is count text met =
-    let g : GoesOn m.world xs ys = goes_on m.world xs ys all in
-    let part : IsPrefix w (text_of (world_of m.world xs) ys) = rw is at met in
-    rw (text, g.text) (prefix_behind (text_of m.world xs) w (text_of (world_of m.world xs) ys) part)
-met_on fed.NoMemory m n xs ys v w all is count text met =
-    let g : GoesOn m.world xs ys = goes_on m.world xs ys all in
-    let part : IsPrefix w (text_of (world_of m.world xs) ys) = rw is at met in
-    rw (text, g.text) (prefix_behind (text_of m.world xs) w (text_of (world_of m.world xs) ys) part)
+pub met_on : (a : Fed) (w : World) (xs ys : List (List ℕ)) (s t : List ℕ) → Meets fed.All w xs s
+    → Meets a (world_of w xs) ys t → Meets a w (xs ++ ys) (s ++ t)
+met_on fed.All w xs ys s t first met =
+    let g : GoesOn w xs ys = goes_on w xs ys first.0 in
+    (omega (arith, g.count, met.0, length-append xs ys), rw (first.1, met.1) (sym g.text))
+met_on (fed.Stopped refused number) w xs ys s t first met =
+    let g : GoesOn w xs ys = goes_on w xs ys first.0 in (
+      omega (arith, g.count, met.0, lines_counted w xs first.0),
+      omega (arith, g.count, met.1, length-append xs ys),
+      g.cause ∙ met.2,
+      rw (first.1, met.3) (sym g.text),
+    )
+met_on fed.WriteFault w xs ys s t first met =
+    let g : GoesOn w xs ys = goes_on w xs ys first.0 in
+    rw (first.1, g.text) (prefix_behind (output_of w xs) t (output_of (world_of w xs) ys) met)
+met_on fed.NoMemory w xs ys s t first met =
+    let g : GoesOn w xs ys = goes_on w xs ys first.0 in
+    rw (first.1, g.text) (prefix_behind (output_of w xs) t (output_of (world_of w xs) ys) met)
 
 -- pieces one after another
-pub fed_on : (a : Fed) (m : Midway) (xs ys : List ℕ) (h i j : Option (List ℕ)) → Feeds fed.All m (whole_from m.carry xs) h i → Feeds a (midway_after m xs) (whole_from (rest_from m.carry xs) ys) i j → Feeds a m (whole_from m.carry (xs ++ ys)) h j
-fed_on a m xs ys h i j f g =
+pub fed_on : (a : Fed) (p : Progress) (xs ys : List ℕ) (h i j : Option (List ℕ)) (u : List ℕ)
+    → Feeds fed.All p.world (whole_from p.carry xs) h i []
+    → Feeds a (progress_after p xs).world (whole_from (progress_after p xs).carry ys) i j u
+    → Feeds a p.world (whole_from p.carry (xs ++ ys)) h j u
+fed_on a p xs ys h i j u f g =
+    let first : Meets fed.All p.world (whole_from p.carry xs) f.written =
+    subst (λ (t : List ℕ). Meets fed.All p.world (whole_from p.carry xs) t) (append-nil f.written) f.met in
+    let text : List ℕ = f.written ++ (g.written ++ u) in
+    let met : Meets a p.world (whole_from p.carry xs ++ whole_from (rest_from p.carry xs) ys) text =
+    met_on a p.world (whole_from p.carry xs) (whole_from (rest_from p.carry xs) ys) f.written (g.written ++ u) first g.met in
     record {
       written = f.written ++ g.written;
       appends = appends_on h i j f.written g.written f.appends g.appends;
-      met = rw whole_from-append (met_on a m (midway_after m xs) (whole_from m.carry xs) (whole_from (rest_from m.carry xs) ys) f.written g.written f.met.0 refl refl f.met.1 g.met);
+      met = rw (whole_from-append, append_assoc) met;
     }
 
-pub midway_on : (m : Midway) (xs ys : List ℕ) → done m.world (whole_from m.carry xs) ≡ length (whole_from m.carry xs) → midway_after (midway_after m xs) ys ≡ midway_after m (xs ++ ys)
-midway_on m xs ys all =
-    let g : GoesOn m.world (whole_from m.carry xs) (whole_from (rest_from m.carry xs) ys) = goes_on m.world (whole_from m.carry xs) (whole_from (rest_from m.carry xs) ys) all in
-    rw (whole_from-append, rest_from-append, length-append, g.world) (ap (λ n. record { world = world_of (world_of m.world (whole_from m.carry xs)) (whole_from (rest_from m.carry xs) ys); carry = rest_from (rest_from m.carry xs) ys; count = n }) (omega arith))
-
--- a call stopped, so what comes behind doesn't count
-met_stopped : (a : Fed) (m : Midway) (xs ys : List (List ℕ)) (w : List ℕ) → (a ≡ fed.All → ⊥) → Met a m xs w → Met a m (xs ++ ys) w
-met_stopped fed.All m xs ys w stopped met = absurd (stopped refl)
-met_stopped (fed.Stopped refused line) m xs ys w stopped met =
-    let s : Stops m.world xs ys = stops m.world xs ys met.1 in
-    (rw s.count met.0, omega (arith, s.count, met.1, length-append xs ys), s.cause ∙ met.2, (rw s.text met.3))
-met_stopped fed.WriteFault m xs ys w stopped met = prefix_in w (text_of m.world xs) (text_of m.world (xs ++ ys)) met (text_begins m.world xs ys)
-met_stopped fed.NoMemory m xs ys w stopped met = prefix_in w (text_of m.world xs) (text_of m.world (xs ++ ys)) met (text_begins m.world xs ys)
-
-pub fed_stopped : (a : Fed) (m : Midway) (xs ys : List ℕ) (h i : Option (List ℕ)) → (a ≡ fed.All → ⊥) → Feeds a m (whole_from m.carry xs) h i → Feeds a m (whole_from m.carry (xs ++ ys)) h i
-fed_stopped a m xs ys h i stopped f =
+-- a line is done, or isn't, and wrote nothing
+pub held_on : (a : Fed) (w : World) (xs ys : List (List ℕ)) (h i : Option (List ℕ)) (u u' : List ℕ)
+    → Feeds fed.All w xs h i u → Holds a (world_of w xs) ys u u' → Feeds a w (xs ++ ys) h i u'
+held_on a w xs ys h i u u' f g =
+    let same : (f.written ++ u) ++ g.text ≡ f.written ++ u' =
+    append_assoc f.written u g.text ∙ ap (λ t. f.written ++ t) (sym g.behind) in
     record {
       written = f.written;
       appends = f.appends;
-      met = rw whole_from-append (met_stopped a m (whole_from m.carry xs) (whole_from (rest_from m.carry xs) ys) f.written stopped f.met);
+      met = subst (λ (t : List ℕ). Meets a w (xs ++ ys) t) same (met_on a w xs ys (f.written ++ u) g.text f.met g.met);
     }
 
+-- each text is a front part of what the lines print
+met_prefix : (a : Fed) (w : World) (lines : List (List ℕ)) (text : List ℕ) → Meets a w lines text
+    → IsPrefix text (output_of w lines)
+met_prefix fed.All w lines text met = ([], sym met.1 ∙ sym (append-nil text))
+met_prefix (fed.Stopped refused number) w lines text met = ([], sym met.3 ∙ sym (append-nil text))
+met_prefix fed.WriteFault w lines text met = met
+met_prefix fed.NoMemory w lines text met = met
+
+-- what was held back is written
+pub written_on : (a before : Fed) (w : World) (lines : List (List ℕ)) (h i j : Option (List ℕ)) (u u' : List ℕ)
+    → Feeds before w lines h i u → Writes a before i j u u' → Feeds a w lines h j u'
+written_on a before w lines h i j u u' f g =
+    let text : List ℕ = f.written ++ g.written in
+    let same : f.written ++ u ≡ text ++ g.rest =
+    ap (λ t. f.written ++ t) g.parts ∙ sym (append_assoc f.written g.written g.rest) in
+    let met : Meets before w lines (text ++ g.rest) = subst (λ (t : List ℕ). Meets before w lines t) same f.met in
+    let part : IsPrefix (text ++ g.rest) (output_of w lines) = met_prefix before w lines (text ++ g.rest) met in
+    let front : IsPrefix text (output_of w lines) =
+    prefix_in text (text ++ g.rest) (output_of w lines) (g.rest, refl) part in
+    record {
+      written = text;
+      appends = appends_on h i j f.written g.written f.appends g.appends;
+      met = ⊎_elim
+          (λ e. subst (λ (b : Fed). Meets b w lines (text ++ u')) (sym e.0)
+          (subst (λ (t : List ℕ). Meets before w lines (text ++ t)) (sym e.1) met))
+          (λ e. subst (λ (b : Fed). Meets b w lines (text ++ u')) (sym e.0)
+          (subst (λ (t : List ℕ). IsPrefix t (output_of w lines))
+          (sym (append-nil text) ∙ ap (λ t. text ++ t) (sym e.1)) front))
+          g.ends;
+    }
+
+pub progress_on : (p : Progress) (xs ys : List ℕ) → done p.world (whole_from p.carry xs) ≡ length (whole_from p.carry xs)
+    → progress_after (progress_after p xs) ys ≡ progress_after p (xs ++ ys)
+progress_on p xs ys all =
+    let ls : List (List ℕ) = whole_from (rest_from p.carry xs) ys in
+    let g : GoesOn p.world (whole_from p.carry xs) ls = goes_on p.world (whole_from p.carry xs) ls all in
+    rw (whole_from-append, rest_from-append, g.world) refl
+
+-- a call stopped, so what comes behind doesn't count
+met_stopped : (a : Fed) (w : World) (xs ys : List (List ℕ)) (t : List ℕ) → (a ≡ fed.All → ⊥) → Meets a w xs t
+    → Meets a w (xs ++ ys) t
+met_stopped fed.All w xs ys t stopped met = absurd (stopped refl)
+met_stopped (fed.Stopped refused number) w xs ys t stopped met =
+    let s : Stops w xs ys = stops w xs ys met.1 in
+    (rw s.count met.0, omega (arith, s.count, met.1, length-append xs ys), s.cause ∙ met.2, (rw s.text met.3))
+met_stopped fed.WriteFault w xs ys t stopped met =
+    prefix_in t (output_of w xs) (output_of w (xs ++ ys)) met (text_begins w xs ys)
+met_stopped fed.NoMemory w xs ys t stopped met =
+    prefix_in t (output_of w xs) (output_of w (xs ++ ys)) met (text_begins w xs ys)
+
+-- the lines of a piece from its front, a line, and the bytes behind it
+abbrev pub next_bytes : List ℕ → List ℕ → List ℕ
+next_bytes front line = front ++ (line ++ 10 ∷ [])
+
 -- one more line of a piece
-pub line_fed : (a : Fed) (m : Midway) (front xs : List ℕ) (h j k : Option (List ℕ)) → EndsNoLine xs → Feeds fed.All m (whole_from m.carry front) h j → Feeds a (midway_after m front) ((rest_from m.carry front ++ xs) ∷ []) j k → Feeds a m (whole_from m.carry (front ++ (xs ++ 10 ∷ []))) h k
-line_fed a m front xs h j k plain f g =
-    fed_on a m front (xs ++ 10 ∷ []) h j k f (subst (λ (ls : List (List ℕ)). Feeds a (midway_after m front) ls j k) (sym (whole_from-line (rest_from m.carry front) xs plain)) g)
+pub line_fed : (a : Fed) (p : Progress) (front line : List ℕ) (h i : Option (List ℕ)) (u u' : List ℕ) → EndsNoLine line
+    → Feeds fed.All p.world (whole_from p.carry front) h i u
+    → Holds a (progress_after p front).world (((progress_after p front).carry ++ line) ∷ []) u u'
+    → Feeds a p.world (whole_from p.carry (next_bytes front line)) h i u'
+line_fed a p front line h i u u' plain f g =
+    let ls : List (List ℕ) = (rest_from p.carry front ++ line) ∷ [] in
+    let all : Feeds a p.world (whole_from p.carry front ++ ls) h i u' =
+    held_on a p.world (whole_from p.carry front) ls h i u u' f g in
+    let same : whole_from p.carry (next_bytes front line) ≡ whole_from p.carry front ++ ls =
+    whole_from-append p.carry front (line ++ 10 ∷ [])
+    ∙ ap (λ ys. whole_from p.carry front ++ ys) (whole_from-line (rest_from p.carry front) line plain) in
+    subst (λ (ys : List (List ℕ)). Feeds a p.world ys h i u') (sym same) all
 
-pub line_stands : (r : Holding) (m : Midway) (front xs : List ℕ) (h j : Option (List ℕ)) → EndsNoLine xs → Feeds fed.All m (whole_from m.carry front) h j → StandsFor r (line_after (midway_after m front) xs) → StandsFor r (midway_after m (front ++ (xs ++ 10 ∷ [])))
-line_stands r m front xs h j plain f st =
-    subst (λ (n : Midway). StandsFor r n) (sym (midway_line (midway_after m front) xs plain) ∙ midway_on m front (xs ++ 10 ∷ []) f.met.0) st
+pub line_stands : (k : Kept) (p : Progress) (front line : List ℕ) → EndsNoLine line
+    → done p.world (whole_from p.carry front) ≡ length (whole_from p.carry front)
+    → StandsWithin k (line_after (progress_after p front) line) → StandsWithin k (progress_after p (next_bytes front line))
+line_stands k p front line plain all st =
+    subst (λ (q : Progress). StandsWithin k q)
+    (sym (progress_line (progress_after p front) line plain) ∙ progress_on p front (line ++ 10 ∷ []) all) st
 
-pub line_stopped : (a : Fed) (m : Midway) (piece front rest : List ℕ) (k : ℕ) (h i j : Option (List ℕ)) → k < length rest → get_or rest k 0 ≡ 10 → EndsNoLine (take k rest) → piece ≡ front ++ rest → (a ≡ fed.All → ⊥) → Feeds fed.All m (whole_from m.carry front) h i → Feeds a (midway_after m front) ((rest_from m.carry front ++ take k rest) ∷ []) i j → Feeds a m (whole_from m.carry piece) h j
-line_stopped a m piece front rest k h i j within end plain is stopped f g =
-    let next : List ℕ = front ++ (take k rest ++ 10 ∷ []) in
-    let behind : List ℕ = take (length rest - (k + 1)) (drop (k + 1) rest) in
-    let fed : Feeds a m (whole_from m.carry next) h j = line_fed a m front (take k rest) h i j plain f g in
-    subst (λ (bytes : List ℕ). Feeds a m (whole_from m.carry bytes) h j) (sym (next_front piece front rest k within end is)) (fed_stopped a m next behind h j stopped fed)
+-- a line at which a call stops, so that the rest of the piece doesn't count
+pub line_stopped : (a : Fed) (p : Progress) (piece front rest : List ℕ) (n : ℕ) (h i : Option (List ℕ)) (u : List ℕ)
+    → n < length rest → get_or rest n 0 ≡ 10 → piece ≡ front ++ rest → (a ≡ fed.All → ⊥)
+    → Feeds a p.world (whole_from p.carry (next_bytes front (take n rest))) h i u
+    → Feeds a p.world (whole_from p.carry piece) h i u
+line_stopped a p piece front rest n h i u within end is stopped f =
+    let next : List ℕ = next_bytes front (take n rest) in
+    let behind : List ℕ = take (length rest - (n + 1)) (drop (n + 1) rest) in
+    let ls : List (List ℕ) = whole_from (rest_from p.carry next) behind in
+    let same : whole_from p.carry piece ≡ whole_from p.carry next ++ ls =
+    ap (λ bytes. whole_from p.carry bytes) (next_front piece front rest n within end is)
+    ∙ whole_from-append p.carry next behind in
+    record {
+      written = f.written;
+      appends = f.appends;
+      met = subst (λ (ys : List (List ℕ)). Meets a p.world ys (f.written ++ u)) (sym same)
+          (met_stopped a p.world (whole_from p.carry next) ls (f.written ++ u) stopped f.met);
+    }
 
 -- the bytes behind the last line of a piece
-pub rest_fed : (m : Midway) (front rest : List ℕ) (h j : Option (List ℕ)) → EndsNoLine rest → Feeds fed.All m (whole_from m.carry front) h j → Feeds fed.All m (whole_from m.carry (front ++ rest)) h j
-rest_fed m front rest h j plain f =
-    subst (λ (ls : List (List ℕ)). Feeds fed.All m ls h j) (sym (whole_from-append m.carry front rest ∙ ap (λ ls. whole_from m.carry front ++ ls) (whole_from-kept (rest_from m.carry front) rest plain) ∙ append-nil (whole_from m.carry front))) f
+rest_lines : (p : Progress) (piece front rest : List ℕ) → piece ≡ front ++ rest → EndsNoLine rest
+    → whole_from p.carry piece ≡ whole_from p.carry front
+rest_lines p piece front rest is plain =
+    ap (λ bytes. whole_from p.carry bytes) is ∙ whole_from-append p.carry front rest
+    ∙ ap (λ ls. whole_from p.carry front ++ ls) (whole_from-kept (rest_from p.carry front) rest plain)
+    ∙ append-nil (whole_from p.carry front)
 
-pub rest_answered : (a : Fed) (m : Midway) (piece front rest : List ℕ) (h j : Option (List ℕ)) → (a ≡ fed.All) ⊎ (a ≡ fed.NoMemory) → piece ≡ front ++ rest → EndsNoLine rest → Feeds fed.All m (whole_from m.carry front) h j → Feeds a m (whole_from m.carry piece) h j
-rest_answered a m piece front rest h j answer is plain f =
-    let all : Feeds fed.All m (whole_from m.carry piece) h j = subst (λ (bytes : List ℕ). Feeds fed.All m (whole_from m.carry bytes) h j) (sym is) (rest_fed m front rest h j plain f) in
-    ⊎_elim (λ e. subst (λ (b : Fed). Feeds b m (whole_from m.carry piece) h j) (sym e) all)
-    (λ e. subst (λ (b : Fed). Feeds b m (whole_from m.carry piece) h j) (sym e) (record { written = all.written; appends = all.appends; met = ([], sym all.met.1 ∙ sym (append-nil all.written)) }))
-    answer
+pub rest_fed : (a : Fed) (p : Progress) (piece front rest : List ℕ) (h i : Option (List ℕ)) (u : List ℕ)
+    → (a ≡ fed.All) ⊎ (a ≡ fed.NoMemory) → piece ≡ front ++ rest → EndsNoLine rest
+    → Feeds fed.All p.world (whole_from p.carry front) h i u → Feeds a p.world (whole_from p.carry piece) h i u
+rest_fed a p piece front rest h i u answer is plain f =
+    let ls : List (List ℕ) = whole_from p.carry front in
+    let text : List ℕ = f.written ++ u in
+    let met : Meets a p.world ls text =
+    ⊎_elim (λ e. subst (λ (b : Fed). Meets b p.world ls text) (sym e) f.met)
+    (λ e. subst (λ (b : Fed). Meets b p.world ls text) (sym e) (met_prefix fed.All p.world ls text f.met)) answer in
+    record {
+      written = f.written;
+      appends = f.appends;
+      met = subst (λ (ys : List (List ℕ)). Meets a p.world ys text) (sym (rest_lines p piece front rest is plain)) met;
+    }
 
-pub rest_stands : (r : Holding) (m : Midway) (piece front rest : List ℕ) (h j : Option (List ℕ)) → piece ≡ front ++ rest → EndsNoLine rest → Feeds fed.All m (whole_from m.carry front) h j → StandsFor r (kept_after (midway_after m front) rest) → StandsFor r (midway_after m piece)
-rest_stands r m piece front rest h j is plain f st =
-    subst (λ (n : Midway). StandsFor r n) (sym (midway_kept (midway_after m front) rest plain) ∙ midway_on m front rest f.met.0 ∙ ap (λ bytes. midway_after m bytes) (sym is)) st
+pub rest_stands : (k : Kept) (p : Progress) (piece front rest : List ℕ) → piece ≡ front ++ rest → EndsNoLine rest
+    → done p.world (whole_from p.carry front) ≡ length (whole_from p.carry front)
+    → StandsWithin k (rest_after (progress_after p front) rest) → StandsWithin k (progress_after p piece)
+rest_stands k p piece front rest is plain all st =
+    subst (λ (q : Progress). StandsWithin k q)
+    (sym (progress_rest (progress_after p front) rest plain) ∙ progress_on p front rest all
+    ∙ ap (λ bytes. progress_after p bytes) (sym is)) st
 
 -- no line is left
-pub none_left : (m : Midway) (held : Option (List ℕ)) → last_line m.carry ≡ [] → Feeds fed.All m (last_line m.carry) held held
-none_left m held none = subst (λ (ls : List (List ℕ)). Feeds fed.All m ls held held) (sym none) (record { written = []; appends = nothing held; met = (refl, refl) })
+pub none_left : (p : Progress) (held : Option (List ℕ)) → last_line p.carry ≡ []
+    → Feeds fed.All p.world (last_line p.carry) held held []
+none_left p held none =
+    subst (λ (ls : List (List ℕ)). Feeds fed.All p.world ls held held []) (sym none)
+    (record { written = []; appends = nothing held; met = (refl, refl) })
 
 -- no byte was taken
-pub none_stands : (r : Holding) (m : Midway) → StandsFor r m → StandsFor r (midway_after m [])
-none_stands r m st = record { engine = st.engine; carry = st.carry; count = let e : m.count ≡ m.count + 0 = omega arith in st.count ∙ e }
+pub none_stands : (k : Kept) (p : Progress) → StandsWithin k p → StandsWithin k (progress_after p [])
+none_stands k p st = record { engine = st.engine; carry = st.carry }
 
-pub none_fed : (m : Midway) (held : Option (List ℕ)) → Feeds fed.All m (whole_from m.carry []) held held
-none_fed m held = record { written = []; appends = nothing held; met = (refl, refl) }
+pub none_fed : (p : Progress) (held : Option (List ℕ)) (u : List ℕ) → u ≡ []
+    → Feeds fed.All p.world (whole_from p.carry []) held held u
+none_fed p held u none = record { written = []; appends = nothing held; met = (refl, none) }
+
+-- the last line of a script
+pub last_fed : (a before : Fed) (p : Progress) (h i : Option (List ℕ)) (u u' : List ℕ) (lines : List (List ℕ))
+    → lines ≡ last_line p.carry → u ≡ [] → Holds before p.world lines u u' → Writes a before h i u' []
+    → Feeds a p.world (last_line p.carry) h i []
+last_fed a before p h i u u' lines is none g wrote =
+    let first : Feeds fed.All p.world [] h h u = record { written = []; appends = nothing h; met = (refl, none) } in
+    let held : Feeds before p.world lines h h u' = held_on before p.world [] lines h h u u' first g in
+    subst (λ (ls : List (List ℕ)). Feeds a p.world ls h i []) is (written_on a before p.world lines h h i u' [] held wrote)
+
+-- another text is held back, or none
+pub stands_with : (k k' : Kept) (p : Progress) → k' ≡ kept_with k k'.unwritten → StandsWithin k p → StandsWithin k' p
+stands_with k k' p is st =
+    subst (λ (v : Kept). StandsWithin v p) (sym is) (record { engine = st.engine; carry = st.carry })
+
+pub stands_clear : (k k' : Kept) (p : Progress) → k' ≡ kept_with k [] → StandsWithin k p → StandsFor k' p
+stands_clear k k' p is st =
+    subst (λ (v : Kept). StandsFor v p) (sym is)
+    (record { within = record { engine = st.engine; carry = st.carry }; unwritten = refl })
+
+-- what a write of all that is held back is answered
+pub put_taken : (before : Fed) (h i : Option (List ℕ)) (u : List ℕ) → Appends h i u → Writes before before h i u []
+put_taken before h i u took =
+    record { written = u; rest = []; appends = took; parts = sym (append-nil u); ends = inl (refl, refl) }
+
+pub put_failed : (before : Fed) (h i : Option (List ℕ)) (u : List ℕ) (n : ℕ) → Appends h i (take n u)
+    → Writes fed.WriteFault before h i u []
+put_failed before h i u n took =
+    record {
+      written = take n u;
+      rest = drop n u;
+      appends = took;
+      parts = sym (take-append-drop n u);
+      ends = inr (refl, refl);
+    }
+
+-- where all is well after a write, so it was before; else nothing is held back
+pub was_well : (a before : Fed) (h i : Option (List ℕ)) (u u' : List ℕ) → Writes a before h i u u' → a ≡ fed.All
+    → before ≡ fed.All
+was_well a before h i u u' g is = ⊎_elim (λ e. sym e.0 ∙ is) (λ e. absurd (cc (sym e.0 ∙ is))) g.ends
+
+pub none_held : (a : Fed) (h i : Option (List ℕ)) (u u' : List ℕ) → Writes a fed.All h i u u' → (a ≡ fed.All → ⊥)
+    → u' ≡ []
+none_held a h i u u' g failed = ⊎_elim (λ e. absurd (failed e.0)) (λ e. e.1) g.ends

@@ -1,11 +1,12 @@
 -- Parts of a piece: bytes that end no line, and a line with its end.
-use Rattle.std.proofs.Common.{◌≡◌, ◌==◌, ℕ, zero, suc, ◌+◌, ◌<◌, ◌-◌, List, [], ◌∷◌, ◌++◌, length, take, drop, refl, sym, ◌∙◌, ap, arith, append_assoc, append-nil, Bool, true, false, get_or, subst}
+use Rattle.std.proofs.Common.{◌≡◌, ◌==◌, ℕ, zero, suc, ◌+◌, ◌<◌, ◌-◌, List, [], ◌∷◌, ◌++◌, length, take, drop, refl, sym, ◌∙◌, ap, arith, append_assoc}
+use Rattle.std.proofs.Common.{append-nil, Bool, true, false, get_or, subst}
 use Rattle.std.specs.Prelude.{Option, None, Some, MatchOption}
 use Rattle.std.proofs.lemmas.List.{take_all, length-drop}
 use Rattle.std.proofs.lemmas.Bool.{eqb-true, eqb-false}
 use Rattle.memchr.specs.Find.{IsFirstByte, is_byte}
 use Rattle.ls_world.specs.Script.{whole_from, rest_from, last_line}
-use Rattle.tlcpd.specs.Replay.{Midway, midway_after, line_after, kept_after, EndsNoLine}
+use Rattle.tlcpd.specs.Replay.{Progress, progress_after, line_after, rest_after, EndsNoLine}
 use Rattle.tlcpd.proofs.ScriptLines.{whole_from-append, rest_from-append}
 
 -- bytes that end no line are kept
@@ -23,11 +24,11 @@ whole_from-line carry xs h = rw (whole_from-append carry xs (10 ∷ []), whole_f
 pub rest_from-line : (carry xs : List ℕ) → EndsNoLine xs → rest_from carry (xs ++ 10 ∷ []) ≡ []
 rest_from-line carry xs h = rest_from-append carry xs (10 ∷ [])
 
-pub midway_kept : (m : Midway) (xs : List ℕ) → EndsNoLine xs → midway_after m xs ≡ kept_after m xs
-midway_kept m xs h = rw (whole_from-kept m.carry xs h, rest_from-kept m.carry xs h) (ap (λ n. record { world = m.world; carry = m.carry ++ xs; count = n }) (omega arith))
+pub progress_rest : (p : Progress) (xs : List ℕ) → EndsNoLine xs → progress_after p xs ≡ rest_after p xs
+progress_rest p xs h = rw (whole_from-kept p.carry xs h, rest_from-kept p.carry xs h) refl
 
-pub midway_line : (m : Midway) (xs : List ℕ) → EndsNoLine xs → midway_after m (xs ++ 10 ∷ []) ≡ line_after m xs
-midway_line m xs h = rw (whole_from-line m.carry xs h, rest_from-line m.carry xs h) refl
+pub progress_line : (p : Progress) (xs : List ℕ) → EndsNoLine xs → progress_after p (xs ++ 10 ∷ []) ≡ line_after p xs
+progress_line p xs h = rw (whole_from-line p.carry xs h, rest_from-line p.carry xs h) refl
 
 not_true : (v : Bool) → (v ≡ true → ⊥) → v ≡ false
 not_true true h = absurd (h refl)
@@ -40,7 +41,8 @@ ends_no_line [] (suc k) h = tt
 ends_no_line (b ∷ xs) (suc k) h = (not_true (b == 10) (h 0 (omega arith)), ends_no_line xs k (λ j l. h (suc j) (omega (arith, l))))
 
 pub line_found : (xs : List ℕ) (r : Option ℕ) → IsFirstByte (is_byte 10) xs r → MatchOption r (EndsNoLine xs) (λ k. EndsNoLine (take k xs))
-line_found xs None h = subst (λ (bytes : List ℕ). EndsNoLine bytes) (take_all (length xs) xs (omega arith)) (ends_no_line xs (length xs) (λ j l. h j (omega arith) l))
+line_found xs None h = subst (λ (bytes : List ℕ). EndsNoLine bytes) (take_all (length xs) xs (omega arith))
+    (ends_no_line xs (length xs) (λ j l. h j (omega arith) l))
 line_found xs (Some k) h = ends_no_line xs k (λ j l. h.0.before j (omega arith) l)
 
 -- a rest that isn't empty is the last line
@@ -62,7 +64,10 @@ rest_all : (xs : List ℕ) (i : ℕ) → take (length xs - i) (drop i xs) ≡ dr
 rest_all xs i = take_all (length xs - i) (drop i xs) (omega (arith, length-drop i xs))
 
 -- the front of a piece grows by a line
-pub next_front : (piece front rest : List ℕ) (k : ℕ) → k < length rest → get_or rest k 0 ≡ 10 → piece ≡ front ++ rest → piece ≡ (front ++ (take k rest ++ 10 ∷ [])) ++ take (length rest - (k + 1)) (drop (k + 1) rest)
+pub next_front : (piece front rest : List ℕ) (k : ℕ) → k < length rest → get_or rest k 0 ≡ 10 → piece ≡ front ++ rest
+    → piece ≡ (front ++ (take k rest ++ 10 ∷ [])) ++ take (length rest - (k + 1)) (drop (k + 1) rest)
 next_front piece front rest k l h is =
     let next : suc k ≡ k + 1 = omega arith in
-    is ∙ ap (λ ys. front ++ ys) (line_and_rest rest k l h ∙ ap (λ ys. (take k rest ++ 10 ∷ []) ++ ys) (ap (λ n. drop n rest) next ∙ sym (rest_all rest (k + 1)))) ∙ sym (append_assoc front (take k rest ++ 10 ∷ []) (take (length rest - (k + 1)) (drop (k + 1) rest)))
+    is ∙ ap (λ ys. front ++ ys) (line_and_rest rest k l h ∙ ap (λ ys. (take k rest ++ 10 ∷ []) ++ ys)
+    (ap (λ n. drop n rest) next ∙ sym (rest_all rest (k + 1)))) ∙ sym (append_assoc front (take k rest ++ 10 ∷ [])
+    (take (length rest - (k + 1)) (drop (k + 1) rest)))

@@ -5,44 +5,70 @@ use Rattle.ls_outside.specs.Causes.{Rose, RoseBy}
 use Rattle.ls_outside.proofs.Bytes.{appends_on, consumes_on}
 use Rattle.ls_world.specs.declared.Refused.TheVariants.{BadScript, NotBuilt}
 use Rattle.ls_world.specs.World.{empty}
-use Rattle.ls_world.specs.Script.{whole_from, rest_from, last_line, lines_of, done}
+use Rattle.ls_world.specs.Script.{whole_from, rest_from, last_line, lines_of, world_of, done}
 use Rattle.ls_laws.proofs.Scripts.{lawful_script}
-use Rattle.tlcpd.specs.Replay.{Midway, midway_after, Met, Feeds, before, Holding, StandsFor}
-use Rattle.tlcpd.specs.Ran.{Going, Ran, Outcome, DidAll, status_at}
+use Rattle.tlcpd.specs.Replay.{Progress, start, progress_after, Kept, StandsFor, Meets, Feeds}
+use Rattle.tlcpd.specs.Ran.{Going, Ran, Outcome, DoesAll, status_at}
 use Rattle.tlcpd.specs.declared.running.Status.TheVariants as status
 use Rattle.tlcpd.specs.declared.replay.Fed.{Fed}
 use Rattle.tlcpd.specs.declared.replay.Fed.TheVariants as fed
-use Rattle.tlcpd.proofs.Feeding.{nothing, fed_on, midway_on, met_on}
+use Rattle.tlcpd.proofs.Feeding.{nothing, fed_on, progress_on, met_on}
 
-pub going_on : (r q : Holding) (c : List ℕ) (l0 l1 l2 h0 h1 h2 : Option (List ℕ)) → Going r l0 l1 h0 h1 → Consumes l1 l2 c → ((m : Midway) → StandsFor r m → Feeds fed.All m (whole_from m.carry c) h1 h2) → ((m : Midway) → StandsFor r m → StandsFor q (midway_after m c)) → Going q l0 l2 h0 h2
-going_on r q c l0 l1 l2 h0 h1 h2 go took f all =
+pub going_on : (k k' : Kept) (c : List ℕ) (l0 l1 l2 h0 h1 h2 : Option (List ℕ)) → Going k l0 l1 h0 h1 → Consumes l1 l2 c
+    → ((p : Progress) → StandsFor k p → Feeds fed.All p.world (whole_from p.carry c) h1 h2 [])
+    → ((p : Progress) → StandsFor k p → StandsFor k' (progress_after p c)) → Going k' l0 l2 h0 h2
+going_on k k' c l0 l1 l2 h0 h1 h2 go took f all =
+    let p : Progress = progress_after start go.read in
     record {
       read = go.read ++ c;
       consumes = consumes_on l0 l1 l2 go.read c go.consumes took;
-      now = subst (λ (m : Midway). StandsFor q m) (midway_on before go.read c go.feeds.met.0) (all (midway_after before go.read) go.now);
-      feeds = fed_on fed.All before go.read c h0 h1 h2 go.feeds (f (midway_after before go.read) go.now);
+      now = subst (λ (q : Progress). StandsFor k' q) (progress_on start go.read c go.feeds.met.0) (all p go.now);
+      feeds = fed_on fed.All start go.read c h0 h1 h2 [] go.feeds (f p go.now);
     }
 
+-- nothing is held back, so what was written is what the lines print
+whole_text : (a : Fed) (lines : List (List ℕ)) (w : List ℕ) → Meets a empty lines (w ++ []) → Meets a empty lines w
+whole_text a lines w met = subst (λ (t : List ℕ). Meets a empty lines t) (append-nil w) met
+
 -- each line from the start was done
-all_done : (read w : List ℕ) (ended : Bool) → Met fed.All before (lines_of ended read) w → DidAll (lines_of ended read) w
+all_done : (read w : List ℕ) (ended : Bool) → Meets fed.All empty (lines_of ended read) w → DoesAll (lines_of ended read) w
 all_done read w ended met = record { count = met.0; text = met.1; lawful = lawful_script (lines_of ended read) }
 
 -- what a call says of the lines from the start is the outcome
-outcome_of : (a : Fed) (read : List ℕ) (w : List ℕ) (ended : Bool) → (a ≡ fed.All → ended ≡ true) → Met a before (lines_of ended read) w → Outcome (status_at a) read w ended
+outcome_of : (a : Fed) (read : List ℕ) (w : List ℕ) (ended : Bool) → (a ≡ fed.All → ended ≡ true)
+    → Meets a empty (lines_of ended read) w → Outcome (status_at a) read w ended
 outcome_of fed.All read w ended e met = (e refl, all_done read w ended met)
 outcome_of (fed.Stopped BadScript line) read w ended e met =
     let n : line ≡ 0 + done empty (lines_of ended read) + 1 = met.0 in
-    record { number = omega (arith, n); within = omega (arith, n, met.1); cause = met.2; text = met.3; lawful = lawful_script (lines_of ended read) }
+    record {
+      number = omega (arith, n);
+      within = omega (arith, n, met.1);
+      cause = met.2;
+      text = met.3;
+      lawful = lawful_script (lines_of ended read);
+    }
 outcome_of (fed.Stopped NotBuilt line) read w ended e met =
     let n : line ≡ 0 + done empty (lines_of ended read) + 1 = met.0 in
-    record { number = omega (arith, n); within = omega (arith, n, met.1); cause = met.2; text = met.3; lawful = lawful_script (lines_of ended read) }
+    record {
+      number = omega (arith, n);
+      within = omega (arith, n, met.1);
+      cause = met.2;
+      text = met.3;
+      lawful = lawful_script (lines_of ended read);
+    }
 outcome_of fed.WriteFault read w ended e met = met
 outcome_of fed.NoMemory read w ended e met = met
 
-pub ran_stopped : (a : Fed) (r : Holding) (c : List ℕ) (l0 l1 l2 h0 h1 h2 : Option (List ℕ)) → (a ≡ fed.All → ⊥) → Going r l0 l1 h0 h1 → Consumes l1 l2 c → ((m : Midway) → StandsFor r m → Feeds a m (whole_from m.carry c) h1 h2) → Ran (status_at a) l0 l2 h0 h2
-ran_stopped a r c l0 l1 l2 h0 h1 h2 stopped go took f =
-    let f' : Feeds a (midway_after before go.read) (whole_from (rest_from [] go.read) c) h1 h2 = f (midway_after before go.read) go.now in
-    let all : Feeds a before (whole_from [] (go.read ++ c)) h0 h2 = fed_on a before go.read c h0 h1 h2 go.feeds f' in
+pub ran_stopped : (a : Fed) (k : Kept) (c : List ℕ) (l0 l1 l2 h0 h1 h2 : Option (List ℕ)) → (a ≡ fed.All → ⊥)
+    → Going k l0 l1 h0 h1 → Consumes l1 l2 c
+    → ((p : Progress) → StandsFor k p → Feeds a p.world (whole_from p.carry c) h1 h2 []) → Ran (status_at a) l0 l2 h0 h2
+ran_stopped a k c l0 l1 l2 h0 h1 h2 stopped go took f =
+    let f' : Feeds a (progress_after start go.read).world (whole_from (rest_from [] go.read) c) h1 h2 [] =
+    f (progress_after start go.read) go.now in
+    let all : Feeds a empty (whole_from [] (go.read ++ c)) h0 h2 [] = fed_on a start go.read c h0 h1 h2 [] go.feeds f' in
+    let met : Meets a empty (lines_of false (go.read ++ c)) all.written =
+    subst (λ (ls : List (List ℕ)). Meets a empty ls all.written) (sym (append-nil (whole_from [] (go.read ++ c))))
+    (whole_text a (whole_from [] (go.read ++ c)) all.written all.met) in
     record {
       read = go.read ++ c;
       written = all.written;
@@ -50,7 +76,7 @@ ran_stopped a r c l0 l1 l2 h0 h1 h2 stopped go took f =
       consumes = consumes_on l0 l1 l2 go.read c go.consumes took;
       appends = all.appends;
       at_end = λ e. cc;
-      outcome = outcome_of a (go.read ++ c) all.written false (λ e. absurd (stopped e)) (subst (λ (ls : List (List ℕ)). Met a before ls all.written) (sym (append-nil (whole_from [] (go.read ++ c)))) all.met);
+      outcome = outcome_of a (go.read ++ c) all.written false (λ e. absurd (stopped e)) met;
     }
 
 consumed_kept : (l m n : Option (List ℕ)) (x : List ℕ) → Consumes l m x → Keeps m n → Consumes l n x
@@ -59,18 +85,26 @@ consumed_kept (Some l) None n x c k = absurd c
 consumed_kept (Some l) (Some m) None x c k = k
 consumed_kept (Some l) (Some m) (Some n) x c k = c ∙ ap (λ t. x ++ t) (sym k)
 
-pub ran_ended : (a : Fed) (r : Holding) (l0 l1 l2 h0 h1 h2 : Option (List ℕ)) → Going r l0 l1 h0 h1 → Keeps l1 l2 → IsAtEnd l2 → ((m : Midway) → StandsFor r m → Feeds a m (last_line m.carry) h1 h2) → Ran (status_at a) l0 l2 h0 h2
-ran_ended a r l0 l1 l2 h0 h1 h2 go kept none f =
-    let f' : Feeds a (midway_after before go.read) (last_line (rest_from [] go.read)) h1 h2 = f (midway_after before go.read) go.now in
+pub ran_ended : (a : Fed) (k : Kept) (l0 l1 l2 h0 h1 h2 : Option (List ℕ)) → Going k l0 l1 h0 h1 → Keeps l1 l2
+    → IsAtEnd l2 → ((p : Progress) → StandsFor k p → Feeds a p.world (last_line p.carry) h1 h2 [])
+    → Ran (status_at a) l0 l2 h0 h2
+ran_ended a k l0 l1 l2 h0 h1 h2 go kept none f =
+    let whole : List (List ℕ) = whole_from [] go.read in
+    let last : List (List ℕ) = last_line (rest_from [] go.read) in
+    let f' : Feeds a (world_of empty whole) last h1 h2 [] = f (progress_after start go.read) go.now in
+    let text : List ℕ = go.feeds.written ++ f'.written in
+    let first : Meets fed.All empty whole go.feeds.written = whole_text fed.All whole go.feeds.written go.feeds.met in
+    let second : Meets a (world_of empty whole) last f'.written =
+    subst (λ (t : List ℕ). Meets a (world_of empty whole) last t) (append-nil f'.written) f'.met in
     record {
       read = go.read;
-      written = go.feeds.written ++ f'.written;
+      written = text;
       ended = true;
       consumes = consumed_kept l0 l1 l2 go.read go.consumes kept;
       appends = appends_on h0 h1 h2 go.feeds.written f'.written go.feeds.appends f'.appends;
       at_end = λ e. none;
-      outcome = outcome_of a go.read (go.feeds.written ++ f'.written) true (λ e. refl)
-          (met_on a before (midway_after before go.read) (whole_from [] go.read) (last_line (rest_from [] go.read)) go.feeds.written f'.written go.feeds.met.0 refl refl go.feeds.met.1 f'.met);
+      outcome = outcome_of a go.read text true (λ e. refl)
+          (met_on a empty whole last go.feeds.written f'.written first second);
     }
 
 -- nothing was read or written
@@ -78,13 +112,26 @@ kept_unread : (left : Option (List ℕ)) → Consumes left left []
 kept_unread None = tt
 kept_unread (Some xs) = refl
 
+-- a run begins
+pub going_start : (k : Kept) (left held : Option (List ℕ)) → StandsFor k start → Going k left left held held
+going_start k left held st =
+    record {
+      read = [];
+      consumes = kept_unread left;
+      now = st;
+      feeds = record { written = []; appends = nothing held; met = (refl, refl) };
+    }
+
 pub ran_nothing : (left held : Option (List ℕ)) → Ran status.NoMemory left left held held
 ran_nothing left held =
     record { read = []; written = []; ended = false; consumes = kept_unread left; appends = nothing held; at_end = λ e. cc; outcome = ([], refl) }
 
 -- a read failed
-pub ran_faulted : (r : Holding) (l0 l1 l2 h0 h1 : Option (List ℕ)) → Going r l0 l1 h0 h1 → Keeps l1 l2 → Ran status.ReadFault l0 l2 h0 h1
-ran_faulted r l0 l1 l2 h0 h1 go kept =
+pub ran_faulted : (k : Kept) (l0 l1 l2 h0 h1 : Option (List ℕ)) → Going k l0 l1 h0 h1 → Keeps l1 l2
+    → Ran status.ReadFault l0 l2 h0 h1
+ran_faulted k l0 l1 l2 h0 h1 go kept =
+    let whole : List (List ℕ) = whole_from [] go.read in
+    let met : Meets fed.All empty whole go.feeds.written = whole_text fed.All whole go.feeds.written go.feeds.met in
     record {
       read = go.read;
       written = go.feeds.written;
@@ -92,7 +139,11 @@ ran_faulted r l0 l1 l2 h0 h1 go kept =
       consumes = consumed_kept l0 l1 l2 go.read go.consumes kept;
       appends = go.feeds.appends;
       at_end = λ e. cc;
-      outcome = (refl, all_done go.read go.feeds.written false (subst (λ (ls : List (List ℕ)). Met fed.All before ls go.feeds.written) (sym (append-nil (whole_from [] go.read))) go.feeds.met));
+      outcome = (
+        refl,
+        all_done go.read go.feeds.written false
+            (subst (λ (ls : List (List ℕ)). Meets fed.All empty ls go.feeds.written) (sym (append-nil whole)) met),
+      );
     }
 
 -- the causes of a status

@@ -1,12 +1,12 @@
 -- What the engine holds, and the world that it stands for.
-use Rattle.std.specs.Prelude.{◌≡◌, ℕ, List, Result, Ok, Err}
+use Rattle.std.specs.Prelude.{◌≡◌, ℕ, ◌+◌, List, ◌++◌, Result, Ok, Err}
 use Rattle.ls_script.specs.declared.script.ScriptRefused.{ScriptRefused}
 use Rattle.ls_script.specs.declared.script.ScriptRefused.TheVariants as script
 use Rattle.ls_world.specs.declared.Refused.{Refused}
 use Rattle.ls_world.specs.declared.Refused.TheVariants.{BadScript, NotBuilt}
 use Rattle.ls_world.specs.World.{World}
 use Rattle.ls_world.specs.Steps.{Stepped}
-use Rattle.ls_world.specs.Script.{known_of, text_of_outs}
+use Rattle.ls_world.specs.Script.{known_of, step as one_step, text_of_outs}
 use Rattle.ls_hub.specs.Hub.{StandsHub}
 use Rattle.tlcpd.specs.declared.engine.Engine.{Engine}
 use Rattle.tlcpd.specs.declared.engine.LineRefused.{LineRefused}
@@ -20,10 +20,14 @@ pub record StandsEngine (e : Engine) (w : World) : Type 0 where
   pub known : e.script ≡ known_of w
   pub hub : StandsHub e.hub w
 
--- a step is made and prints this text, and the engine stands for the world after it
-abbrev pub Steps : Result Stepped Refused → List ℕ → Engine → Type 0
-Steps (Err r) text e = ⊥
-Steps (Ok s) text e = (text ≡ text_of_outs s.outs) × StandsEngine e s.after
+-- a step is made and appends what it prints to a text, and the engine stands for the world after it
+abbrev pub Steps : Result Stepped Refused → List ℕ → List ℕ → Engine → Type 0
+Steps (Err r) text text' e = ⊥
+Steps (Ok s) text text' e = (text' ≡ text ++ text_of_outs s.outs) × StandsEngine e s.after
+
+-- a line is refused for this cause, and the engine has its number
+abbrev pub Refuses : World → List ℕ → Refused → Engine → Type 0
+Refuses w bytes refused e = (one_step w bytes ≡ Err refused) × (e.line ≡ w.line + 1)
 
 -- a refusal of the script's reader, and one of the hub, as the engine hands it on
 abbrev pub script_cause : ScriptRefused → LineRefused

@@ -6,8 +6,8 @@ use Rattle.ls_world.specs.declared.Refused.{Refused}
 use Rattle.ls_world.specs.declared.Refused.TheVariants.{BadScript, NotBuilt}
 use Rattle.ls_world.specs.World.{empty}
 use Rattle.ls_world.specs.Lawful.{Lawful}
-use Rattle.ls_world.specs.Script.{lines_of, text_of, world_of, done, first_refused, whole_from, IsPrefix}
-use Rattle.tlcpd.specs.Replay.{midway_after, Feeds, before, Holding, StandsFor}
+use Rattle.ls_world.specs.Script.{lines_of, output_of, world_of, done, first_refused, whole_from, IsPrefix}
+use Rattle.tlcpd.specs.Replay.{start, progress_after, Kept, StandsFor, Feeds}
 use Rattle.tlcpd.specs.declared.running.Status.{Status}
 use Rattle.tlcpd.specs.declared.running.Status.TheVariants as status
 use Rattle.tlcpd.specs.declared.replay.Fed.{Fed}
@@ -18,28 +18,29 @@ abbrev pub IsReplay : List (List ℕ) → Type 0
 IsReplay words = words ≡ codes "replay" ∷ []
 
 -- each line was done, what they print was written, and the world that they make is lawful
-pub record DidAll (lines : List (List ℕ)) (written : List ℕ) : Type 0 where
+pub record DoesAll (lines : List (List ℕ)) (written : List ℕ) : Type 0 where
   pub count : done empty lines ≡ length lines
-  pub text : written ≡ text_of empty lines
+  pub text : written ≡ output_of empty lines
   pub lawful : Lawful (world_of empty lines)
 
--- the line of this number, from 1, was the first to be refused, what those before it print was written, and the world that they make is lawful
-pub record DidUpTo (line : ℕ) (refused : Refused) (lines : List (List ℕ)) (written : List ℕ) : Type 0 where
+-- the line of this number, from 1, was the first to be refused, what those before it print was written, and the world
+-- that they make is lawful
+pub record StopsAt (line : ℕ) (refused : Refused) (lines : List (List ℕ)) (written : List ℕ) : Type 0 where
   pub number : line ≡ done empty lines + 1
   pub within : line ≤ length lines
   pub cause : first_refused empty lines ≡ Some refused
-  pub text : written ≡ text_of empty lines
+  pub text : written ≡ output_of empty lines
   pub lawful : Lawful (world_of empty lines)
 
 -- what a status says of what was read and written, and of the end
 abbrev pub Outcome : Status → List ℕ → List ℕ → Bool → Type 0
-Outcome status.Ok read written ended = (ended ≡ true) × DidAll (lines_of ended read) written
+Outcome status.Ok read written ended = (ended ≡ true) × DoesAll (lines_of ended read) written
 Outcome status.Usage read written ended = (read ≡ []) × (written ≡ [])
-Outcome status.ReadFault read written ended = (ended ≡ false) × DidAll (lines_of ended read) written
-Outcome status.WriteFault read written ended = IsPrefix written (text_of empty (lines_of ended read))
-Outcome status.NoMemory read written ended = IsPrefix written (text_of empty (lines_of ended read))
-Outcome (status.BadScript line) read written ended = DidUpTo line BadScript (lines_of ended read) written
-Outcome (status.NotBuilt line) read written ended = DidUpTo line NotBuilt (lines_of ended read) written
+Outcome status.ReadFault read written ended = (ended ≡ false) × DoesAll (lines_of ended read) written
+Outcome status.WriteFault read written ended = IsPrefix written (output_of empty (lines_of ended read))
+Outcome status.NoMemory read written ended = IsPrefix written (output_of empty (lines_of ended read))
+Outcome (status.BadScript line) read written ended = StopsAt line BadScript (lines_of ended read) written
+Outcome (status.NotBuilt line) read written ended = StopsAt line NotBuilt (lines_of ended read) written
 
 -- some bytes were read and some were written, as the status says; the source is at its end where ended
 pub record Ran (result : Status) (left left' held held' : Option (List ℕ)) : Type 0 where
@@ -51,12 +52,12 @@ pub record Ran (result : Status) (left left' held held' : Option (List ℕ)) : T
   pub at_end : ended ≡ true → IsAtEnd left'
   pub outcome : Outcome result read written ended
 
--- a run in the middle: the bytes read so far, each line of them done
-pub record Going (r : Holding) (left left' held held' : Option (List ℕ)) : Type 0 where
+-- a run between two pieces: each line of the bytes read so far is done, and what they print is written
+pub record Going (k : Kept) (left left' held held' : Option (List ℕ)) : Type 0 where
   pub read : List ℕ
   pub consumes : Consumes left left' read
-  pub now : StandsFor r (midway_after before read)
-  pub feeds : Feeds fed.All before (whole_from [] read) held held'
+  pub now : StandsFor k (progress_after start read)
+  pub feeds : Feeds fed.All empty (whole_from [] read) held held' []
 
 -- the status where no more is done
 abbrev pub status_at : Fed → Status

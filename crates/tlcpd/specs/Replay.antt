@@ -1,67 +1,84 @@
--- A replay in the middle of its script.
-use Rattle.std.specs.Prelude.{◌≡◌, ◌==◌, ℕ, ◌+◌, ◌<◌, List, [], ◌∷◌, ◌++◌, length, take, Option, Some, false}
+-- A script that is read piece by piece: how far it has come, and what is written and held back of what its lines print.
+use Rattle.std.specs.Prelude.{◌≡◌, ◌==◌, ℕ, ◌+◌, ◌<◌, List, [], ◌∷◌, ◌++◌, length, Option, Some, false, ◌⊎◌}
 use Rattle.std.specs.Io.KnownBytes.{Appends}
 use Rattle.ls_world.specs.World.{World, empty}
-use Rattle.ls_world.specs.Script.{whole_from, rest_from, text_of, world_of, done, first_refused, IsPrefix}
+use Rattle.ls_world.specs.Script.{whole_from, rest_from, output_of, world_of, done, first_refused, IsPrefix}
 use Rattle.tlcpd.specs.declared.engine.Engine.{Engine}
 use Rattle.tlcpd.specs.Engine.{StandsEngine}
 use Rattle.tlcpd.specs.declared.replay.Fed.{Fed}
 use Rattle.tlcpd.specs.declared.replay.Fed.TheVariants as fed
 
--- the world so far, the bytes behind the last line, and how many lines there were
-pub record Midway : Type 0 where
+-- how far a script has come: the world that its lines made, and the bytes behind the last line that ended
+pub record Progress : Type 0 where
   pub world : World
   pub carry : List ℕ
-  pub count : ℕ
-
--- what a replay holds: the engine, the bytes behind the last line, and how many lines there were
-pub record Holding : Type 0 where
-  pub engine : Engine
-  pub carry : List ℕ
-  pub count : ℕ
-
--- what is held stands for a script in the middle
-pub record StandsFor (r : Holding) (m : Midway) : Type 0 where
-  pub engine : StandsEngine r.engine m.world
-  pub carry : r.carry ≡ m.carry
-  pub count : r.count ≡ m.count
 
 -- before any byte
-abbrev pub before : Midway
-before = record { world = empty; carry = []; count = 0 }
+abbrev pub start : Progress
+start = record { world = empty; carry = [] }
 
--- after these bytes, if each line is done
-abbrev pub midway_after : Midway → List ℕ → Midway
-midway_after m bytes = record { world = world_of m.world (whole_from m.carry bytes); carry = rest_from m.carry bytes; count = m.count + length (whole_from m.carry bytes) }
+-- after these bytes, if each line that ends in them is done
+abbrev pub progress_after : Progress → List ℕ → Progress
+progress_after p bytes =
+    record { world = world_of p.world (whole_from p.carry bytes); carry = rest_from p.carry bytes }
 
 -- after the rest of a line and its end, if the line is done
-abbrev pub line_after : Midway → List ℕ → Midway
-line_after m rest = record { world = world_of m.world ((m.carry ++ rest) ∷ []); carry = []; count = m.count + 1 }
+abbrev pub line_after : Progress → List ℕ → Progress
+line_after p rest = record { world = world_of p.world ((p.carry ++ rest) ∷ []); carry = [] }
 
 -- after bytes that end no line
-abbrev pub kept_after : Midway → List ℕ → Midway
-kept_after m bytes = record m { carry = m.carry ++ bytes }
+abbrev pub rest_after : Progress → List ℕ → Progress
+rest_after p bytes = record p { carry = p.carry ++ bytes }
 
--- what an answer says of the lines that a call met, and of what it wrote
-abbrev pub Met : Fed → Midway → List (List ℕ) → List ℕ → Type 0
-Met fed.All m lines written = (done m.world lines ≡ length lines) × (written ≡ text_of m.world lines)
-Met (fed.Stopped refused line) m lines written =
-    (line ≡ m.count + done m.world lines + 1) × (done m.world lines < length lines) × (first_refused m.world lines ≡ Some refused) × (written ≡ text_of m.world lines)
-Met fed.WriteFault m lines written = IsPrefix written (text_of m.world lines)
-Met fed.NoMemory m lines written = IsPrefix written (text_of m.world lines)
+-- what a replay keeps: the engine, the bytes behind the last line that ended, and what lines print that isn't written
+pub record Kept : Type 0 where
+  pub engine : Engine
+  pub carry : List ℕ
+  pub unwritten : List ℕ
 
--- a call met these lines
-pub record Feeds (answer : Fed) (m : Midway) (lines : List (List ℕ)) (held held' : Option (List ℕ)) : Type 0 where
+-- the same, where another text is held back
+abbrev pub kept_with : Kept → List ℕ → Kept
+kept_with k text = record k { unwritten = text }
+
+-- what is kept stands for a script within a piece, whatever is held back
+pub record StandsWithin (k : Kept) (p : Progress) : Type 0 where
+  pub engine : StandsEngine k.engine p.world
+  pub carry : k.carry ≡ p.carry
+
+-- what is kept stands for a script between two pieces, where nothing is held back
+pub record StandsFor (k : Kept) (p : Progress) : Type 0 where
+  pub within : StandsWithin k p
+  pub unwritten : k.unwritten ≡ []
+
+-- what an answer says of lines that were met, from this world on, and of a text that was made of what they print
+abbrev pub Meets : Fed → World → List (List ℕ) → List ℕ → Type 0
+Meets fed.All w lines text = (done w lines ≡ length lines) × (text ≡ output_of w lines)
+Meets (fed.Stopped refused number) w lines text =
+    (number ≡ w.line + done w lines + 1) × (done w lines < length lines)
+    × (first_refused w lines ≡ Some refused) × (text ≡ output_of w lines)
+Meets fed.WriteFault w lines text = IsPrefix text (output_of w lines)
+Meets fed.NoMemory w lines text = IsPrefix text (output_of w lines)
+
+-- a call met these lines: what it wrote and what is held back behind it are together what they print
+pub record Feeds (answer : Fed) (w : World) (lines : List (List ℕ)) (held held' : Option (List ℕ)) (unwritten : List ℕ)
+    : Type 0 where
   pub written : List ℕ
   pub appends : Appends held held' written
-  pub met : Met answer m lines written
+  pub met : Meets answer w lines (written ++ unwritten)
 
--- what an answer says of a text that was to be written
-abbrev pub Puts : Fed → Option (List ℕ) → Option (List ℕ) → List ℕ → Type 0
-Puts fed.All held held' text = Appends held held' text
-Puts fed.WriteFault held held' text = (k : ℕ) × Appends held held' (take k text)
-Puts (fed.Stopped refused line) held held' text = ⊥
-Puts fed.NoMemory held held' text = ⊥
+-- a call met these lines and wrote nothing: what they print is behind what was held back before
+pub record Holds (answer : Fed) (w : World) (lines : List (List ℕ)) (unwritten unwritten' : List ℕ) : Type 0 where
+  pub text : List ℕ
+  pub behind : unwritten' ≡ unwritten ++ text
+  pub met : Meets answer w lines text
+
+-- a front part of what is held back was written: the answer is the one before, or the rest is lost by a write fault
+pub record Writes (answer before : Fed) (held held' : Option (List ℕ)) (unwritten unwritten' : List ℕ) : Type 0 where
+  pub written : List ℕ
+  pub rest : List ℕ
+  pub appends : Appends held held' written
+  pub parts : unwritten ≡ written ++ rest
+  pub ends : ((answer ≡ before) × (unwritten' ≡ rest)) ⊎ ((answer ≡ fed.WriteFault) × (unwritten' ≡ []))
 
 -- no byte of these ends a line
 abbrev pub EndsNoLine : List ℕ → Type 0

@@ -1,12 +1,12 @@
 //! The engine: one line of a script at a time.
-ghost use Rattle.std.specs.Prelude.{◌≡◌, Err, IfOk, IsErrOf};
+ghost use Rattle.std.specs.Prelude.{◌≡◌, IfOk, OnOk, IsErrOf};
 ghost use Rattle.ls_world.specs.declared.Refused.{Refused as LineCause};
 ghost use Rattle.ls_world.specs.World.{World, empty};
-ghost use Rattle.ls_world.specs.Script.{step, text_of_outs};
-ghost use Rattle.tlcpd.specs.Engine.{StandsEngine, Steps};
+ghost use Rattle.ls_world.specs.Script.{step};
+ghost use Rattle.tlcpd.specs.Engine.{StandsEngine, Steps, Refuses};
 
 use ls_hub::{Hub, StepRefused};
-use ls_script::{Out, Repeat, Script, ScriptRefused, print};
+use ls_script::{Repeat, Script, ScriptRefused};
 use ls_value::NoMemory;
 use ls_world::Refused;
 use std::alloc::Global;
@@ -59,11 +59,9 @@ impl From<NoMemory> for LineRefused {
     }
 }
 
-/// What the lines so far made: their number, what they declared, and the hub. It keeps the allocator that it was made
-/// with.
+/// What the lines so far made: their number, what they declared, and the hub.
 #[derive(Drop)]
 pub struct Engine {
-    alloc: Global,
     line: u64,
     script: Script,
     hub: Hub,
@@ -75,43 +73,37 @@ impl Engine {
         ensures { IfOk result (λ e. StandsEngine e empty) }
     {
         Ok(Engine {
-            alloc,
             line: 0,
             script: Script::new(alloc)?,
             hub: Hub::new(alloc)?,
         })
     }
 
-    /// Does a line of the script, and gives what it prints. After an error nothing is known of the engine.
-    /// A script of 2^64 - 1 lines ends as want of memory.
-    pub fn line(&mut self, line: &[u8]) -> Result<Vec<u8>, LineRefused>
-        ensures ok { IfOk result (λ text. (w : World) → StandsEngine self.old w → Steps (step w line.now) text.items self.new) }
-        ensures refused { (r : LineCause) → IsErrOf result (LineRefused.Line r) → (w : World) → StandsEngine self.old w → step w line.now ≡ Err r }
+    /// The number of the last line that came, from 1; 0 before any.
+    pub fn number(&self) -> u64
+        ensures { result ≡ self.now.line }
+    {
+        self.line
+    }
+
+    /// Does a line of the script, and appends what it prints. After an error nothing is known of the text, and of the
+    /// engine no more than the number of the line that is refused. A script of 2^64 - 1 lines ends as want of memory.
+    pub fn line(&mut self, line: &[u8], text: &mut Vec<u8>) -> Result<(), LineRefused>
+        ensures ok { OnOk result ((w : World) → StandsEngine self.old w
+            → Steps (step w line.now) text.old.items text.new.items self.new) }
+        ensures refused { (r : LineCause) → IsErrOf result (LineRefused.Line r)
+            → (w : World) → StandsEngine self.old w → Refuses w line.now r self.new }
     {
         if self.line == u64::MAX {
             return Err(LineRefused::NoMemory);
         }
-        let asked = self.script.read(line)?;
         self.line += 1;
-        match asked {
-            None => Ok(Vec::new(self.alloc)),
+        match self.script.read(line)? {
+            None => Ok(()),
             Some(Repeat { step, times }) => {
-                let outs = self.hub.step(self.line, step, times)?;
-                let text = printed(self.alloc, &outs)?;
-                Ok(text)
+                self.hub.step(self.line, step, times, text)?;
+                Ok(())
             }
         }
     }
-}
-
-/// What is printed.
-fn printed(alloc: Global, outs: &[Out]) -> Result<Vec<u8>, NoMemory>
-    ensures { IfOk result (λ text. text.items ≡ text_of_outs outs.now) }
-{
-    let mut text = Vec::new(alloc);
-    for out in outs {
-        let printed = print(alloc, out)?;
-        text.extend_from_slice(printed.as_slice())?;
-    }
-    Ok(text)
 }

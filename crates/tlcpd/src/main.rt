@@ -1,9 +1,16 @@
 //! A push server for the protocol TLCP 2.1: the program.
+//!
+//! `main` has the command line and the real input and output, and hands them to `running::run`: words, a `Source` and a
+//! `Sink` in, a `Status` out. `run` reads pieces and feeds them to a `replay::Replay`, which finds the lines in them,
+//! has each done by an `engine::Engine`, and writes what the lines of a piece print at once. `Engine::line` does one
+//! line: it reads its step and has the hub do it.
+//!
+//! What `run` promises is `Ran` in specs/. It serves no network: a script stands for the feeds and the clients.
 #![tactic(auto)]
 
-pub mod engine;
-pub mod replay;
-pub mod running;
+mod engine;
+mod replay;
+mod running;
 #[cfg(test)]
 mod tests;
 
@@ -44,7 +51,7 @@ Standard error has the cause, with the line's number at 3 and 9.
 const VERSION: &str = "tlcpd 0.1.0\n";
 
 /// The text that the words ask for, if they ask for nothing else.
-fn shown(words: &[String]) -> Option<&'static str> {
+fn fixed_text(words: &[String]) -> Option<&'static str> {
     match words {
         [word] if word.as_str() == "--help" => Some(HELP),
         [word] if word.as_str() == "--version" => Some(VERSION),
@@ -53,7 +60,7 @@ fn shown(words: &[String]) -> Option<&'static str> {
 }
 
 /// The words of the command line behind the program's name.
-fn given<R: Runtime + AllocGlobal>(rt: &R) -> io::Result<Vec<String>> {
+fn read_words<R: Runtime + AllocGlobal>(rt: &R) -> io::Result<Vec<String>> {
     let mut args = env::args(rt)?;
     let _name = args.next();
     let words = args.collect(rt.alloc())?;
@@ -61,14 +68,14 @@ fn given<R: Runtime + AllocGlobal>(rt: &R) -> io::Result<Vec<String>> {
 }
 
 /// Runs the program by the words of the command line. Words that aren't text are none of a command.
-fn started<R: Runtime + AllocGlobal + Wait>(rt: &R) -> Status {
-    let words = match given(rt) {
+fn start<R: Runtime + AllocGlobal + Wait>(rt: &R) -> Status {
+    let words = match read_words(rt) {
         Ok(words) => words,
         Err(error) if error.kind() == ErrorKind::OutOfMemory => return Status::NoMemory,
         Err(_) => return Status::Usage,
     };
     let mut sink = StdSink::new(io::writer(rt));
-    if let Some(text) = shown(&words) {
+    if let Some(text) = fixed_text(&words) {
         return match write_all(&mut sink, text.as_bytes()) {
             Put::Taken(_) => Status::Ok,
             Put::Failed => Status::WriteFault,
@@ -79,7 +86,7 @@ fn started<R: Runtime + AllocGlobal + Wait>(rt: &R) -> Status {
 }
 
 fn main(rt: HostRuntime) -> ExitCode {
-    let status = started(&rt);
+    let status = start(&rt);
     if status != Status::Ok {
         let _unwritten = eprintln!(rt; "tlcpd: {status}");
     }

@@ -3,7 +3,7 @@ ghost use Rattle.std.specs.Prelude.{◌≡◌, ◌⊎◌, ◌↔◌, IsTrue, map
 ghost use Rattle.std.specs.String.{string_bytes};
 ghost use Rattle.ls_outside.specs.Causes.{Rose, RoseBy};
 ghost use Rattle.tlcpd.specs.Ran.{Ran, IsReplay, status_at, number_at};
-ghost use Rattle.tlcpd.specs.Replay.{StandsFor, before};
+ghost use Rattle.tlcpd.specs.Replay.{StandsFor, start};
 
 use crate::replay::{Fed, Replay};
 use ls_outside::{Got, Sink, Source};
@@ -124,8 +124,9 @@ fn run_script<R: Wait, S: Source, K: Sink>(
     sink: &mut K,
 ) -> Status
     ensures not_usage { ¬ (result ≡ Status.Usage) }
-    ensures ran { Ran result (S.left source.old) (S.left source.new) (K.held sink.old) (K.held sink.new) }
-    ensures read_fault { result ≡ Status.ReadFault → Rose (S.faults source.old) (S.faults source.new) ⊎ RoseBy 3000 (S.waits source.old) (S.waits source.new) }
+    ensures ran { Ran result (S.unread source.old) (S.unread source.new) (K.held sink.old) (K.held sink.new) }
+    ensures read_fault { result ≡ Status.ReadFault → Rose (S.faults source.old) (S.faults source.new)
+        ⊎ RoseBy 3000 (S.waits source.old) (S.waits source.new) }
     ensures write_fault { result ≡ Status.WriteFault → Rose (K.faults sink.old) (K.faults sink.new) }
 {
     match Replay::new(alloc) {
@@ -141,10 +142,11 @@ fn play<R: Wait, S: Source, K: Sink>(
     sink: &mut K,
     mut replay: Replay,
 ) -> Status
-    requires { StandsFor replay before }
+    requires { StandsFor replay start }
     ensures not_usage { ¬ (result ≡ Status.Usage) }
-    ensures ran { Ran result (S.left source.old) (S.left source.new) (K.held sink.old) (K.held sink.new) }
-    ensures read_fault { result ≡ Status.ReadFault → Rose (S.faults source.old) (S.faults source.new) ⊎ RoseBy 3000 (S.waits source.old) (S.waits source.new) }
+    ensures ran { Ran result (S.unread source.old) (S.unread source.new) (K.held sink.old) (K.held sink.new) }
+    ensures read_fault { result ≡ Status.ReadFault → Rose (S.faults source.old) (S.faults source.new)
+        ⊎ RoseBy 3000 (S.waits source.old) (S.waits source.new) }
     ensures write_fault { result ≡ Status.WriteFault → Rose (K.faults sink.old) (K.faults sink.new) }
 {
     let mut piece = [0u8; PIECE];
@@ -173,8 +175,8 @@ fn play<R: Wait, S: Source, K: Sink>(
 
 /// Runs the program by its words, which don't hold its name.
 ///
-/// `replay` reads a script from the source to its end, does its lines one by one, and writes what each prints before
-/// the next one is done. Other words are answered `Status::Usage`.
+/// `replay` reads a script from the source to its end, piece by piece, does its lines one by one, and writes what the
+/// lines of a piece print before the next one is read. Other words are answered `Status::Usage`.
 pub fn run<R: Wait, S: Source, K: Sink>(
     rt: &R,
     alloc: Global,
@@ -183,8 +185,9 @@ pub fn run<R: Wait, S: Source, K: Sink>(
     sink: &mut K,
 ) -> Status
     ensures usage { (result ≡ Status.Usage) ↔ ¬ IsReplay (map string_bytes words.now) }
-    ensures ran { Ran result (S.left source.old) (S.left source.new) (K.held sink.old) (K.held sink.new) }
-    ensures read_fault { result ≡ Status.ReadFault → Rose (S.faults source.old) (S.faults source.new) ⊎ RoseBy 3000 (S.waits source.old) (S.waits source.new) }
+    ensures ran { Ran result (S.unread source.old) (S.unread source.new) (K.held sink.old) (K.held sink.new) }
+    ensures read_fault { result ≡ Status.ReadFault → Rose (S.faults source.old) (S.faults source.new)
+        ⊎ RoseBy 3000 (S.waits source.old) (S.waits source.new) }
     ensures write_fault { result ≡ Status.WriteFault → Rose (K.faults sink.old) (K.faults sink.new) }
 {
     if !is_replay(words) {

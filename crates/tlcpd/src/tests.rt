@@ -1,5 +1,5 @@
 //! What no contract says: the words that `main` answers.
-use crate::{HELP, shown};
+use crate::{HELP, fixed_text};
 use std::alloc::{AllocError, Global};
 use std::test::Fail;
 
@@ -23,7 +23,7 @@ fn words_alone(rt: HostRuntime) -> Result<(), Fail> {
     ];
     for (words, text) in cases {
         let words = words_of(alloc, words)?;
-        assert_eq!(rt; shown(&words), text);
+        assert_eq!(rt; fixed_text(&words), text);
     }
     Ok(())
 }

@@ -4,8 +4,9 @@ use super::{Draws, entry, same_cut, word};
 use crate::made::cell;
 use ls_command::CommandBuffer;
 use ls_event::{Entry, Event, KeyedRow, KeyedRows, Snapshot, Stored, Taken};
-use ls_plain::keyed::{row_of, text_at};
-use ls_plain::{CommandShape, CommandSlot, KeyPlace, plain_command_cut, plain_keyed};
+use ls_plain::{
+    CommandShape, CommandSlot, KeyTurn, plain_command_cut, plain_keyed, row_of, text_at,
+};
 use ls_value::{Cells, NoMemory, Row};
 use std::alloc::Global;
 use std::test::Fail;
@@ -23,7 +24,7 @@ struct CommandRun {
     history: Vec<Entry>,
     buffer: CommandBuffer,
     slot: CommandSlot,
-    noted: Vec<KeyPlace>,
+    turns: Vec<KeyTurn>,
 }
 
 /// A drawn key, of four. One is the beginning of another.
@@ -122,7 +123,7 @@ fn drawn_run(alloc: Global, draws: &mut Draws) -> Result<CommandRun, Fail> {
         shape: SHAPE,
         base,
         last: base,
-        place: base,
+        cursor: base,
         owed: owed(&rows),
         ends: rows.is_some(),
     };
@@ -130,11 +131,11 @@ fn drawn_run(alloc: Global, draws: &mut Draws) -> Result<CommandRun, Fail> {
         history,
         buffer: joined(alloc, base, rows)?,
         slot,
-        noted: Vec::new(alloc),
+        turns: Vec::new(alloc),
     })
 }
 
-/// The row that an event leaves its key.
+/// The row that the key of an event has behind it.
 fn row_after(alloc: Global, rows: &[KeyedRow], event: &Event) -> Result<Option<Row>, Fail> {
     match event {
         Event::Update(cells) => {
@@ -149,13 +150,13 @@ impl CommandRun {
     /// The next cut, from the whole history.
     fn plain(&self, alloc: Global) -> Result<Option<Taken>, Fail> {
         let (slot, events) = (self.slot, self.history.len() as u64);
-        if slot.place > slot.last || slot.last > events || slot.base > events {
+        if slot.cursor > slot.last || slot.last > events || slot.base > events {
             return Err(Fail::new("no such slot"));
         }
-        Ok(plain_command_cut(alloc, &self.history, &slot, &self.noted)?)
+        Ok(plain_command_cut(alloc, &self.history, &slot, &self.turns)?)
     }
 
-    /// The event of the next number, with the row that it leaves its key.
+    /// The event of the next number, with the row that its key then has.
     fn stored(&self, alloc: Global, no: u64) -> Result<Stored, Fail> {
         if no == 0 || no > self.history.len() as u64 {
             return Err(Fail::new("no such number"));
@@ -186,13 +187,13 @@ impl CommandRun {
         match taken {
             Taken::Key { key, row: _, upto } => {
                 let key = key.copy(alloc)?;
-                let told = KeyPlace { key, place: *upto };
-                self.noted.insert(0, told)?;
+                let turn = KeyTurn { key, cursor: *upto };
+                self.turns.insert(0, turn)?;
                 self.slot.owed = self.slot.owed.saturating_sub(1);
             }
             Taken::Cleared { upto } => {
-                self.slot.place = *upto;
-                self.noted.clear();
+                self.slot.cursor = *upto;
+                self.turns.clear();
             }
             Taken::EndOfSnapshot => {
                 self.slot.owed = 0;
@@ -206,11 +207,11 @@ impl CommandRun {
     /// Whether the next cut is that of the plain program; it is passed.
     fn agrees(&mut self, alloc: Global) -> Result<bool, Fail> {
         let plain = self.plain(alloc)?;
-        let told = ls_event::take_one(&mut self.buffer)?;
-        if let Some(taken) = &told {
+        let taken = ls_event::take_one(&mut self.buffer)?;
+        if let Some(taken) = &taken {
             self.pass(alloc, taken)?;
         }
-        Ok(same_cut(&plain, &told))
+        Ok(same_cut(&plain, &taken))
     }
 }
 
@@ -228,7 +229,7 @@ fn command_agrees(alloc: Global, draws: &mut Draws) -> Result<bool, Fail> {
 }
 
 #[test]
-fn command_buffers_tell_what_the_plain_program_tells(rt: HostRuntime) -> Result<(), Fail> {
+fn command_buffers_give_the_cuts_of_the_plain_program(rt: HostRuntime) -> Result<(), Fail> {
     let alloc = rt.alloc();
     let mut draws = Draws { state: 20_260_104 };
     for i in 0..600 {

@@ -1,9 +1,10 @@
 //! The buffer of mode DISTINCT and its plain program.
 ghost use Rattle.std.specs.Prelude.{◌<◌, ◌≤◌};
+ghost use Rattle.ls_event.specs.declared.limits.TheConstants.{MOST_BUFFER_SIZE as AS_MANY};
 
 use super::{Draws, history, same_cut};
 use ls_distinct::DistinctBuffer;
-use ls_event::{Entry, RowList, Snapshot, Taken};
+use ls_event::{Entry, MOST_BUFFER_SIZE, MOST_SNAPSHOT_ROWS, RowList, Snapshot, Taken};
 use ls_plain::{DistinctSlot, plain_distinct_cut, plain_recent_rows};
 use ls_value::Row;
 use std::alloc::Global;
@@ -42,7 +43,7 @@ fn joined(
     owed: u32,
 ) -> Result<DistinctBuffer, Fail>
     requires some { 0 < size }
-    requires most { size ≤ 256 }
+    requires most { size ≤ AS_MANY }
 {
     match rows {
         None => Ok(DistinctBuffer::new(alloc, base, size, None, 0)?),
@@ -60,7 +61,7 @@ fn joined(
 fn drawn_owed(draws: &mut Draws, rows: &Option<Vec<Row>>) -> u32 {
     match rows {
         None => 0,
-        Some(rows) => draws.below(rows.len().min(32) as u64 + 1) as u32,
+        Some(rows) => draws.below(rows.len().min(MOST_SNAPSHOT_ROWS) as u64 + 1) as u32,
     }
 }
 
@@ -70,7 +71,7 @@ fn drawn_run(alloc: Global, draws: &mut Draws) -> Result<DistinctRun, Fail> {
     let (base, size) = (draws.below(12), draws.below(8) as u32 + 1);
     let rows = drawn_rows(alloc, draws, &history, base)?;
     let (owed, ends) = (drawn_owed(draws, &rows), rows.is_some());
-    if size == 0 || size > 256 {
+    if size == 0 || size as usize > MOST_BUFFER_SIZE {
         return Err(Fail::new("no such slot"));
     }
     let buffer = joined(alloc, base, size, rows, owed)?;
@@ -78,7 +79,7 @@ fn drawn_run(alloc: Global, draws: &mut Draws) -> Result<DistinctRun, Fail> {
         size: size as u64,
         base,
         last: base,
-        place: base,
+        cursor: base,
         owed: owed as u64,
         ends,
     };
@@ -93,7 +94,7 @@ impl DistinctRun {
     /// The next cut, from the whole history.
     fn plain(&self, alloc: Global) -> Result<Option<Taken>, Fail> {
         let (slot, events) = (self.slot, self.history.len() as u64);
-        if slot.place > slot.last || slot.last > events || slot.base > events {
+        if slot.cursor > slot.last || slot.last > events || slot.base > events {
             return Err(Fail::new("no such slot"));
         }
         Ok(plain_distinct_cut(alloc, &self.history, &slot)?)
@@ -114,10 +115,10 @@ impl DistinctRun {
     fn pass(&mut self, taken: &Taken) {
         match taken {
             Taken::Row { row: _, upto } => {
-                self.slot.place = *upto;
+                self.slot.cursor = *upto;
                 self.slot.owed = self.slot.owed.saturating_sub(1);
             }
-            Taken::Cleared { upto } => self.slot.place = *upto,
+            Taken::Cleared { upto } => self.slot.cursor = *upto,
             Taken::EndOfSnapshot => {
                 self.slot.owed = 0;
                 self.slot.ends = false;
@@ -129,11 +130,11 @@ impl DistinctRun {
     /// Whether the next cut is that of the plain program; it is passed.
     fn agrees(&mut self, alloc: Global) -> Result<bool, Fail> {
         let plain = self.plain(alloc)?;
-        let told = ls_event::take_one(&mut self.buffer)?;
-        if let Some(taken) = &told {
+        let taken = ls_event::take_one(&mut self.buffer)?;
+        if let Some(taken) = &taken {
             self.pass(taken);
         }
-        Ok(same_cut(&plain, &told))
+        Ok(same_cut(&plain, &taken))
     }
 }
 
@@ -151,7 +152,7 @@ fn distinct_agrees(alloc: Global, draws: &mut Draws) -> Result<bool, Fail> {
 }
 
 #[test]
-fn distinct_buffers_tell_what_the_plain_program_tells(rt: HostRuntime) -> Result<(), Fail> {
+fn distinct_buffers_give_the_cuts_of_the_plain_program(rt: HostRuntime) -> Result<(), Fail> {
     let alloc = rt.alloc();
     let mut draws = Draws { state: 20_260_103 };
     for i in 0..600 {

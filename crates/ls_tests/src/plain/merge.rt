@@ -1,49 +1,48 @@
 //! The buffer of mode MERGE and its plain program.
 
 use super::{Draws, history, same_cut, upto};
-use ls_event::{Entry, Taken};
+use ls_event::{Entry, MOST_BUFFER_SIZE, Taken};
 use ls_merge::MergeBuffer;
-use ls_plain::fitting::{all_fit, fits};
-use ls_plain::{merged_row, plain_merge_cut};
+use ls_plain::{MergeSlot, all_fit, fits, merged_row, plain_merge_cut};
 use std::alloc::Global;
 use std::test::Fail;
 
 /// A slot of mode MERGE, by its buffer and by its history.
 #[derive(Drop)]
-struct MergeSlot {
+struct MergeRun {
     history: Vec<Entry>,
     buffer: MergeBuffer,
     size: u64,
-    place: u64,
-    given: bool,
+    cursor: u64,
+    has_started: bool,
 }
 
 /// A drawn slot of mode MERGE, which joins a drawn history.
-fn drawn_slot(alloc: Global, draws: &mut Draws) -> Result<MergeSlot, Fail> {
+fn drawn_slot(alloc: Global, draws: &mut Draws) -> Result<MergeRun, Fail> {
     let history = history(alloc, draws, 12)?;
     let (base, size, owed) = (
         draws.below(5),
         draws.below(4) as u32 + 1,
         draws.below(2) == 0,
     );
-    if base as usize > history.len() || size == 0 || size > 256 {
+    if base as usize > history.len() || size == 0 || size as usize > MOST_BUFFER_SIZE {
         return Err(Fail::new("no such slot"));
     }
     if all_fit(&history, 2) {
         let state = merged_row(alloc, 2, &history, base as usize)?;
         let buffer = MergeBuffer::new(alloc, base, size, state, owed)?;
-        return Ok(MergeSlot {
+        return Ok(MergeRun {
             history,
             buffer,
             size: size as u64,
-            place: if owed { base.saturating_sub(1) } else { base },
-            given: false,
+            cursor: if owed { base.saturating_sub(1) } else { base },
+            has_started: false,
         });
     }
     Err(Fail::new("no such slot"))
 }
 
-impl MergeSlot {
+impl MergeRun {
     /// The next cut, from the whole history.
     fn plain(&self, alloc: Global) -> Result<Option<Taken>, Fail> {
         let last = self.buffer.last();
@@ -51,15 +50,14 @@ impl MergeSlot {
             return Err(Fail::new("no such slot"));
         }
         if all_fit(&self.history, 2) {
-            return Ok(plain_merge_cut(
-                alloc,
-                &self.history,
+            let slot = MergeSlot {
+                fields: 2,
+                size: self.size,
                 last,
-                self.place,
-                self.size,
-                2,
-                self.given,
-            )?);
+                cursor: self.cursor,
+                has_started: self.has_started,
+            };
+            return Ok(plain_merge_cut(alloc, &self.history, &slot)?);
         }
         Err(Fail::new("no such slot"))
     }
@@ -80,12 +78,12 @@ impl MergeSlot {
     /// Whether the next cut is that of the plain program; it is passed.
     fn agrees(&mut self, alloc: Global) -> Result<bool, Fail> {
         let plain = self.plain(alloc)?;
-        let told = ls_event::take_one(&mut self.buffer)?;
-        if let Some(taken) = &told {
-            self.place = upto(taken);
-            self.given = true;
+        let taken = ls_event::take_one(&mut self.buffer)?;
+        if let Some(taken) = &taken {
+            self.cursor = upto(taken);
+            self.has_started = true;
         }
-        Ok(same_cut(&plain, &told))
+        Ok(same_cut(&plain, &taken))
     }
 }
 
@@ -103,7 +101,7 @@ fn merge_agrees(alloc: Global, draws: &mut Draws) -> Result<bool, Fail> {
 }
 
 #[test]
-fn merge_buffers_tell_what_the_plain_program_tells(rt: HostRuntime) -> Result<(), Fail> {
+fn merge_buffers_give_the_cuts_of_the_plain_program(rt: HostRuntime) -> Result<(), Fail> {
     let alloc = rt.alloc();
     let mut draws = Draws { state: 20_260_101 };
     for i in 0..600 {

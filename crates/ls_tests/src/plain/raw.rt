@@ -9,13 +9,13 @@ use std::test::Fail;
 
 /// A slot of mode RAW, by its buffer and by its history.
 #[derive(Drop)]
-struct RawSlot {
+struct RawRun {
     history: Vec<Entry>,
     buffer: RawBuffer,
-    place: u64,
+    cursor: u64,
 }
 
-impl RawSlot {
+impl RawRun {
     /// Enqueues the next event, where there is one.
     fn enqueue(&mut self) -> Result<(), Fail> {
         let last = self.buffer.last();
@@ -36,15 +36,15 @@ impl RawSlot {
     /// Whether the next cut is that of the plain program; it is passed.
     fn agrees(&mut self, alloc: Global) -> Result<bool, Fail> {
         let last = self.buffer.last();
-        if last > self.history.len() as u64 || self.place > last {
+        if last > self.history.len() as u64 || self.cursor > last {
             return Err(Fail::new("no such slot"));
         }
-        let plain = plain_raw_cut(alloc, &self.history, last, self.place)?;
-        let told = ls_event::take_one(&mut self.buffer)?;
-        if let Some(taken) = &told {
-            self.place = upto(taken);
+        let plain = plain_raw_cut(alloc, &self.history, last, self.cursor)?;
+        let taken = ls_event::take_one(&mut self.buffer)?;
+        if let Some(taken) = &taken {
+            self.cursor = upto(taken);
         }
-        Ok(same_cut(&plain, &told))
+        Ok(same_cut(&plain, &taken))
     }
 }
 
@@ -52,10 +52,10 @@ impl RawSlot {
 fn raw_agrees(alloc: Global, draws: &mut Draws, events: u64, burst: u64) -> Result<bool, Fail> {
     let history = history(alloc, draws, events)?;
     let base = draws.below(5);
-    let mut slot = RawSlot {
+    let mut slot = RawRun {
         history,
         buffer: RawBuffer::new(alloc, base)?,
-        place: base,
+        cursor: base,
     };
     for _ in 0..10 {
         let times = draws.below(burst);
@@ -68,7 +68,7 @@ fn raw_agrees(alloc: Global, draws: &mut Draws, events: u64, burst: u64) -> Resu
 }
 
 #[test]
-fn raw_buffers_tell_what_the_plain_program_tells(rt: HostRuntime) -> Result<(), Fail> {
+fn raw_buffers_give_the_cuts_of_the_plain_program(rt: HostRuntime) -> Result<(), Fail> {
     let alloc = rt.alloc();
     let mut draws = Draws { state: 20_260_102 };
     for i in 0..600 {

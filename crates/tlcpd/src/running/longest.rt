@@ -9,7 +9,7 @@ pub(crate) type Part = (&'static str, u32, u32);
 /// A script, and what it prints.
 pub(crate) type Long = (&'static [Part], &'static [Part]);
 
-/// 300 rows in mode RAW, each enqueued at once: of the 300, those past 256 are lost, and this is told.
+/// 300 rows in mode RAW, each enqueued at once: of the 300, those past 256 are lost, and a line says so.
 pub(crate) const RAW_300: Long = (
     &[
         ("item q MERGE x\nopen c\nadd c 1 q x RAW\n", 0, 1),
@@ -82,6 +82,38 @@ pub(crate) const KEYS: Long = (
         ),
         ("c:U,1,1,#|\n", 1002, 2025),
         ("c:EOS,1,1\n-idle\n", 0, 1),
+    ],
+);
+
+/// 256 rows in mode RAW, which together are longer than what is held back within a piece.
+pub(crate) const WIDE: Long = (
+    &[
+        ("item q MERGE x\nopen c\nadd c 1 q x RAW\n", 0, 1),
+        (
+            "pub 1 # q x=\
+            ####################################################################################################\
+            \nenq c 1 1\n",
+            1,
+            257,
+        ),
+        ("take c 300\ntake c\n", 0, 1),
+    ],
+    &[
+        ("c:REQOK,3\n", 0, 1),
+        ("-no #\n-moved #\n", 1, 257),
+        (
+            "c:CONOK,S1,50000,5000,*\nc:SERVNAME,tlcpd\nc:CONS,unlimited\n",
+            0,
+            1,
+        ),
+        ("c:SUBOK,1,1,1\nc:CONF,1,unlimited,unfiltered\n", 0, 1),
+        (
+            "c:U,1,1,\
+            ####################################################################################################\n",
+            1,
+            257,
+        ),
+        ("-idle\n-idle\n", 0, 1),
     ],
 );
 

@@ -1,6 +1,8 @@
-//! Runs over memory: worked scripts, the greatest sizes, and reads and writes that fail, at each place in turn.
+//! Runs over memory: worked scripts, the greatest sizes, and reads and writes that fail, each in turn.
 use super::*;
-use crate::running::longest::{BACKLOG, BYTES, KEYS, Long, RAW_256, RAW_300, SILENT, text_of};
+use crate::running::longest::{
+    BACKLOG, BYTES, KEYS, Long, RAW_256, RAW_300, SILENT, WIDE, text_of,
+};
 use crate::running::worked::{QUOTE, QUOTE_PRINTED, REFUSED, Row, WORKED};
 use crate::tests::words_of;
 use ls_outside::{Call, MemSink, MemSource};
@@ -76,11 +78,11 @@ fn prints<R: Wait>(
     Ok(ended == status && sink.bytes() == printed)
 }
 
-/// The first row that is answered otherwise, by its place from 0.
+/// The first row that is answered otherwise, by its number from 0.
 fn first_unlike<R: Wait>(rt: &R, alloc: Global, rows: &[Row]) -> Result<Option<usize>, AllocError> {
-    for (place, (script, status, printed)) in rows.iter().enumerate() {
+    for (number, (script, status, printed)) in rows.iter().enumerate() {
         if !prints(rt, alloc, script, *status, printed)? {
-            return Ok(Some(place));
+            return Ok(Some(number));
         }
     }
     Ok(None)
@@ -94,7 +96,7 @@ fn worked_scripts(rt: HostRuntime) -> Result<(), Fail> {
 }
 
 /// Scripts that come in parts, whose reads find no byte for long, or whose reads or writes fail.
-const CASES: [Case; 6] = [
+const CASES: [Case; 7] = [
     Case {
         script: QUOTE,
         cuts: &[1, 26, 27, 28, 33, 34],
@@ -139,17 +141,25 @@ const CASES: [Case; 6] = [
         script: b"item q MERGE x\npub 1 1 q x=A\npub 1 2 q x=B\n",
         cuts: &[],
         reads: &[],
-        writes: &[(Call::Go, 1), (Call::Part(4), 1), (Call::Fail, 1)],
+        writes: &[(Call::Part(10), 1), (Call::Fail, 1)],
         status: Status::WriteFault,
         written: b"-no 1\n-no ",
     },
+    Case {
+        script: b"item q MERGE x\npub 1 1 q x=A\nstop\n",
+        cuts: &[],
+        reads: &[],
+        writes: &[(Call::Part(2), 1), (Call::Fail, 1)],
+        status: Status::WriteFault,
+        written: b"-n",
+    },
 ];
 
-/// The first case that ends otherwise, by its place from 0.
+/// The first case that ends otherwise, by its number from 0.
 fn first_wrong<R: Wait>(rt: &R, alloc: Global) -> Result<Option<usize>, AllocError> {
-    for (place, case) in CASES.iter().enumerate() {
+    for (number, case) in CASES.iter().enumerate() {
         if !holds(rt, alloc, case)? {
-            return Ok(Some(place));
+            return Ok(Some(number));
         }
     }
     Ok(None)
@@ -168,12 +178,12 @@ fn is_printed<R: Wait>(rt: &R, alloc: Global, long: Long) -> Result<bool, Fail> 
     Ok(prints(rt, alloc, &script, Status::Ok, &printed)?)
 }
 
-/// The first script of the greatest sizes that prints something else, by its place from 0.
+/// The first script of the greatest sizes that prints something else, by its number from 0.
 fn first_long_unlike<R: Wait>(rt: &R, alloc: Global) -> Result<Option<usize>, Fail> {
-    let long = [RAW_300, RAW_256, KEYS, SILENT, BACKLOG, BYTES];
-    for (place, long) in long.into_iter().enumerate() {
+    let long = [RAW_300, RAW_256, KEYS, WIDE, SILENT, BACKLOG, BYTES];
+    for (number, long) in long.into_iter().enumerate() {
         if !is_printed(rt, alloc, long)? {
-            return Ok(Some(place));
+            return Ok(Some(number));
         }
     }
     Ok(None)
@@ -215,7 +225,7 @@ fn read_fails<R: Wait>(
     Ok((status, prints(rt, alloc, lines, Status::Ok, sink.bytes())?))
 }
 
-/// How many reads the longest script takes, where each of them that fails is told as it must be.
+/// How many reads the longest script takes, where each of them that fails is answered as it must be.
 fn reads_until_ok<R: Wait>(rt: &R, alloc: Global) -> Result<Option<usize>, Fail> {
     let script = text_of(alloc, RAW_300.0)?;
     for reads in 0..1000 {
@@ -239,11 +249,10 @@ fn each_read_fails_in_turn(rt: HostRuntime) -> Result<(), Fail> {
 fn write_fails<R: Wait>(
     rt: &R,
     alloc: Global,
-    script: &[u8],
+    source: MemSource,
     printed: &[u8],
     writes: usize,
 ) -> Result<(Status, Option<usize>), AllocError> {
-    let source = source_of(alloc, script, &[], &[])?;
     let (status, sink) = played(rt, alloc, source, &[(Call::Go, writes), (Call::Fail, 1)])?;
     let written = sink.bytes();
     Ok((
@@ -256,16 +265,18 @@ fn write_fails<R: Wait>(
     ))
 }
 
-/// How many writes a script takes, where each of them that fails is told as it must be.
+/// How many writes a script takes whose reads go so, where each write that fails is answered as it must be.
 fn writes_of<R: Wait>(
     rt: &R,
     alloc: Global,
     script: &[u8],
+    reads: &[Calls],
     printed: &[u8],
 ) -> Result<Option<usize>, AllocError> {
     let mut next = 0;
     for writes in 0..1000 {
-        match write_fails(rt, alloc, script, printed, writes)? {
+        let source = source_of(alloc, script, &[], reads)?;
+        match write_fails(rt, alloc, source, printed, writes)? {
             (Status::Ok, Some(len)) if len == printed.len() => return Ok(Some(writes)),
             (Status::WriteFault, Some(len)) if len >= next && len < printed.len() => next = len + 1,
             _ => return Ok(None),
@@ -274,16 +285,34 @@ fn writes_of<R: Wait>(
     Ok(None)
 }
 
-/// How many writes the longest script takes, where each of them that fails is told as it must be.
-fn writes_until_ok<R: Wait>(rt: &R, alloc: Global) -> Result<Option<usize>, Fail> {
-    let script = text_of(alloc, RAW_300.0)?;
-    let printed = text_of(alloc, RAW_300.1)?;
-    Ok(writes_of(rt, alloc, &script, &printed)?)
+/// The same of a script of the greatest sizes.
+fn writes_of_long<R: Wait>(
+    rt: &R,
+    alloc: Global,
+    long: Long,
+    reads: &[Calls],
+) -> Result<Option<usize>, Fail> {
+    let script = text_of(alloc, long.0)?;
+    let printed = text_of(alloc, long.1)?;
+    Ok(writes_of(rt, alloc, &script, reads, &printed)?)
+}
+
+#[test]
+fn a_piece_is_written_at_once(rt: HostRuntime) -> Result<(), Fail> {
+    let alloc = rt.alloc();
+    assert_eq!(rt; writes_of(&rt, alloc, QUOTE, &[], QUOTE_PRINTED)?, Some(1));
+    assert_eq!(rt; writes_of_long(&rt, alloc, RAW_300, &[])?, Some(2));
+    Ok(())
 }
 
 #[test]
 fn each_write_fails_in_turn(rt: HostRuntime) -> Result<(), Fail> {
-    assert_eq!(rt; writes_until_ok(&rt, rt.alloc())?, Some(602));
+    let alloc = rt.alloc();
+    assert_eq!(rt;
+        writes_of_long(&rt, alloc, RAW_300, &[(Call::Part(PART), 129)])?,
+        Some(129)
+    );
+    assert_eq!(rt; writes_of_long(&rt, alloc, WIDE, &[])?, Some(10));
     Ok(())
 }
 

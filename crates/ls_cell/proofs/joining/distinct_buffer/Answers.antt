@@ -9,4 +9,5 @@ new-requires-clause-kind c = (recent_first c.args.item.now.shape _ c.requires.ki
 
 pub returns : goal.returns
 returns c =
-    distinct_joins _ _ _ _ _ _ _ c.requires.kind c.in_ok-first.ensures.fits c.in_ok-first.ensures.state c.rows_owed-rows.ensures c.in_ok-buffer.ensures.ok c.in_ok-buffer.ensures.stands
+    distinct_joins _ _ _ _ _ _ _ c.requires.kind c.in_ok-first.ensures.fits c.in_ok-first.ensures.state
+    c.rows_owed-rows.ensures c.in_ok-buffer.ensures.ok c.in_ok-buffer.ensures.stands

@@ -6,4 +6,5 @@ use Rattle.ls_config.proofs.fields.names_said.Given as goal
 -- the names so far, and the texts left decide
 abbrev pub invariant-loop-text : goal.invariant-loop-text
 invariant-loop-text l =
-    (l.names.items ≡ map (λ n. n.now) (take l.text-index l.texts)) × (list_all is_name (map (λ n. n.now) (drop l.text-index l.texts)) ≡ list_all is_name (map (λ n. n.now) l.texts))
+    (l.names.items ≡ map (λ n. n.now) (take l.text-index l.texts)) × (list_all is_name (map (λ n. n.now) (drop l.text-index l.texts))
+    ≡ list_all is_name (map (λ n. n.now) l.texts))

@@ -7,4 +7,4 @@ use Rattle.ls_hub.proofs.hub.enqueues.Given as goal
 
 abbrev pub invariant-loop : goal.invariant-loop
 invariant-loop l = (w : World) (connection : ℕ) (called : List ℕ) → StandsParts l.initial.item l.session w → IsOf w connection called
-    → Going (enqueue_once connection l.sub l.place) w connection called l.counter l.outs.items l.item l.session
+    → Going (enqueue_once connection l.sub l.rank) w connection called l.counter l.initial.text.items l.text.items l.item l.session

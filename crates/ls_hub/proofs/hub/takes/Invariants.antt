@@ -7,4 +7,4 @@ use Rattle.ls_hub.proofs.hub.takes.Given as goal
 
 abbrev pub invariant-loop : goal.invariant-loop
 invariant-loop l = (w : World) (connection : ℕ) → StandsParts l.initial.item l.initial.session w → IsOf w connection l.name
-    → Going (take_once connection) w connection l.name l.counter l.outs.items l.item l.session
+    → Going (take_once connection) w connection l.name l.counter l.initial.text.items l.text.items l.item l.session

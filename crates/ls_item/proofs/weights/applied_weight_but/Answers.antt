@@ -10,5 +10,6 @@ behind xs n = take_all (length xs - n) (drop n xs) (omega (arith, length-drop n 
 pub returns : goal.returns
 returns c =
     let whole = weight_without c.args.row.now c.args.cells.now c.args.place c.requires.cells c.requires.within in
-    let rest = rw (behind c.args.row.now (c.args.place + 1), behind c.args.cells.now (c.args.place + 1)) at c.applied_weight.ensures in
+    let rest = rw (behind c.args.row.now (c.args.place + 1), behind c.args.cells.now (c.args.place + 1)) at
+    c.applied_weight.ensures in
     omega (arith, whole, c.applied_weight-before.ensures, rest, c.saturating_add.ensures)

@@ -1,4 +1,4 @@
-use Rattle.ls_laws.proofs.RawTold.{slot_accounts}
+use Rattle.ls_laws.proofs.RawTruths.{slot_accounts}
 use Rattle.ls_laws.proofs.law.each_update_is_told_or_counted.Goals as goal
 
 pub returns : goal.returns

@@ -1,4 +1,4 @@
-use Rattle.ls_laws.proofs.Told.{keys_stay}
+use Rattle.ls_laws.proofs.Settled.{keys_stay}
 use Rattle.ls_laws.proofs.law.no_key_goes_back.Goals as goal
 
 pub returns : goal.returns

@@ -1,4 +1,4 @@
-use Rattle.ls_laws.proofs.RawTold.{settled_accounts}
+use Rattle.ls_laws.proofs.RawTruths.{settled_accounts}
 use Rattle.ls_laws.proofs.law.settled_clients_know_of_each_update.Goals as goal
 
 pub returns : goal.returns

@@ -4,4 +4,5 @@ use Rattle.ls_line.proofs.pieces.comma.Given as goal
 
 -- there was no comma yet
 abbrev pub invariant-loop-i : goal.invariant-loop-i
-invariant-loop-i l = (take l.i l.bytes ++ first_part (drop l.i l.bytes) ≡ first_part l.bytes) × (behind (drop l.i l.bytes) ≡ behind l.bytes)
+invariant-loop-i l = (take l.i l.bytes ++ first_part (drop l.i l.bytes) ≡ first_part l.bytes)
+    × (behind (drop l.i l.bytes) ≡ behind l.bytes)

@@ -7,5 +7,5 @@ use Rattle.ls_plain.proofs.command.touch_all.Given as goal
 -- the queue behind the rest of the events is that behind all
 abbrev pub invariant-loop-i : goal.invariant-loop-i
 invariant-loop-i l =
-    queue_from (command_slot l.slot l.noted) l.queue.items l.i (between l.history l.i l.slot.last)
-    ≡ queue_since l.history (command_slot l.slot l.noted) l.initial.queue.items
+    queue_from (command_slot l.slot l.turns) l.queue.items l.i (between l.history l.i l.slot.last)
+    ≡ queue_since l.history (command_slot l.slot l.turns) l.initial.queue.items

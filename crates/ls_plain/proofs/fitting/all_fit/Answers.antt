@@ -10,4 +10,7 @@ loop-i-preserved c =
     (c.fits-fit.ensures.0 c.if-fit.true)
 
 pub returns : goal.returns
-returns c = (λ t. subst (All (λ e. HasFields c.args.fields e.event)) (take_all c.loop-i.i c.args.history.now (omega (arith, c.loop-i-test.false))) c.loop-i.invariant, λ all. refl)
+returns c = (
+  λ t. subst (All (λ e. HasFields c.args.fields e.event)) (take_all c.loop-i.i c.args.history.now (omega (arith, c.loop-i-test.false))) c.loop-i.invariant,
+  λ all. refl,
+)

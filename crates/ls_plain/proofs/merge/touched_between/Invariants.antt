@@ -7,4 +7,4 @@ use Rattle.ls_plain.proofs.merge.touched_between.Given as goal
 abbrev pub invariant-loop-i : goal.invariant-loop-i
 invariant-loop-i l =
     (length l.touched.items ≡ l.fields)
-    × (touched_after_all l.touched.items (between l.history l.i l.upto) ≡ touched_after_all (replicate l.fields l.flag) (between l.history l.place l.upto))
+    × (touched_after_all l.touched.items (between l.history l.i l.upto) ≡ touched_after_all (replicate l.fields l.flag) (between l.history l.cursor l.upto))

@@ -4,4 +4,5 @@ use Rattle.ls_plain.proofs.updates.clear_or.Goals as goal
 
 pub returns-in-Some-clause-within : goal.returns-in-Some-clause-within
 returns-in-Some-clause-within c =
-    (last_clear_is c.args.history.now c.args.from c.args.to c.in-Some.clear c.requires.order c.requires.within (sym c.last_clear.ensures ∙ c.in-Some.is)).reached
+    (last_clear_is c.args.history.now c.args.from c.args.to c.in-Some.clear c.requires.order c.requires.within
+    (sym c.last_clear.ensures ∙ c.in-Some.is)).reached

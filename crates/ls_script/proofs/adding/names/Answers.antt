@@ -1,6 +1,6 @@
 use Rattle.std.proofs.Common.{◌∙◌, ap}
 use Rattle.std.specs.Str.{is_utf8}
-use Rattle.ls_script.specs.Adding.{spaced}
+use Rattle.ls_step.specs.Adding.{spaced}
 use Rattle.ls_script.proofs.Utf8.{spaced_utf8}
 use Rattle.ls_script.proofs.adding.names.Goals as goal
 

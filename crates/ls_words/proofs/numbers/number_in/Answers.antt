@@ -8,6 +8,7 @@ returns-then-value-high-clause-number c =
     above_at c.args.low c.args.high c.loop-digit.n c.loop-digit.digit-index c.args.text.now c.loop-digit-test.true
     (elim c.then-value-high.branch [
       | then-value-high-via-then-value-high w ↦ (let v = c.from-value.ensures in let t = w.if-value-high in omega (arith, v, t))
-      | then-value-high-via-else-value-high+then-n-high w ↦ (let v = c.from-value.ensures in let t = w.if-value-high in let u = w.if-n-high in omega (arith, v, t, u))
+      | then-value-high-via-else-value-high+then-n-high w ↦ (let v = c.from-value.ensures in let t = w.if-value-high in let u = w.if-n-high in omega
+          (arith, v, t, u))
     ])
     c.loop-digit.invariant.1

@@ -6,4 +6,5 @@ use Rattle.ls_words.proofs.numbers.number_in.Given as goal
 -- the digits so far, and those left
 abbrev pub invariant-loop-digit : goal.invariant-loop-digit
 invariant-loop-digit l =
-    (l.n ≤ l.high) × (value_from l.n (drop l.digit-index l.text) ≡ value_from 0 l.text) × (list_all is_digit (drop l.digit-index l.text) ≡ list_all is_digit l.text)
+    (l.n ≤ l.high) × (value_from l.n (drop l.digit-index l.text) ≡ value_from 0 l.text)
+    × (list_all is_digit (drop l.digit-index l.text) ≡ list_all is_digit l.text)

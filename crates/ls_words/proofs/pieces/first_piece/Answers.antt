@@ -8,7 +8,8 @@ pub returns-in-Some : goal.returns-in-Some
 returns-in-Some c =
     let text = c.args.text.now in
     let d = c.args.divider in
-    first_divided d text _ c.in-Some.at (position_or_len_is (λ (b : ℕ). b == d) text c.in-Some.at 0 (search rules) (search rules) (search rules)) (search rules) (take_rest text _)
+    first_divided d text _ c.in-Some.at (position_or_len_is (λ (b : ℕ). b == d) text c.in-Some.at 0 (search rules) (search rules) (search rules)) (search rules)
+    (take_rest text _)
 
 pub returns-in-None : goal.returns-in-None
 returns-in-None c =

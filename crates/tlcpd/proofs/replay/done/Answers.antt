@@ -1,14 +1,19 @@
-use Rattle.std.proofs.Common.{ap, Err}
-use Rattle.tlcpd.proofs.Feeding.{fed_line, fed_refused, stands_line}
+use Rattle.std.proofs.Common.{ap, refl, Err}
+use Rattle.tlcpd.proofs.Feeding.{line_held, line_engine, line_refused}
 use Rattle.tlcpd.proofs.replay.done.Goals as goal
 
-pub returns-in-Ok-clause-feeds : goal.returns-in-Ok-clause-feeds
-returns-in-Ok-clause-feeds g c = λ m st number.
-    fed_line m _ c.put.result _ _ _ _ (c.in-Ok.ensures.ok m.world st) (rw c.deref.ensures.value at c.put.ensures.bytes)
+pub returns-in-Ok-extend_from_slice-clause-holds : goal.returns-in-Ok-extend_from_slice-clause-holds
+returns-in-Ok-extend_from_slice-clause-holds c = λ w st.
+    line_held w c.args.line.now c.line.new.text.items c.args.unwritten.now.items _ c.line.new.self
+    (rw c.clear.ensures.items at c.in-Ok.ensures.ok w st)
+    (rw c.deref.ensures.value at c.in-Ok-extend_from_slice.ensures.items)
 
-pub returns-in-Err-Line-clause-feeds : goal.returns-in-Err-Line-clause-feeds
-returns-in-Err-Line-clause-feeds g c = λ m st number.
-    fed_refused m _ _ _ _ (c.in-Err-Line.ensures.refused c.in-Err-Line.refused (ap (λ e. Err e) c.in-Err-Line.field-0-is) m.world st) number
+pub returns-in-Ok-extend_from_slice-clause-all : goal.returns-in-Ok-extend_from_slice-clause-all
+returns-in-Ok-extend_from_slice-clause-all c = λ is w st.
+    line_engine w c.args.line.now c.line.new.text.items c.line.new.self (rw c.clear.ensures.items at c.in-Ok.ensures.ok w st)
 
-pub returns-in-Ok-clause-all : goal.returns-in-Ok-clause-all
-returns-in-Ok-clause-all g c = λ is w st. stands_line w c.args.line.now _ c.line.new.self (c.in-Ok.ensures.ok w st)
+pub returns-in-Err-Line-clause-holds : goal.returns-in-Err-Line-clause-holds
+returns-in-Err-Line-clause-holds c = λ w st.
+    line_refused w c.args.line.now _ _ c.in-Err-Line.refused c.number.result c.line.new.self
+    (c.in-Err-Line.ensures.refused c.in-Err-Line.refused (ap (λ e. Err e) c.in-Err-Line.field-0-is) w st)
+    c.number.ensures refl

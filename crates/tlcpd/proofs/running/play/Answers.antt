@@ -1,7 +1,17 @@
 use Rattle.std.proofs.Common.{arith, refl, sym, ◌∙◌}
 use Rattle.ls_outside.proofs.Bytes.{rose_since, rose_by_none}
-use Rattle.tlcpd.proofs.Runs.{going_on, ran_stopped, ran_ended, ran_faulted, not_usage, read_cause, write_fault}
+use Rattle.tlcpd.proofs.Runs.{going_start, going_on, ran_stopped, ran_ended, ran_faulted, not_usage, read_cause, write_fault}
 use Rattle.tlcpd.proofs.running.play.Goals as goal
+
+pub loop-init : goal.loop-init
+loop-init g c = (
+  going_start c.args.replay _ _ c.requires,
+  omega arith,
+  omega arith,
+  rose_by_none _ _ (omega arith),
+  omega arith,
+  omega arith,
+)
 
 pub loop-preserved-in-All : goal.loop-preserved-in-All
 loop-preserved-in-All g c =
@@ -31,7 +41,8 @@ returns-in_default g c =
 
 pub returns-in-End-clause-ran : goal.returns-in-End-clause-ran
 returns-in-End-clause-ran g c =
-    rw c.status_of-in-End.ensures (ran_ended c.finish.result _ _ _ _ _ _ _ c.loop.invariant.0 c.in-End.ensures.bytes.0 c.in-End.ensures.bytes.1 c.finish.ensures.feeds)
+    rw c.status_of-in-End.ensures (ran_ended c.finish.result _ _ _ _ _ _ _ c.loop.invariant.0 c.in-End.ensures.bytes.0 c.in-End.ensures.bytes.1
+    c.finish.ensures.feeds)
 
 pub returns-then-idles-ge-MAX_IDLES-clause-ran : goal.returns-then-idles-ge-MAX_IDLES-clause-ran
 returns-then-idles-ge-MAX_IDLES-clause-ran g c = ran_faulted _ _ _ _ _ _ c.loop.invariant.0 c.in-NotYet.ensures.bytes

@@ -1,5 +1,5 @@
 use Rattle.std.proofs.Common.{arith, ap, subst, ◌∙◌, ◌≡◌, ◌<◌, Some}
-use Rattle.ls_cell.specs.Table.{set_slot}
+use Rattle.ls_cell.specs.Numbered.{set_slot}
 use Rattle.ls_cell.specs.Cell.{Held, StandsCell, last_in}
 use Rattle.ls_cell.proofs.CellStands.{going_first, going_next}
 use Rattle.ls_cell.proofs.cell.ItemCell.catch_up.Goals as goal
@@ -9,13 +9,25 @@ loop-init c = going_first _ _ c.requires
 
 pub loop-preserved : goal.loop-preserved
 loop-preserved c =
-    let more : last_in c.loop.self c.args.slot < c.loop.self.number = omega (arith, c.loop.invariant.last, c.loop-test.true, c.lag-end.ensures.lag, ap (λ (v : Held). v.number) c.loop.invariant.rest) in
-    going_next _ c.loop.self _ _ _ c.loop.invariant more c.in_ok-enqueue.ensures.live c.in_ok-enqueue.ensures.rest c.in_ok-enqueue.ensures.last c.in_ok-enqueue.ensures.stands
+    let more : last_in c.loop.self c.args.slot < c.loop.self.number =
+    omega (
+      arith,
+      c.loop.invariant.last,
+      c.loop-test.true,
+      c.lag-end.ensures.lag,
+      ap (λ (v : Held). v.number)
+          c.loop.invariant.rest,
+    ) in
+    going_next _ c.loop.self _ _ _ c.loop.invariant more c.in_ok-enqueue.ensures.live c.in_ok-enqueue.ensures.rest
+    c.in_ok-enqueue.ensures.last c.in_ok-enqueue.ensures.stands
 
 pub returns-clause-last : goal.returns-clause-last
-returns-clause-last c = omega (arith, c.loop.invariant.last, c.loop-test.false, c.loop.auto.counter-end, c.lag-end.ensures.lag)
+returns-clause-last c =
+    omega (arith, c.loop.invariant.last, c.loop-test.false, c.loop.auto.counter-end, c.lag-end.ensures.lag)
 
 pub returns-clause-caught_up : goal.returns-clause-caught_up
 returns-clause-caught_up c = λ ss h s st is.
-    let last : last_in c.loop.self c.args.slot ≡ c.args.self.now.number = omega (arith, c.loop.invariant.last, c.loop-test.false, c.loop.auto.counter-end, c.lag-end.ensures.lag) in
-    subst (λ l. StandsCell c.loop.self (set_slot ss c.args.slot (Some (record s { last = l }))) h) (last ∙ st.number) (c.loop.invariant.stands ss h s st is)
+    let last : last_in c.loop.self c.args.slot ≡ c.args.self.now.number =
+    omega (arith, c.loop.invariant.last, c.loop-test.false, c.loop.auto.counter-end, c.lag-end.ensures.lag) in
+    subst (λ l. StandsCell c.loop.self (set_slot ss c.args.slot (Some (record s { last = l }))) h) (last ∙ st.number)
+    (c.loop.invariant.stands ss h s st is)

@@ -1,7 +1,7 @@
 use Rattle.std.proofs.Common.{subst, sym, ◌∙◌}
 use Rattle.ls_cell.specs.Standing.{StandsSlot}
 use Rattle.ls_cell.specs.Cell.{StandsCell}
-use Rattle.ls_cell.proofs.Told.{same_has}
+use Rattle.ls_cell.proofs.Recorded.{same_has}
 use Rattle.ls_cell.proofs.cell.ItemCell.has.Goals as goal
 
 pub returns-clause-records : goal.returns-clause-records

@@ -7,5 +7,6 @@ returns-then-is_some-clause-refused c = λ is w st. opened_before c.args.self.no
 
 pub returns-clause-ok : goal.returns-clause-ok
 returns-clause-ok c = λ w st.
-    rw c.new.ensures.items
-    (opened_did c.args.self.now c.connect.new.self _ w c.args.name c.len-connection.result st (sym c.is_some.ensures ∙ c.if-is_some.false) (c.in_ok-connect.ensures w st) (omega (arith, c.len-connection.ensures, c.args.self.now.connections.ok.0)) c.in_ok-open.ensures)
+    opened_did c.args.self.now c.connect.new.self _ w c.args.name c.len-connection.result st (sym c.is_some.ensures ∙ c.if-is_some.false)
+    (c.in_ok-connect.ensures w st)
+    (omega (arith, c.len-connection.ensures, c.args.self.now.connections.ok.0)) c.in_ok-open.ensures

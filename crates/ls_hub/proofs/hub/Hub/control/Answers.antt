@@ -1,8 +1,9 @@
 use Rattle.std.proofs.Common.{◌≡◌, refl, sym, ap, ◌∙◌, ◌∷◌, [], subst, true, false}
 use Rattle.ls_request.specs.declared.request.Op.{Op}
-use Rattle.ls_script.specs.declared.out.Out.TheVariants as out
+use Rattle.ls_request.specs.declared.request.Request.TheVariants as request
+use Rattle.ls_step.specs.declared.out.Out.TheVariants as out
 use Rattle.ls_world.specs.Built.{is_built_control}
-use Rattle.ls_world.specs.Steps.{controls}
+use Rattle.ls_world.specs.Steps.{acts}
 use Rattle.ls_hub.specs.Hub.{DidHub}
 use Rattle.ls_hub.specs.Requests.{name_at}
 use Rattle.ls_hub.proofs.Requesting.{unbuilt_frequency, unbuilt_session, unbuilt_add, built_add, add_did}
@@ -24,7 +25,8 @@ pub returns-then-not-branch-clause-refused : goal.returns-then-not-branch-clause
 returns-then-not-branch-clause-refused c = λ is w st.
     let k = c.args.control in
     subst (λ (o : Op). is_built_control w c.args.connection c.args.params.now (record { req = k.req; session = k.session; op = o }) ≡ false) (sym c.in-Add.is)
-    (unbuilt_add c.args.self.now w c.args.connection c.args.params.now k.req k.session c.in-Add.add c.subscribe.new.item c.subscribe.new.session st (sym c.is_named.ensures ∙ c.if-not-is_named.false)
+    (unbuilt_add c.args.self.now w c.args.connection c.args.params.now k.req k.session c.in-Add.add c.subscribe.new.item c.subscribe.new.session st
+    (sym c.is_named.ensures ∙ c.if-not-is_named.false)
     (rw c.if-not-branch.true at (c.in_ok-subscribe.ensures.did w st.parts)))
 
 pub returns-clause-ok : goal.returns-clause-ok
@@ -33,8 +35,11 @@ returns-clause-ok c = λ w st.
     let first = sym c.is_named.ensures ∙ c.if-not-is_named.false in
     let added = rw c.if-not-branch.false at (c.in_ok-subscribe.ensures.did w st.parts) in
     subst (λ (o : Op). (is_built_control w c.args.connection c.args.params.now (record { req = k.req; session = k.session; op = o }) ≡ true)
-    × DidHub (controls w c.args.connection (record { req = k.req; session = k.session; op = o })) c.in_ok-outs.outs.items (record c.args.self.now { item = c.subscribe.new.item; session = c.subscribe.new.session })) (sym c.in-Add.is) (
-      built_add c.args.self.now w c.args.connection c.args.params.now k.req k.session c.in-Add.add c.subscribe.new.item c.subscribe.new.session st first (sym c.lacks.ensures ∙ c.if-not-lacks.false) added,
-      add_did c.args.self.now (record c.args.self.now { item = c.subscribe.new.item; session = c.subscribe.new.session }) w c.args.connection k.req k.session c.in-Add.add c.in_ok-outs.outs.items st first refl refl added
+    × DidHub (acts w c.args.connection (request.Control (record { req = k.req; session = k.session; op = o }))) c.in_ok-outs.outs.items
+    (record c.args.self.now { item = c.subscribe.new.item; session = c.subscribe.new.session })) (sym c.in-Add.is) (
+      built_add c.args.self.now w c.args.connection c.args.params.now k.req k.session c.in-Add.add c.subscribe.new.item c.subscribe.new.session st first
+          (sym c.lacks.ensures ∙ c.if-not-lacks.false) added,
+      add_did c.args.self.now (record c.args.self.now { item = c.subscribe.new.item; session = c.subscribe.new.session }) w c.args.connection k.req k.session
+          c.in-Add.add c.in_ok-outs.outs.items st first refl refl added
           (c.in_ok-outs.ensures ∙ ap (λ t. out.Line (name_at c.args.self.now.connections.items c.args.connection) t ∷ []) c.in_ok-text.ensures),
     )

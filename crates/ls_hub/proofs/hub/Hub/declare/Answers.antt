@@ -6,4 +6,4 @@ pub returns-then-is_some-clause-refused : goal.returns-then-is_some-clause-refus
 returns-then-is_some-clause-refused c = λ is w st. declared_before c.args.self.now w st (sym c.is_some.ensures ∙ c.if-is_some.true)
 
 pub returns-clause-ok : goal.returns-clause-ok
-returns-clause-ok c = λ w st. rw c.new.ensures.items (declared_did c.args.self.now w _ c.args.definition st (sym c.is_some.ensures ∙ c.if-is_some.false) c.in_ok-declare.ensures.did)
+returns-clause-ok c = λ w st. declared_did c.args.self.now w _ c.args.definition st (sym c.is_some.ensures ∙ c.if-is_some.false) c.in_ok-declare.ensures.did

@@ -1,6 +1,6 @@
 use Rattle.std.proofs.Common.{◌≡◌, Some, ◌∙◌, sym}
-use Rattle.ls_script.specs.Grammar.{line_of}
-use Rattle.ls_script.proofs.Fitting.{line_fits_is}
+use Rattle.ls_step.specs.Grammar.{line_of}
+use Rattle.ls_step.proofs.Fitting.{line_fits_is}
 use Rattle.ls_script.proofs.script.Script.read.Goals as goal
 
 pub declare-requires : goal.declare-requires

@@ -1,0 +1,25 @@
+use Rattle.std.proofs.Common.{subst, sym, IsSome, ◌-◌}
+use Rattle.ls_cell.specs.Numbered.{slot_at, EachSlot, StandsAll}
+use Rattle.ls_cell.specs.Standing.{IsSlotOf, StandsSlot}
+use Rattle.ls_cell.proofs.Changes.{each_set, slot_each, stands_set, slot_stands}
+use Rattle.ls_cell.proofs.slots.Slots.enqueue.Goals as goal
+
+pub returns-clause-sound : goal.returns-clause-sound
+returns-clause-sound c = λ p number kept low fields after each.
+    let all : EachSlot (IsSlotOf p number kept) c.self.inside.slots.items =
+    subst (EachSlot (IsSlotOf p number kept)) (sym c.self.view_is) each in
+    let live : IsSome (slot_at c.self.inside.slots.items c.args.slot) =
+    subst (λ t. IsSome (slot_at t c.args.slot)) (sym c.self.view_is) c.requires.live in
+    each_set (IsSlotOf p number kept) _ (c.args.slot - 1) _ all
+    (c.in_ok-enqueue_at.ensures.sound p number kept low fields after
+    (slot_each (IsSlotOf p number kept) _ c.args.slot _ live c.index_mut.ensures.value all))
+
+pub returns-clause-stands : goal.returns-clause-stands
+returns-clause-stands c = λ p ss h s st is next.
+    let all : StandsAll (StandsSlot p) c.self.inside.slots.items ss h =
+    subst (λ t. StandsAll (StandsSlot p) t ss h) (sym c.self.view_is) st in
+    let live : IsSome (slot_at c.self.inside.slots.items c.args.slot) =
+    subst (λ t. IsSome (slot_at t c.args.slot)) (sym c.self.view_is) c.requires.live in
+    stands_set (StandsSlot p) _ ss h (c.args.slot - 1) _ _ all
+    (c.in_ok-enqueue_at.ensures.stands p s h (slot_stands (StandsSlot p) _ ss h c.args.slot _ s live
+    c.index_mut.ensures.value all is) next)

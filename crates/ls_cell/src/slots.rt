@@ -1,0 +1,313 @@
+//! Slots by number.
+ghost use Rattle.std.specs.Prelude.{◌≡◌, ◌+◌, ◌-◌, ◌<◌, ◌≤◌, ◌^◌, ℕ, List, [], Option, None, Some, IfOk, OnOk, OnErr};
+ghost use Rattle.std.specs.Prelude.{IsSome, length, option_and_then, is_some, false};
+ghost use Rattle.std.specs.Option.{ForSome, option_map_or};
+ghost use Rattle.ls_event.specs.declared.event.Entry.{Entry};
+ghost use Rattle.ls_event.specs.declared.event.Taken.{Taken as ATaken};
+ghost use Rattle.ls_event.specs.History.{HasFields, RowFits};
+ghost use Rattle.ls_event.specs.declared.limits.TheConstants.{MOST_SLOTS};
+ghost use Rattle.ls_event.specs.Shapes.{Shape};
+ghost use Rattle.ls_value.specs.declared.limits.TheConstants.{GREATEST_NUMBER};
+ghost use Rattle.ls_event.specs.Slots.{Slot, IsNext, enqueued, passed};
+ghost use Rattle.ls_event.specs.Cuts.{cut, Fits};
+ghost use Rattle.ls_cell.specs.Any.{any_last, any_cut, any_pending, AnyAdmits};
+ghost use Rattle.ls_cell.specs.Numbered.{slot_at, set_slot, free_number, put_slot, live_slots, IsAt, EachSlot, lags};
+ghost use Rattle.ls_cell.specs.Numbered.{first_lagging, StandsAt, StandsAll};
+ghost use Rattle.ls_cell.specs.Standing.{IsSlotOf, StandsSlot, last_at};
+
+use crate::any::AnyBuffer;
+use ls_event::{Buffer, MOST_LAG, Stored, Taken};
+use ls_value::NoMemory;
+use std::alloc::Global;
+use std::marker::Model;
+
+/// The slots of an item by number, from 1 on: each one that is live has its buffer.
+#[derive(Drop)]
+pub struct Slots {
+    slots: Vec<Option<AnyBuffer>>,
+}
+
+impl Model for Slots {
+    ghost use Rattle.std.specs.Prelude.{List, Option, ◌≤◌, length};
+    ghost use Rattle.ls_cell.specs.declared.any.AnyBuffer.{AnyBuffer as ABuffer};
+    ghost use Rattle.ls_event.specs.declared.limits.TheConstants.{MOST_SLOTS};
+
+    ghost Value = { List (Option ABuffer) };
+
+    ghost view = { λ t. t.slots.items };
+
+    ghost invariant = { λ t. length t.slots.items ≤ MOST_SLOTS };
+}
+
+impl Slots {
+    /// No slot.
+    pub fn new(alloc: Global) -> Slots
+        ensures { result ≡ [] }
+    {
+        Slots {
+            slots: Vec::new(alloc),
+        }
+    }
+
+    /// How many slots are live.
+    pub fn live(&self) -> u32
+        ensures { result ≡ live_slots self.now }
+    {
+        live_of(&self.slots)
+    }
+
+    /// Whether a slot of this number is live.
+    pub fn has(&self, slot: u32) -> bool
+        ensures { result ≡ is_some (slot_at self.now slot) }
+    {
+        slot > 0 && is_live(&self.slots, slot as usize - 1)
+    }
+
+    /// The number that was enqueued last into a live slot.
+    #[tactic(auto, using(crate::proofs::Changes::slot_read, crate::proofs::Changes::read_live))]
+    pub fn last(&self, slot: u32) -> u64
+        requires { IsSome (slot_at self.now slot) }
+        ensures { result ≡ last_at (slot_at self.now slot) }
+    {
+        last_of(&self.slots[slot as usize - 1])
+    }
+
+    /// Whether a live slot is pending.
+    #[tactic(auto, using(crate::proofs::Changes::slot_read, crate::proofs::Changes::read_live))]
+    pub fn pending(&self, slot: u32) -> bool
+        requires { IsSome (slot_at self.now slot) }
+        ensures { result ≡ option_map_or any_pending (slot_at self.now slot) false }
+    {
+        is_pending(&self.slots[slot as usize - 1])
+    }
+
+    /// The next cut of a live slot.
+    pub fn look(&self, slot: u32) -> Result<Option<Taken>, NoMemory>
+        requires { IsSome (slot_at self.now slot) }
+        ensures head { IfOk result (λ t. t ≡ option_and_then any_cut (slot_at self.now slot)) }
+        ensures fits { IfOk result (λ t. (p : Shape) (number kept : ℕ) → EachSlot (IsSlotOf p number kept) self.now
+            → Fits p.fields t) }
+    {
+        let taken = look_at(&self.slots[slot as usize - 1])?;
+        Ok(taken)
+    }
+
+    /// Takes the event of the next number into a live slot. After `NoMemory` all is as before.
+    pub fn enqueue(&mut self, slot: u32, event: &Stored) -> Result<(), NoMemory>
+        requires live { IsSome (slot_at self.old slot) }
+        requires next { event.now.no ≡ last_at (slot_at self.old slot) + 1 }
+        requires few { event.now.no ≤ GREATEST_NUMBER }
+        requires admits { ForSome (slot_at self.old slot) (λ b. AnyAdmits b event.now.event) }
+        ensures one { OnOk result (self.new ≡ set_slot self.old slot (slot_at self.new slot)) }
+        ensures live { OnOk result (IsSome (slot_at self.new slot)) }
+        ensures last { OnOk result (last_at (slot_at self.new slot) ≡ event.now.no) }
+        ensures sound { OnOk result ((p : Shape) (number kept : ℕ) → event.now.no ≤ number
+            → HasFields p.fields event.now.event → RowFits p.fields event.now.after
+            → EachSlot (IsSlotOf p number kept) self.old → EachSlot (IsSlotOf p number kept) self.new) }
+        ensures stands { OnOk result ((p : Shape) (ss : List (Option Slot)) (h : List Entry) (s : Slot)
+            → StandsAll (StandsSlot p) self.old ss h
+            → slot_at ss slot ≡ Some s → IsNext s h event.now → StandsAll (StandsSlot p) self.new
+            (set_slot ss slot (Some (enqueued s))) h) }
+        ensures err { OnErr result (self.new ≡ self.old) }
+    {
+        enqueue_at(&mut self.slots[slot as usize - 1], event)?;
+        Ok(())
+    }
+
+    /// Moves a live slot past its next cut, of which there is one. It takes no memory.
+    pub fn pass(&mut self, slot: u32)
+        requires { IsSome (option_and_then any_cut (slot_at self.old slot)) }
+        ensures one { self.new ≡ set_slot self.old slot (slot_at self.new slot) }
+        ensures live { IsSome (slot_at self.new slot) }
+        ensures last { last_at (slot_at self.new slot) ≡ last_at (slot_at self.old slot) }
+        ensures sound { (p : Shape) (number kept : ℕ) → EachSlot (IsSlotOf p number kept) self.old
+            → EachSlot (IsSlotOf p number kept) self.new }
+        ensures stands { (p : Shape) (ss : List (Option Slot)) (h : List Entry) (s : Slot) (t : ATaken)
+            → StandsAll (StandsSlot p) self.old ss h
+            → slot_at ss slot ≡ Some s → cut h s ≡ Some t → StandsAll (StandsSlot p) self.new
+            (set_slot ss slot (Some (passed s t))) h }
+    {
+        pass_at(&mut self.slots[slot as usize - 1]);
+    }
+
+    /// The least slot that lags by [`MOST_LAG`] behind so many events.
+    pub fn lagging(&self, number: u64) -> Option<u32>
+        ensures { result ≡ first_lagging any_last number 1 self.now }
+    {
+        first_lagging(&self.slots, number)
+    }
+
+    /// Drops a live slot.
+    pub fn leave(&mut self, slot: u32)
+        requires { IsSome (slot_at self.old slot) }
+        ensures { self.new ≡ set_slot self.old slot None }
+    {
+        self.slots[slot as usize - 1] = None;
+    }
+
+    /// Puts a slot at the least free number, which it answers. After `NoMemory` all is as before.
+    pub fn join(&mut self, buffer: AnyBuffer) -> Result<u32, NoMemory>
+        requires { live_slots self.old < MOST_SLOTS }
+        ensures number { IfOk result (λ n. n ≡ free_number self.old) }
+        ensures ok { OnOk result (self.new ≡ put_slot self.old buffer) }
+        ensures err { OnErr result (self.new ≡ self.old) }
+    {
+        let index = put(&mut self.slots, buffer)?;
+        Ok(index as u32 + 1)
+    }
+}
+
+/// How many slots are live.
+fn live_of(slots: &[Option<AnyBuffer>]) -> u32
+    requires { length slots.now ≤ MOST_SLOTS }
+    ensures { result ≡ live_slots slots.now }
+{
+    let mut live: u32 = 0;
+    for i in 0..slots.len() {
+        if slots[i].is_some() {
+            live += 1;
+        }
+    }
+    live
+}
+
+/// Whether there is a slot at an index.
+fn is_live(slots: &[Option<AnyBuffer>], index: usize) -> bool
+    ensures { result ≡ is_some (slot_at slots.now (index + 1)) }
+{
+    matches!(slots.get(index), Some(Some(_)))
+}
+
+/// The number that was enqueued last into a live slot.
+fn last_of(slot: &Option<AnyBuffer>) -> u64
+    requires { IsSome slot.now }
+    ensures { result ≡ last_at slot.now }
+{
+    match slot {
+        None => unreachable!(),
+        Some(buffer) => buffer.last(),
+    }
+}
+
+/// Whether a live slot is pending.
+fn is_pending(slot: &Option<AnyBuffer>) -> bool
+    requires { IsSome slot.now }
+    ensures { result ≡ option_map_or any_pending slot.now false }
+{
+    match slot {
+        None => unreachable!(),
+        Some(buffer) => Buffer::pending(buffer),
+    }
+}
+
+/// The next cut of a live slot.
+fn look_at(slot: &Option<AnyBuffer>) -> Result<Option<Taken>, NoMemory>
+    requires { IsSome slot.now }
+    ensures head { IfOk result (λ t. t ≡ option_and_then any_cut slot.now) }
+    ensures fits { IfOk result (λ t. (p : Shape) (number kept : ℕ) → IsAt (IsSlotOf p number kept) slot.now
+        → Fits p.fields t) }
+{
+    match slot {
+        None => unreachable!(),
+        Some(buffer) => {
+            let taken = Buffer::look(buffer)?;
+            Ok(taken)
+        }
+    }
+}
+
+/// Takes the event of the next number into a live slot.
+fn enqueue_at(slot: &mut Option<AnyBuffer>, event: &Stored) -> Result<(), NoMemory>
+    requires live { IsSome slot.old }
+    requires next { event.now.no ≡ last_at slot.old + 1 }
+    requires few { event.now.no ≤ GREATEST_NUMBER }
+    requires admits { ForSome slot.old (λ b. AnyAdmits b event.now.event) }
+    ensures live { OnOk result (IsSome slot.new) }
+    ensures last { OnOk result (last_at slot.new ≡ event.now.no) }
+    ensures sound { OnOk result ((p : Shape) (number kept : ℕ) → event.now.no ≤ number
+        → HasFields p.fields event.now.event → RowFits p.fields event.now.after
+        → IsAt (IsSlotOf p number kept) slot.old → IsAt (IsSlotOf p number kept) slot.new) }
+    ensures stands { OnOk result ((p : Shape) (s : Slot) (h : List Entry) → StandsAt (StandsSlot p) slot.old (Some s) h
+        → IsNext s h event.now
+        → StandsAt (StandsSlot p) slot.new (Some (enqueued s)) h) }
+    ensures err { OnErr result (slot.new ≡ slot.old) }
+{
+    match slot {
+        None => unreachable!(),
+        Some(buffer) => {
+            Buffer::enqueue(buffer, event)?;
+            Ok(())
+        }
+    }
+}
+
+/// Moves a live slot past its next cut, of which there is one.
+fn pass_at(slot: &mut Option<AnyBuffer>)
+    requires { IsSome (option_and_then any_cut slot.old) }
+    ensures live { IsSome slot.new }
+    ensures last { last_at slot.new ≡ last_at slot.old }
+    ensures sound { (p : Shape) (number kept : ℕ) → IsAt (IsSlotOf p number kept) slot.old
+        → IsAt (IsSlotOf p number kept) slot.new }
+    ensures stands { (p : Shape) (s : Slot) (h : List Entry) (t : ATaken) → StandsAt (StandsSlot p) slot.old (Some s) h
+        → cut h s ≡ Some t
+        → StandsAt (StandsSlot p) slot.new (Some (passed s t)) h }
+{
+    match slot {
+        None => unreachable!(),
+        Some(buffer) => Buffer::pass(buffer),
+    }
+}
+
+/// The least number of a slot that lags by [`MOST_LAG`].
+fn first_lagging(slots: &[Option<AnyBuffer>], number: u64) -> Option<u32>
+    requires { length slots.now ≤ MOST_SLOTS }
+    ensures { result ≡ first_lagging any_last number 1 slots.now }
+{
+    for i in 0..slots.len() {
+        if is_lagging(&slots[i], number) {
+            return Some(i as u32 + 1);
+        }
+    }
+    None
+}
+
+/// Whether a slot lags by [`MOST_LAG`], if there is one.
+fn is_lagging(slot: &Option<AnyBuffer>, number: u64) -> bool
+    ensures { result ≡ lags any_last number slot.now }
+{
+    match slot {
+        None => false,
+        Some(buffer) => number >= MOST_LAG && number - MOST_LAG >= buffer.last(),
+    }
+}
+
+/// Puts a slot at the first free index, which it answers.
+fn put(slots: &mut Vec<Option<AnyBuffer>>, buffer: AnyBuffer) -> Result<usize, NoMemory>
+    requires few { live_slots slots.old.items < MOST_SLOTS }
+    requires most { length slots.old.items ≤ MOST_SLOTS }
+    ensures number { IfOk result (λ index. index + 1 ≡ free_number slots.old.items) }
+    ensures below { IfOk result (λ index. index < MOST_SLOTS) }
+    ensures ok { OnOk result (slots.new.items ≡ put_slot slots.old.items buffer) }
+    ensures most { OnOk result (length slots.new.items ≤ MOST_SLOTS) }
+    ensures err { OnErr result (slots.new.items ≡ slots.old.items) }
+{
+    let index = free_of(slots);
+    if index < slots.len() {
+        slots[index] = Some(buffer);
+    } else {
+        slots.push(Some(buffer))?;
+    }
+    Ok(index)
+}
+
+/// The first free index.
+fn free_of(slots: &[Option<AnyBuffer>]) -> usize
+    ensures { result + 1 ≡ free_number slots.now }
+{
+    for i in 0..slots.len() {
+        if slots[i].is_none() {
+            return i;
+        }
+    }
+    slots.len()
+}

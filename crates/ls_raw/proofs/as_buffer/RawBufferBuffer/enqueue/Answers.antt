@@ -1,0 +1,8 @@
+use Rattle.ls_raw.specs.Stands.{raw_stands_next, after_has}
+use Rattle.ls_raw.proofs.as_buffer.RawBufferBuffer.enqueue.Goals as goal
+
+pub returns-clause-fields : goal.returns-clause-fields
+returns-clause-fields c = λ n has fits row. rw c.in_ok-enqueue.ensures.ok (after_has n c.args.self.now c.args.event.now.event has fits)
+
+pub returns-clause-stands : goal.returns-clause-stands
+returns-clause-stands c = λ s h st next. rw c.in_ok-enqueue.ensures.ok (raw_stands_next c.args.self.now s h c.args.event.now st next)

@@ -1,6 +1,0 @@
-use Rattle.std.proofs.Common.{◌≡◌, take}
-use Rattle.ls_script.proofs.names.copied_texts.Given as goal
-
--- the texts so far
-abbrev pub invariant-loop-text : goal.invariant-loop-text
-invariant-loop-text l = l.copied.items ≡ take l.text-index l.texts

@@ -1,0 +1,4 @@
+pub mod Grammar
+pub mod Adding
+pub mod Ranges
+pub mod Notes

@@ -1,0 +1,120 @@
+//! What a script prints (this project's profile).
+ghost use Rattle.std.specs.Prelude.{◌≡◌, ◌++◌, IfOk, OnOk};
+ghost use Rattle.ls_step.specs.Notes.{note, number_note, line_on, text_of_out};
+
+use ls_value::{Bytes, NoMemory, Text};
+use ls_words::append_decimal;
+use std::alloc::Global;
+
+/// A printed line: a note, or a line on a connection (this project's profile).
+#[derive(Drop)]
+pub enum Out {
+    /// A publish: the event has this number in its item's history.
+    Published { no: u64 },
+    /// A publish whose seq isn't above the adapter's last one.
+    Repeated { last: u64 },
+    /// A publish on a COMMAND item without a key.
+    NoKey,
+    /// A publish on a COMMAND item with another command than ADD, UPDATE and DELETE.
+    BadCommand,
+    /// A publish whose texts, or the row that it makes, are too long: so many bytes.
+    TooLong { bytes: u64 },
+    /// A publish that would give a COMMAND item too many keys.
+    TooManyKeys,
+    /// A publish that would leave a slot too far behind.
+    Backlog { slot: u32 },
+    /// A number has come to its end: the events of an item, or what a turn counts.
+    Spent,
+    /// An enqueue: the slot has taken the event of this number.
+    Moved { no: u64 },
+    /// An enqueue on a slot that has taken each event.
+    UpToDate,
+    /// An enqueue where the connection has no session, or its session no such subscription and rank.
+    NoSlot,
+    /// A turn without a line to give.
+    Idle,
+    /// A turn without a line to give before a tick.
+    NotDue { at: u64 },
+    /// A turn, or a loss, of a stream whose session was bound again since, at this epoch.
+    Superseded { epoch: u64 },
+    /// A turn of a session that has ended, for the cause of this code.
+    Ended { code: u16 },
+    /// A turn, or a loss, where no stream is bound.
+    Unbound,
+    /// A turn, or a loss, on a connection that never had a session.
+    NoSession,
+    /// A loss: the stream is no longer bound.
+    Lost,
+    /// A line on the connection of this name.
+    Line { connection: Text, text: Bytes },
+}
+
+/// The text of a printed line, ended by LF (this project's profile).
+pub fn print(alloc: Global, out: &Out) -> Result<Bytes, NoMemory>
+    ensures { IfOk result (λ text. text ≡ text_of_out out.now) }
+{
+    let mut text = Vec::new(alloc);
+    append(&mut text, out)?;
+    Ok(Bytes::from_vec(text))
+}
+
+/// Appends a printed line, ended by LF, to a text (this project's profile). After `NoMemory` a part of it may be there.
+pub fn append(text: &mut Vec<u8>, out: &Out) -> Result<(), NoMemory>
+    ensures { OnOk result (text.new.items ≡ text.old.items ++ text_of_out out.now) }
+{
+    match out {
+        Out::Published { no } => number_note(text, b"-no", *no),
+        Out::Repeated { last } => number_note(text, b"-repeated", *last),
+        Out::NoKey => note(text, b"-nokey"),
+        Out::BadCommand => note(text, b"-badcommand"),
+        Out::TooLong { bytes } => number_note(text, b"-toolong", *bytes),
+        Out::TooManyKeys => note(text, b"-toomanykeys"),
+        Out::Backlog { slot } => number_note(text, b"-backlog", u64::from(*slot)),
+        Out::Spent => note(text, b"-spent"),
+        Out::Moved { no } => number_note(text, b"-moved", *no),
+        Out::UpToDate => note(text, b"-uptodate"),
+        Out::NoSlot => note(text, b"-noslot"),
+        Out::Idle => note(text, b"-idle"),
+        Out::NotDue { at } => number_note(text, b"-notdue", *at),
+        Out::Superseded { epoch } => number_note(text, b"-superseded", *epoch),
+        Out::Ended { code } => number_note(text, b"-ended", u64::from(*code)),
+        Out::Unbound => note(text, b"-unbound"),
+        Out::NoSession => note(text, b"-none"),
+        Out::Lost => note(text, b"-lost"),
+        Out::Line {
+            connection,
+            text: line,
+        } => line_on(text, connection.as_bytes(), line.as_slice()),
+    }
+}
+
+/// A note of a word alone.
+fn note(text: &mut Vec<u8>, word: &[u8]) -> Result<(), NoMemory>
+    ensures { OnOk result (text.new.items ≡ text.old.items ++ note word.now) }
+{
+    text.extend_from_slice(word)?;
+    text.push(b'\n')?;
+    Ok(())
+}
+
+/// A note of a word and a number.
+fn number_note(text: &mut Vec<u8>, word: &[u8], n: u64) -> Result<(), NoMemory>
+    ensures { OnOk result (text.new.items ≡ text.old.items ++ number_note word.now n) }
+{
+    text.extend_from_slice(word)?;
+    text.push(b' ')?;
+    append_decimal(text, n)?;
+    text.push(b'\n')?;
+    Ok(())
+}
+
+/// A line on a connection.
+fn line_on(text: &mut Vec<u8>, connection: &[u8], line: &[u8]) -> Result<(), NoMemory>
+    ensures { OnOk result (text.new.items ≡ text.old.items ++ line_on connection.now line.now) }
+{
+    text.extend_from_slice(connection)?;
+    text.push(b':')?;
+    text.extend_from_slice(line)?;
+    text.push(b'\n')?;
+    Ok(())
+}

@@ -1,0 +1,7 @@
+//! The greatest numbers that lines and histories have.
+
+/// The greatest number of a subscription, of an item in one, of a field in a line, of items or of fields (TLCP 2.1).
+pub const GREATEST_ORDINAL: u32 = 999_999_999;
+
+/// The greatest number of an event or of a line, and the greatest count that a line tells (this project's profile).
+pub const GREATEST_NUMBER: u64 = 1 << 60;
