@@ -1,6 +1,6 @@
 -- One slot of a table changes.
 use Rattle.std.proofs.Common.{◌≡◌, ℕ, zero, suc, ◌+◌, ◌-◌, ◌≤◌, ◌<◌, List, [], ◌∷◌, ◌++◌, length, Option, None, Some}
-use Rattle.std.proofs.Common.{IsSome, set, get_or, refl, sym, ◌∙◌, subst, arith, ap, Bool, true, false, cond}
+use Rattle.std.proofs.Common.{IsSome, set, get_or, drop, refl, sym, ◌∙◌, subst, arith, ap, Bool, true, false, cond}
 use Rattle.std.proofs.Common.{option_and_then, is_some}
 use Rattle.std.proofs.lemmas.List.{set-get_or, set-set, get_or-set_same, get_or-set_other}
 use Rattle.ls_event.specs.declared.event.Entry.{Entry}
@@ -47,9 +47,18 @@ pub read_live : {B : Type 0} (bs : List (Option B)) (n : ℕ) (b : Option B) →
     → b ≡ get_or bs (n - 1) b → IsSome b
 read_live bs n b live value = subst (λ o. IsSome o) (sym (slot_read bs n b live value)) live
 
+-- a slot is live at the index of its number
+pub live_at : {B : Type 0} (bs : List (Option B)) (n : ℕ) → IsSome (slot_at bs n) → IsSome (get_or bs (n - 1) None)
+live_at bs n live = subst (λ o. IsSome o) (sym ((within bs n live).value None)) live
+
 slot_low : {B : Type 0} (bs : List (Option B)) (n : ℕ) → 0 < n → get_or bs (n - 1) None ≡ slot_at bs n
 slot_low bs zero some = absurd (omega (arith, some))
 slot_low bs (suc i) some = ap (λ k. get_or bs k None) {x = suc i - 1} {y = i} (omega arith)
+
+free_some : {B : Type 0} (bs : List (Option B)) → 1 ≤ free_number bs
+free_some [] = omega arith
+free_some (None ∷ bs) = omega arith
+free_some (Some b ∷ bs) = omega arith
 
 -- a slot put at the least free number
 pub set_free : {B : Type 0} (bs : List (Option B)) (b : B) (i : ℕ) → i + 1 ≡ free_number bs → i < length bs
@@ -57,12 +66,7 @@ pub set_free : {B : Type 0} (bs : List (Option B)) (b : B) (i : ℕ) → i + 1 �
 set_free [] b i free low = absurd (omega (arith, low))
 set_free (None ∷ bs) b zero free low = refl
 set_free (None ∷ bs) b (suc i) free low = absurd (omega (arith, free))
-set_free (Some a ∷ bs) b zero free low = absurd (omega (arith, free, some_number bs))
-  where
-    some_number : {B : Type 0} (bs : List (Option B)) → 1 ≤ free_number bs
-    some_number [] = omega arith
-    some_number (None ∷ bs) = omega arith
-    some_number (Some b ∷ bs) = omega arith
+set_free (Some a ∷ bs) b zero free low = absurd (omega (arith, free, free_some bs))
 set_free (Some a ∷ bs) b (suc i) free low = ap (λ z. Some a ∷ z)
     (set_free bs b i (omega (arith, free)) (omega (arith, low)))
 
@@ -77,6 +81,72 @@ pub free_low : {B : Type 0} (bs : List (Option B)) → free_number bs ≤ live_s
 free_low [] = omega arith
 free_low (None ∷ bs) = omega arith
 free_low (Some b ∷ bs) = omega (arith, free_low bs)
+
+-- from an index on, where no slot below it is free
+pub free_from : {B : Type 0} (bs : List (Option B)) (i : ℕ) → i < free_number bs
+    → free_number bs ≡ i + free_number (drop i bs)
+free_from bs zero low = omega arith
+free_from [] (suc i) low = absurd (omega (arith, low))
+free_from (None ∷ bs) (suc i) low = absurd (omega (arith, low))
+free_from (Some b ∷ bs) (suc i) low = omega (arith, free_from bs i (omega (arith, low)))
+
+-- the least free number is at most one above the length
+pub free_long : {B : Type 0} (bs : List (Option B)) → free_number bs ≤ length bs + 1
+free_long [] = omega arith
+free_long (None ∷ bs) = omega arith
+free_long (Some b ∷ bs) = omega (arith, free_long bs)
+
+-- a slot put at the least free number is one more, and the next free number is above it
+pub live_put : {B : Type 0} (bs : List (Option B)) (b : B) → live_slots (put_slot bs b) ≡ live_slots bs + 1
+live_put [] b = refl
+live_put (None ∷ bs) b = refl
+live_put (Some a ∷ bs) b = ap (λ n. n + 1) (live_put bs b)
+
+pub free_put : {B : Type 0} (bs : List (Option B)) (b : B) → free_number bs < free_number (put_slot bs b)
+free_put [] b = omega arith
+free_put (None ∷ bs) b = omega (arith, free_some bs)
+free_put (Some a ∷ bs) b = omega (arith, free_put bs b)
+
+-- one live slot in place of another
+pub live_kept : {B : Type 0} (bs : List (Option B)) (i : ℕ) (b : Option B) → IsSome (get_or bs i None) → IsSome b
+    → live_slots (set bs i b) ≡ live_slots bs
+live_kept [] zero b live new = cc
+live_kept [] (suc i) b live new = cc
+live_kept (None ∷ bs) zero b live new = cc
+live_kept (Some a ∷ bs) zero None live new = cc
+live_kept (Some a ∷ bs) zero (Some b) live new = refl
+live_kept (None ∷ bs) (suc i) b live new = live_kept bs i b live new
+live_kept (Some a ∷ bs) (suc i) b live new = ap (λ n. n + 1) (live_kept bs i b live new)
+
+pub free_kept : {B : Type 0} (bs : List (Option B)) (i : ℕ) (b : Option B) → IsSome (get_or bs i None) → IsSome b
+    → free_number (set bs i b) ≡ free_number bs
+free_kept [] zero b live new = cc
+free_kept [] (suc i) b live new = cc
+free_kept (None ∷ bs) zero b live new = cc
+free_kept (Some a ∷ bs) zero None live new = cc
+free_kept (Some a ∷ bs) zero (Some b) live new = refl
+free_kept (None ∷ bs) (suc i) b live new = refl
+free_kept (Some a ∷ bs) (suc i) b live new = ap (λ n. n + 1) (free_kept bs i b live new)
+
+-- a slot that leaves is one less, and what is free below it is as before
+pub live_left : {B : Type 0} (bs : List (Option B)) (i : ℕ) → IsSome (get_or bs i None)
+    → live_slots (set bs i None) + 1 ≡ live_slots bs
+live_left [] zero live = cc
+live_left [] (suc i) live = cc
+live_left (None ∷ bs) zero live = cc
+live_left (Some a ∷ bs) zero live = refl
+live_left (None ∷ bs) (suc i) live = live_left bs i live
+live_left (Some a ∷ bs) (suc i) live = ap (λ n. n + 1) (live_left bs i live)
+
+pub free_left : {B : Type 0} (bs : List (Option B)) (i f : ℕ) → f < free_number bs → f ≤ i
+    → f < free_number (set bs i None)
+free_left [] zero f low below = low
+free_left [] (suc i) f low below = low
+free_left (b ∷ bs) zero f low below = omega (arith, below)
+free_left (None ∷ bs) (suc i) f low below = low
+free_left (Some a ∷ bs) (suc i) zero low below = omega (arith, free_some (set bs i None))
+free_left (Some a ∷ bs) (suc i) (suc f) low below =
+    omega (arith, free_left bs i f (omega (arith, low)) (omega (arith, below)))
 
 pub length_put : {B : Type 0} (bs : List (Option B)) (b : B) (most : ℕ) → length bs ≤ most → free_number bs ≤ most
     → length (put_slot bs b) ≤ most
@@ -226,11 +296,6 @@ pub set_twice : {A : Type 0} (xs : List (Option A)) (n : ℕ) (a b : Option A)
 set_twice xs n a b = set-set xs (n - 1) a b
 
 -- a slot put at the least free number stands there
-free_some : {B : Type 0} (bs : List (Option B)) → 1 ≤ free_number bs
-free_some [] = omega arith
-free_some (None ∷ bs) = omega arith
-free_some (Some b ∷ bs) = omega arith
-
 put_get : {B : Type 0} (bs : List (Option B)) (b : B) (i : ℕ) → i + 1 ≡ free_number bs
     → get_or (put_slot bs b) i None ≡ Some b
 put_get [] b zero free = refl

@@ -22,21 +22,29 @@ use std::alloc::Global;
 use std::marker::Model;
 
 /// The slots of an item by number, from 1 on: each one that is live has its buffer.
+///
+/// `live` is how many are live, so that no call has to count them. No slot at an index below `first` is free, so that a
+/// slot that joins looks for its number from there on: one step where slots join in a row, and after some have left
+/// the steps from the least of these.
 #[derive(Drop)]
 pub struct Slots {
     slots: Vec<Option<AnyBuffer>>,
+    live: u32,
+    first: usize,
 }
 
 impl Model for Slots {
-    ghost use Rattle.std.specs.Prelude.{List, Option, ◌≤◌, length};
+    ghost use Rattle.std.specs.Prelude.{List, Option, ◌≡◌, ◌<◌, ◌≤◌, length};
     ghost use Rattle.ls_cell.specs.declared.any.AnyBuffer.{AnyBuffer as ABuffer};
+    ghost use Rattle.ls_cell.specs.Numbered.{live_slots, free_number};
     ghost use Rattle.ls_event.specs.declared.limits.TheConstants.{MOST_SLOTS};
 
     ghost Value = { List (Option ABuffer) };
 
     ghost view = { λ t. t.slots.items };
 
-    ghost invariant = { λ t. length t.slots.items ≤ MOST_SLOTS };
+    ghost invariant = { λ t. (length t.slots.items ≤ MOST_SLOTS) × (t.live ≡ live_slots t.slots.items)
+        × (t.first < free_number t.slots.items) };
 }
 
 impl Slots {
@@ -46,6 +54,8 @@ impl Slots {
     {
         Slots {
             slots: Vec::new(alloc),
+            live: 0,
+            first: 0,
         }
     }
 
@@ -53,7 +63,7 @@ impl Slots {
     pub fn live(&self) -> u32
         ensures { result ≡ live_slots self.now }
     {
-        live_of(&self.slots)
+        self.live
     }
 
     /// Whether a slot of this number is live.
@@ -142,33 +152,26 @@ impl Slots {
         requires { IsSome (slot_at self.old slot) }
         ensures { self.new ≡ set_slot self.old slot None }
     {
-        self.slots[slot as usize - 1] = None;
+        let index = slot as usize - 1;
+        self.slots[index] = None;
+        self.live -= 1;
+        self.first = self.first.min(index);
     }
 
     /// Puts a slot at the least free number, which it answers. After `NoMemory` all is as before.
+    #[tactic(auto, using(crate::proofs::Changes::free_low))]
     pub fn join(&mut self, buffer: AnyBuffer) -> Result<u32, NoMemory>
         requires { live_slots self.old < MOST_SLOTS }
         ensures number { IfOk result (λ n. n ≡ free_number self.old) }
         ensures ok { OnOk result (self.new ≡ put_slot self.old buffer) }
         ensures err { OnErr result (self.new ≡ self.old) }
     {
-        let index = put(&mut self.slots, buffer)?;
+        let index = free_from(&self.slots, self.first);
+        put(&mut self.slots, index, buffer)?;
+        self.live += 1;
+        self.first = index + 1;
         Ok(index as u32 + 1)
     }
-}
-
-/// How many slots are live.
-fn live_of(slots: &[Option<AnyBuffer>]) -> u32
-    requires { length slots.now ≤ MOST_SLOTS }
-    ensures { result ≡ live_slots slots.now }
-{
-    let mut live: u32 = 0;
-    for i in 0..slots.len() {
-        if slots[i].is_some() {
-            live += 1;
-        }
-    }
-    live
 }
 
 /// Whether there is a slot at an index.
@@ -281,33 +284,29 @@ fn is_lagging(slot: &Option<AnyBuffer>, number: u64) -> bool
     }
 }
 
-/// Puts a slot at the first free index, which it answers.
-fn put(slots: &mut Vec<Option<AnyBuffer>>, buffer: AnyBuffer) -> Result<usize, NoMemory>
-    requires few { live_slots slots.old.items < MOST_SLOTS }
-    requires most { length slots.old.items ≤ MOST_SLOTS }
-    ensures number { IfOk result (λ index. index + 1 ≡ free_number slots.old.items) }
-    ensures below { IfOk result (λ index. index < MOST_SLOTS) }
-    ensures ok { OnOk result (slots.new.items ≡ put_slot slots.old.items buffer) }
-    ensures most { OnOk result (length slots.new.items ≤ MOST_SLOTS) }
-    ensures err { OnErr result (slots.new.items ≡ slots.old.items) }
-{
-    let index = free_of(slots);
-    if index < slots.len() {
-        slots[index] = Some(buffer);
-    } else {
-        slots.push(Some(buffer))?;
-    }
-    Ok(index)
-}
-
-/// The first free index.
-fn free_of(slots: &[Option<AnyBuffer>]) -> usize
+/// The first free index, where none below `from` is free.
+fn free_from(slots: &[Option<AnyBuffer>], from: usize) -> usize
+    requires { from < free_number slots.now }
     ensures { result + 1 ≡ free_number slots.now }
 {
-    for i in 0..slots.len() {
+    for i in from..slots.len() {
         if slots[i].is_none() {
             return i;
         }
     }
     slots.len()
+}
+
+/// Puts a slot at the first free index.
+fn put(slots: &mut Vec<Option<AnyBuffer>>, index: usize, buffer: AnyBuffer) -> Result<(), NoMemory>
+    requires { index + 1 ≡ free_number slots.old.items }
+    ensures ok { OnOk result (slots.new.items ≡ put_slot slots.old.items buffer) }
+    ensures err { OnErr result (slots.new.items ≡ slots.old.items) }
+{
+    if index < slots.len() {
+        slots[index] = Some(buffer);
+    } else {
+        slots.push(Some(buffer))?;
+    }
+    Ok(())
 }

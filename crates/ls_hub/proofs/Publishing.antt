@@ -1,79 +1,94 @@
--- A publish on the world's only item.
-use Rattle.std.proofs.Common.{◌≡◌, ◌==◌, ◌&&◌, ℕ, zero, suc, ◌+◌, List, [], ◌∷◌, ◌++◌, length, refl, sym, ◌∙◌, ap, subst, cond, Bool, true, false, Option, Some}
-use Rattle.std.proofs.Common.{None, Result, Ok, Err, OnOk, OnErr, slice_get, append-nil}
-use Rattle.std.proofs.lemmas.Bool.{eq-eqb}
+-- Publishes and enqueues of a hub are those of the world.
+use Rattle.std.proofs.Common.{◌≡◌, ℕ, zero, suc, ◌+◌, ◌<◌, ◌≤◌, List, [], ◌∷◌, ◌++◌, length, map, get_or, refl, sym, ◌∙◌, ap, subst, cond, Bool, true, false}
+use Rattle.std.proofs.Common.{nat_lt, slice_get, append-nil, Option, Some, None, Result, Ok, Err, OnOk, OnErr}
+use Rattle.std.specs.Prelude.{option_map}
+use Rattle.std.specs.Option.{option_map_or}
 use Rattle.ls_event.specs.declared.event.Entry.{Entry}
 use Rattle.ls_event.specs.declared.event.PublishRefused.{PublishRefused}
 use Rattle.ls_event.specs.declared.event.PublishRefused.TheVariants as refused
-use Rattle.ls_event.specs.Shapes.{Shape, shape_of}
+use Rattle.ls_event.specs.Shapes.{shape_of}
 use Rattle.ls_event.specs.Publishes.{refusal}
-use Rattle.ls_event.specs.Slots.{Slot, is_far}
-use Rattle.ls_cell.specs.Cell.{Held, StandsCell, AnswersFirst, least_lagging}
+use Rattle.ls_event.specs.Slots.{enqueued as slot_after}
+use Rattle.ls_cell.specs.Cell.{AnswersFirst, enqueue_answer}
+use Rattle.ls_cell.specs.declared.cell.Enqueued.{Enqueued}
+use Rattle.ls_cell.specs.declared.cell.Enqueued.TheVariants as enqueued
 use Rattle.ls_step.specs.declared.out.Out.{Out}
 use Rattle.ls_step.specs.declared.out.Out.TheVariants as out
-use Rattle.ls_world.specs.Lines.{Line}
-use Rattle.ls_world.specs.World.{World, Item, Live, Session, change, least_far, least_of, far_numbers}
+use Rattle.ls_step.specs.Notes.{text_of_out}
+use Rattle.ls_world.specs.Cases.{with_found}
+use Rattle.ls_world.specs.Lawful.{Apart}
 use Rattle.ls_world.specs.Script.{text_of_outs}
-use Rattle.ls_world.proofs.Parts.{published_by, published}
-use Rattle.ls_world.specs.Steps.{Stepped, stays, grown, is_whole, publishes, refused_out}
-use Rattle.ls_subs.specs.Subscription.{Subscribed}
-use Rattle.ls_session.specs.Session.{slots_in, definition_of, IsItem, StandsItem, StandsRound}
-use Rattle.ls_hub.specs.Hub.{StandsAll, StandsParts, DidStep, outs_published}
-use Rattle.ls_session.specs.declared.session.Item.{Item as Kept}
-use Rattle.ls_session.specs.declared.session.Session.{Session as Holding}
+use Rattle.ls_world.specs.World.{World, Item, Live, Session, change, definitions, all_live, live_at, on_board, enqueued_in, history_of, enqueue_slot}
+use Rattle.ls_subs.specs.declared.slot_ref.SlotRef.{SlotRef}
+use Rattle.ls_subs.specs.Standing.{ref_of}
+use Rattle.ls_world.specs.Steps.{session_of, with_session}
+use Rattle.ls_world.specs.Steps.{Once, Stepped, stays, ends, goes_on, grown, is_whole, cause_to_refuse, publishes, enqueue_once}
+use Rattle.ls_world.proofs.Parts.{published_by, published, enqueued_by}
+use Rattle.ls_session.specs.Record.{Record}
+use Rattle.ls_session.specs.declared.session.Session.{Session as Kept}
+use Rattle.ls_hub.specs.declared.hub.Hub.{Hub}
+use Rattle.ls_cells.specs.Cells.{AllCells, StandsCells, far_in}
+use Rattle.ls_session.specs.Session.{StandsSession}
+use Rattle.ls_hub.specs.Hub.{StandsHub, Prints, DidOnce, IsSession, AreSessions, seen, session_at, slot_in, outs_published, out_enqueued, has_moved}
+use Rattle.ls_cells.proofs.Lives.{SessionAt, session_at as session_at_place, middle}
+use Rattle.ls_hub.proofs.Alive.{alive_changed}
+use Rattle.ls_hub.proofs.Sessions.{kept_read}
+use Rattle.ls_hub.proofs.KeptSessions.{LiveAt, are_same, apart_at, live_found}
+use Rattle.ls_hub.proofs.Hubs.{none_at, past_at, some_at}
+use Rattle.ls_session.proofs.Enqueuing.{session_enqueued}
 
--- a step, what it prints, and what stands for the world after it
-record StandsStep (s : Stepped) (outs : List Out) (c : Option Kept) (k : Option Holding) : Type 0 where
-  prints : outs ≡ s.outs
-  stands : StandsParts c k s.after
+-- a hub of which nothing changed but the cells
+pub record ChangedCells (h h' : Hub) : Type 0 where
+  pub config : h'.config ≡ h.config
+  pub connections : h'.connections ≡ h.connections
+  pub alive : h'.alive ≡ h.alive
+  pub sessions : h'.sessions ≡ h.sessions
 
-step_did : (s : Stepped) (outs : List Out) (before after : List ℕ) (c : Option Kept) (k : Option Holding) → StandsStep s outs c k
-    → after ≡ before ++ text_of_outs outs → DidStep s before after c k
-step_did s outs before after c k d text = record { text = text ∙ ap (λ os. before ++ text_of_outs os) d.prints; stands = d.stands }
+-- the items have the definitions that they had
+grown_definitions : (items : List Item) (n : ℕ) (e : Entry) → definitions (change n (grown e) items) ≡ definitions items
+grown_definitions [] n e = refl
+grown_definitions (i ∷ items) zero e = refl
+grown_definitions (i ∷ items) (suc n) e = ap (λ ds. i.definition ∷ ds) (grown_definitions items n e)
 
--- the slots of the only session
-abbrev pub slots_of : List Session → List (Option Slot)
-slots_of [] = []
-slots_of (s ∷ sessions) = slots_in s.board.round
+with_cells : (h h' : Hub) (w : World) → ChangedCells h h' → StandsHub h w → StandsCells h'.cells w.items (all_live w.sessions) → StandsHub h' w
+with_cells h h' w same st cells =
+    record {
+      set = ap (λ c. c.set) same.config ∙ st.set;
+      definitions = ap (λ c. c.items) same.config ∙ st.definitions;
+      cells = cells;
+      sessions = subst (λ ks. AreSessions ks.items w.sessions) (sym same.sessions) st.sessions;
+      alive = same.alive ∙ st.alive;
+      connections = ap (λ cs. map seen cs.items) same.connections ∙ st.connections;
+    }
 
-pub item_of : (c : Option Kept) (k : Option Holding) (items : List Item) (ss : List Session) → StandsAll c k items ss → StandsItem c (slots_of ss) items
-item_of c None items [] st = st
-item_of c None items (s ∷ ss) st = absurd st
-item_of c (Some k) items [] st = absurd st
-item_of c (Some k) items (s ∷ []) st = st.item
-item_of c (Some k) items (s ∷ t ∷ ss) st = absurd st
+with_event : (h h' : Hub) (w : World) (n : ℕ) (e : Entry) → ChangedCells h h' → StandsHub h w
+    → StandsCells h'.cells (change n (grown e) w.items) (all_live w.sessions) → StandsHub h' (record w { items = change n (grown e) w.items })
+with_event h h' w n e same st cells =
+    record {
+      set = ap (λ c. c.set) same.config ∙ st.set;
+      definitions = ap (λ c. c.items) same.config ∙ st.definitions ∙ sym (grown_definitions w.items n e);
+      cells = cells;
+      sessions = subst (λ ks. AreSessions ks.items w.sessions) (sym same.sessions) st.sessions;
+      alive = same.alive ∙ st.alive;
+      connections = ap (λ cs. map seen cs.items) same.connections ∙ st.connections;
+    }
 
--- another item in its place
-pub with_item : (c c' : Option Kept) (k : Option Holding) (items items' : List Item) (ss : List Session) → StandsAll c k items ss
-    → StandsItem c' (slots_of ss) items' → StandsAll c' k items' ss
-with_item c c' None items items' [] st it = it
-with_item c c' None items items' (s ∷ ss) st it = absurd st
-with_item c c' (Some k) items items' [] st it = absurd st
-with_item c c' (Some k) items items' (s ∷ []) st it = record { item = it; owed = st.owed; unsent = st.unsent; last = st.last; sent = st.sent; round = st.round }
-with_item c c' (Some k) items items' (s ∷ t ∷ ss) st it = absurd st
-
--- the least slot that lags is the only one
-far_round : (n : ℕ) (o : Option Subscribed) (lines : List Line) (vs : List Live) → StandsRound o lines vs
-    → least_of (far_numbers 0 n (vs ++ [])) ≡ least_lagging n (slots_in vs)
-far_round n None lines [] st = refl
-far_round n None lines (v ∷ vs) st = absurd st
-far_round n (Some u) lines [] st = refl
-far_round n (Some u) lines (v ∷ []) st =
-    let this : (0 == v.item) ≡ true = eq-eqb 0 v.item (sym st.item) in
-    by_far (is_far n v.slot) this
+-- an event isn't the item's, or there is no item
+pub publishes_nothing : (h : Hub) (w : World) (n : ℕ) (e : Entry) (text : List ℕ)
+    → option_map_or (λ i. is_whole (length i.definition.fields) e.event) (slice_get w.items n) false ≡ false → StandsHub h w
+    → Prints (publishes w n e) text text h
+publishes_nothing h w n e text not st =
+    by_item (slice_get w.items n) not
   where
-    by_far : (b : Bool) → (0 == v.item) ≡ true → least_of (cond ((0 == v.item) && b) (v.number ∷ []) []) ≡ cond b (Some 1) None
-    by_far true this = ap (λ t. least_of (cond (t && true) (v.number ∷ []) [])) this ∙ ap (λ m. Some m) st.number
-    by_far false this = ap (λ t. least_of (cond (t && false) (v.number ∷ []) [])) this
-far_round n (Some u) lines (v ∷ x ∷ vs) st = absurd st
+    by_whole : (i : Item) (b : Bool) → b ≡ false
+        → Prints (cond b (published_by w n e (length i.history + 1) (cause_to_refuse w n e i)) (stays w [])) text text h
+    by_whole i true e = absurd cc
+    by_whole i false e = record { text = sym (append-nil text); stands = st }
 
-far_is : (c : Option Kept) (k : Option Holding) (items : List Item) (ss : List Session) (n : ℕ) → StandsAll c k items ss
-    → least_far 0 n ss ≡ least_lagging n (slots_of ss)
-far_is c None items [] n st = refl
-far_is c None items (s ∷ ss) n st = absurd st
-far_is c (Some k) items [] n st = absurd st
-far_is c (Some k) items (s ∷ []) n st = far_round n k.subscription s.board.lines s.board.round st.round
-far_is c (Some k) items (s ∷ t ∷ ss) n st = absurd st
+    by_item : (o : Option Item) → option_map_or (λ i. is_whole (length i.definition.fields) e.event) o false ≡ false
+        → Prints (published w n e o) text text h
+    by_item None not = record { text = sym (append-nil text); stands = st }
+    by_item (Some i) not = by_whole i (is_whole (length i.definition.fields) e.event) not
 
 -- a refusal other than want of memory is the first cause
 first_is : (cause : Option PublishRefused) (n : ℕ) (e : PublishRefused) → (e ≡ refused.NoMemory → ⊥) → AnswersFirst cause n (Err e) → cause ≡ Some e
@@ -86,109 +101,214 @@ first_is cause n (refused.Backlog slot) some a = a
 first_is cause n refused.Spent some a = a
 first_is cause n refused.NoMemory some a = absurd (some refl)
 
--- what a publish does to an item
-pub record PublishDid (c c' : Kept) (e : Entry) (answer : Result ℕ PublishRefused) : Type 0 where
-  pub whole : is_whole c.cell.item.shape.fields e.event ≡ true
+-- what a publish does to the cells
+pub record PublishDid (c c' : AllCells) (n : ℕ) (e : Entry) (answer : Result ℕ PublishRefused) : Type 0 where
   pub some : answer ≡ Err refused.NoMemory → ⊥
-  pub first : (ss : List (Option Slot)) (h : List Entry) → StandsCell c.cell ss h
-      → AnswersFirst (refusal c.cell.item.shape h (least_lagging (length h) ss) e.adapter e.seq e.event) (length h + 1) answer
-  pub stands : OnOk answer ((ss : List (Option Slot)) (h : List Entry) → StandsCell c.cell ss h → StandsCell c'.cell ss (h ++ e ∷ []))
-  pub same : OnErr answer (c'.cell ≡ c.cell)
-  pub shape : c'.cell.item.shape ≡ c.cell.item.shape
-  pub definition : definition_of c' ≡ definition_of c
+  pub first : (items : List Item) (lives : List Live) (i : Item) → StandsCells c items lives → slice_get items n ≡ Some i
+      → AnswersFirst (refusal (shape_of i.definition) i.history (far_in n (length i.history) lives) e.adapter e.seq e.event) (length i.history + 1) answer
+  pub stands : OnOk answer ((items : List Item) (lives : List Live) → StandsCells c items lives → StandsCells c' (change n (grown e) items) lives)
+  pub same : OnErr answer ((items : List Item) (lives : List Live) → StandsCells c items lives → StandsCells c' items lives)
 
-parts_same : (c : Option Kept) (k : Option Holding) (w : World) (items : List Item) → StandsParts c k w → (c' : Option Kept) → StandsAll c' k items w.sessions
-    → StandsParts c' k (record w { items = items })
-parts_same c k w items st c' all = record { all = all; leads = st.leads }
-
-by_answer : (c c' : Kept) (k : Option Holding) (w : World) (i : Item) (e : Entry) (answer : Result ℕ PublishRefused) → w.items ≡ i ∷ []
-    → StandsParts (Some c) k w
-    → IsItem c (slots_of w.sessions) i → PublishDid c c' e answer
-    → AnswersFirst (refusal (shape_of i.definition) i.history (least_far 0 (length i.history) w.sessions) e.adapter e.seq e.event) (length i.history + 1) answer
-    → StandsStep
-    (published_by w 0 e (length i.history + 1) (refusal (shape_of i.definition) i.history (least_far 0 (length i.history) w.sessions) e.adapter e.seq
-    e.event)) (outs_published answer) (Some c') k
-by_answer c c' k w i e (Ok n) only st item p first =
-    subst (λ (o : Option PublishRefused). StandsStep (published_by w 0 e (length i.history + 1) o) (out.Published n ∷ []) (Some c') k) (sym first.0)
+by_answer : (h h' : Hub) (w : World) (n : ℕ) (i : Item) (e : Entry) (answer : Result ℕ PublishRefused) (cause : Option PublishRefused) (before after : List ℕ)
+    → ChangedCells h h' → StandsHub h w → PublishDid h.cells h'.cells n e answer → AnswersFirst cause (length i.history + 1) answer
+    → after ≡ before ++ text_of_outs (outs_published answer) → Prints (published_by w n e (length i.history + 1) cause) before after h'
+by_answer h h' w n i e (Ok number) cause before after same st p first text =
+    subst (λ (o : Option PublishRefused). Prints (published_by w n e (length i.history + 1) o) before after h') (sym first.0)
     (record {
-      prints = ap (λ m. out.Published m ∷ []) first.1;
-      stands = parts_same (Some c) k w (change 0 (grown e) w.items) st (Some c')
-          (subst (λ (items : List Item). StandsAll (Some c') k (change 0 (grown e) items) w.sessions) (sym only)
-          (with_item (Some c) (Some c') k w.items (grown e i ∷ []) w.sessions st.all
-          (record { cell = p.stands (slots_of w.sessions) i.history item.cell; definition = p.definition ∙ item.definition; shape = p.shape ∙ item.shape })));
+      text = text ∙ ap (λ m. before ++ text_of_outs (out.Published m ∷ [])) first.1;
+      stands = with_event h h' w n e same st (p.stands w.items (all_live w.sessions) st.cells);
     })
-by_answer c c' k w i e (Err cause) only st item p first =
-    let all : StandsAll (Some c') k w.items w.sessions =
-    subst (λ (items : List Item). StandsAll (Some c') k items w.sessions) (sym only)
-    (with_item (Some c) (Some c') k w.items (i ∷ []) w.sessions st.all
-    (record {
-      cell = subst (λ (x : Held). StandsCell x (slots_of w.sessions) i.history) (sym p.same) item.cell;
-      definition =
-          p.definition ∙ item.definition;
-      shape = p.shape ∙ item.shape;
-    })) in
-    subst (λ (o : Option PublishRefused). StandsStep (published_by w 0 e (length i.history + 1) o) (refused_out cause) (Some c') k)
-    (sym (first_is _ (length i.history + 1) cause (λ x. p.some (ap (λ y. Err y) x)) first))
-    (record { prints = refl; stands = record { all = all; leads = st.leads } })
+by_answer h h' w n i e (Err refusal) cause before after same st p first text =
+    subst (λ (o : Option PublishRefused). Prints (published_by w n e (length i.history + 1) o) before after h')
+    (sym (first_is cause (length i.history + 1) refusal (λ x. p.some (ap (λ y. Err y) x)) first))
+    (record { text = text; stands = with_cells h h' w same st (p.same w.items (all_live w.sessions) st.cells) })
 
-at_item : (c c' : Kept) (k : Option Holding) (w : World) (e : Entry) (answer : Result ℕ PublishRefused) → PublishDid c c' e answer → StandsParts (Some c) k w
-    → (items : List Item) → w.items ≡ items → StandsItem (Some c) (slots_of w.sessions) items
-    → StandsStep (published w 0 e (slice_get items 0)) (outs_published answer) (Some c') k
-at_item c c' k w e answer p st [] is x = absurd x
-at_item c c' k w e answer p st (i ∷ j ∷ items) is x = absurd x
-at_item c c' k w e answer p st (i ∷ []) is x =
-    let shape : c.cell.item.shape ≡ shape_of i.definition = x.shape in
-    let fits : is_whole (length i.definition.fields) e.event ≡ true = ap (λ (q : Shape). is_whole q.fields e.event) (sym shape) ∙ p.whole in
-    let cause : refusal c.cell.item.shape i.history (least_lagging (length i.history) (slots_of w.sessions)) e.adapter e.seq e.event
-    ≡ refusal (shape_of i.definition) i.history (least_far 0 (length i.history) w.sessions) e.adapter e.seq e.event =
-    ap (λ q. refusal q i.history (least_lagging (length i.history) (slots_of w.sessions)) e.adapter e.seq e.event) shape
-    ∙ ap (λ o. refusal (shape_of i.definition) i.history o e.adapter e.seq e.event) (sym (far_is (Some c) k w.items w.sessions (length i.history) st.all)) in
-    let first : AnswersFirst (refusal (shape_of i.definition) i.history (least_far 0 (length i.history) w.sessions) e.adapter e.seq e.event)
-    (length i.history + 1) answer =
-    subst (λ (o : Option PublishRefused). AnswersFirst o (length i.history + 1) answer) cause (p.first (slots_of w.sessions) i.history x.cell) in
-    subst (λ (b : Bool). StandsStep
-    (cond b (published_by w 0 e (length i.history + 1) (refusal (shape_of i.definition) i.history (least_far 0 (length i.history) w.sessions) e.adapter
-    e.seq e.event)) (stays w [])) (outs_published answer) (Some c') k) (sym fits)
-    (by_answer c c' k w i e answer is st x p first)
+pub publishes_did : (h h' : Hub) (w : World) (n : ℕ) (e : Entry) (answer : Result ℕ PublishRefused) (before after : List ℕ) → ChangedCells h h'
+    → StandsHub h w → PublishDid h.cells h'.cells n e answer
+    → option_map_or (λ i. is_whole (length i.definition.fields) e.event) (slice_get w.items n) false ≡ true
+    → after ≡ before ++ text_of_outs (outs_published answer) → Prints (publishes w n e) before after h'
+publishes_did h h' w n e answer before after same st p whole text = by_item (slice_get w.items n) refl whole
+  where
+    by_item : (o : Option Item) → slice_get w.items n ≡ o → option_map_or (λ i. is_whole (length i.definition.fields) e.event) o false ≡ true
+        → Prints (published w n e o) before after h'
+    by_item None is whole = absurd cc
+    by_item (Some i) is whole =
+        ap_prints (published_by w n e (length i.history + 1) (cause_to_refuse w n e i)) (is_whole (length i.definition.fields) e.event) whole
+        (by_answer h h' w n i e answer (cause_to_refuse w n e i) before after same st p (p.first w.items (all_live w.sessions) i st.cells is) text)
+      where
+        ap_prints : (s : Stepped) (b : Bool) → b ≡ true → Prints s before after h' → Prints (cond b s (stays w [])) before after h'
+        ap_prints s true is p = p
+        ap_prints s false is p = absurd cc
 
-pub publishes_did : (c c' : Kept) (k : Option Holding) (w : World) (e : Entry) (answer : Result ℕ PublishRefused) (before after : List ℕ)
-    → PublishDid c c' e answer
-    → after ≡ before ++ text_of_outs (outs_published answer) → StandsParts (Some c) k w → DidStep (publishes w 0 e) before after (Some c') k
-publishes_did c c' k w e answer before after p text st =
-    step_did (publishes w 0 e) (outs_published answer) before after (Some c') k (at_item c c' k w e answer p st w.items refl
-    (item_of (Some c) k w.items w.sessions st.all)) text
+-- the slot of a rank in a subscription of a connection's session
+pub record SlotIn (w : World) (connection sub rank : ℕ) (v : Live) : Type 0 where
+  pub place : ℕ
+  pub session : Session
+  pub linked : session_of w connection ≡ Some place
+  pub found : slice_get w.sessions place ≡ Some session
+  pub at : live_at sub rank session.board.round ≡ Some v
 
--- a publish that does nothing: on no item, on another place than the only one's, or with another number of fields
-none_at : (c : Option Kept) (ss : List (Option Slot)) (items : List Item) (place : ℕ) → StandsItem c ss items → (place ≡ 0 → c ≡ None)
-    → slice_get items place ≡ None
-none_at None ss [] place st away = refl
-none_at None ss (i ∷ items) place st away = absurd st
-none_at (Some c) ss [] place st away = refl
-none_at (Some c) ss (i ∷ j ∷ items) place st away = absurd st
-none_at (Some c) ss (i ∷ []) zero st away = absurd (let x : Some c ≡ None = away refl in cc)
-none_at (Some c) ss (i ∷ []) (suc n) st away = refl
+pub slot_found : (w : World) (connection sub rank : ℕ) (v : Live) → slot_in w connection sub rank ≡ Some v → SlotIn w connection sub rank v
+slot_found w connection sub rank v is = by_linked (session_of w connection) refl is
+  where
+    by_session : (n : ℕ) (o : Option Session) → session_of w connection ≡ Some n → slice_get w.sessions n ≡ o
+        → with_found o None (λ s. live_at sub rank s.board.round) ≡ Some v → SlotIn w connection sub rank v
+    by_session n None linked found is = absurd (let x : None ≡ Some v = is in cc)
+    by_session n (Some s) linked found is = record { place = n; session = s; linked = linked; found = found; at = is }
 
-pub publishes_nothing : (c : Option Kept) (k : Option Holding) (w : World) (place : ℕ) (e : Entry) (text : List ℕ) → StandsParts c k w → (place ≡ 0 → c ≡ None)
-    → DidStep (publishes w place e) text text c k
-publishes_nothing c k w place e text st away =
-    subst (λ (o : Option Item). DidStep (published w place e o) text text c k) (sym
-    (none_at c (slots_of w.sessions) w.items place (item_of c k w.items w.sessions st.all) away))
-    (record { text = sym (append-nil text); stands = st })
+    by_linked : (o : Option ℕ) → session_of w connection ≡ o → with_session w.sessions o None (λ n s. live_at sub rank s.board.round) ≡ Some v
+        → SlotIn w connection sub rank v
+    by_linked None linked is = absurd (let x : None ≡ Some v = is in cc)
+    by_linked (Some n) linked is = by_session n (slice_get w.sessions n) linked refl is
 
-unwhole_at : (c : Kept) (k : Option Holding) (w : World) (e : Entry) → is_whole c.cell.item.shape.fields e.event ≡ false → StandsParts (Some c) k w
-    → (items : List Item) → StandsItem (Some c) (slots_of w.sessions) items → StandsStep (published w 0 e (slice_get items 0)) [] (Some c) k
-unwhole_at c k w e other st [] x = absurd x
-unwhole_at c k w e other st (i ∷ j ∷ items) x = absurd x
-unwhole_at c k w e other st (i ∷ []) x =
-    let fits : is_whole (length i.definition.fields) e.event ≡ false = ap (λ (q : Shape). is_whole q.fields e.event) (sym x.shape) ∙ other in
-    subst (λ (b : Bool). StandsStep
-    (cond b (published_by w 0 e (length i.history + 1) (refusal (shape_of i.definition) i.history (least_far 0 (length i.history) w.sessions) e.adapter
-    e.seq e.event)) (stays w [])) [] (Some c) k) (sym fits)
-    (record { prints = refl; stands = st })
+none_found : (w : World) (connection sub rank : ℕ) → slot_in w connection sub rank ≡ None → enqueue_once connection sub rank w ≡ ends w out.NoSlot
+none_found w connection sub rank is = by_linked (session_of w connection) is
+  where
+    by_session : (n : ℕ) (o : Option Session) → with_found o None (λ s. live_at sub rank s.board.round) ≡ None
+        → with_found o (ends w out.NoSlot) (λ s. enqueued_by w n sub rank (live_at sub rank s.board.round)) ≡ ends w out.NoSlot
+    by_session n None is = refl
+    by_session n (Some s) is = ap (enqueued_by w n sub rank) is
 
-pub publishes_unwhole : (c : Kept) (k : Option Holding) (w : World) (e : Entry) (text : List ℕ) → is_whole c.cell.item.shape.fields e.event ≡ false
-    → StandsParts (Some c) k w
-    → DidStep (publishes w 0 e) text text (Some c) k
-publishes_unwhole c k w e text other st =
-    step_did (publishes w 0 e) [] text text (Some c) k (unwhole_at c k w e other st w.items (item_of (Some c) k w.items w.sessions st.all))
-    (sym (append-nil text))
+    by_linked : (o : Option ℕ) → with_session w.sessions o None (λ n s. live_at sub rank s.board.round) ≡ None
+        → with_session w.sessions o (ends w out.NoSlot) (λ n s. enqueued_by w n sub rank (live_at sub rank s.board.round)) ≡ ends w out.NoSlot
+    by_linked None is = refl
+    by_linked (Some n) is = by_session n (slice_get w.sessions n) is
+
+-- by its name
+pub record NamedIn (w : World) (connection sub rank : ℕ) (slot : SlotRef) : Type 0 where
+  pub live : Live
+  pub is : slot ≡ ref_of live
+  pub there : SlotIn w connection sub rank live
+
+pub named_in : (w : World) (connection sub rank : ℕ) (o : Option SlotRef) (slot : SlotRef) → o ≡ option_map ref_of (slot_in w connection sub rank)
+    → o ≡ Some slot
+    → NamedIn w connection sub rank slot
+named_in w connection sub rank o slot is some = by_slot (slot_in w connection sub rank) refl (sym is ∙ some)
+  where
+    by_slot : (v : Option Live) → slot_in w connection sub rank ≡ v → option_map ref_of v ≡ Some slot → NamedIn w connection sub rank slot
+    by_slot None at is = absurd (let x : None ≡ Some slot = is in cc)
+    by_slot (Some v) at is = let same : ref_of v ≡ slot = cc in record { live = v; is = sym same; there = slot_found w connection sub rank v at }
+
+-- there is none
+pub no_slot : (h : Hub) (w : World) (connection sub rank : ℕ) (o : Option SlotRef) (text last : List ℕ) → StandsHub h w
+    → o ≡ option_map ref_of (slot_in w connection sub rank) → o ≡ None → last ≡ text ++ text_of_out out.NoSlot
+    → DidOnce (enqueue_once connection sub rank w) false text last h
+no_slot h w connection sub rank o text last st is none said = by_slot (slot_in w connection sub rank) refl (sym is ∙ none)
+  where
+    by_slot : (v : Option Live) → slot_in w connection sub rank ≡ v → option_map ref_of v ≡ None
+        → DidOnce (enqueue_once connection sub rank w) false text last h
+    by_slot None at is =
+        subst (λ (x : Once). DidOnce x false text last h) (sym (none_found w connection sub rank at)) (record { more = refl; text = said; stands = st })
+    by_slot (Some v) at is = absurd (let x : Some (ref_of v) ≡ None = is in cc)
+
+-- what a hub finds
+pub slot_unlinked : (h : Hub) (w : World) (connection sub rank : ℕ) → StandsHub h w → session_at h.connections.items connection ≡ None
+    → None ≡ option_map ref_of (slot_in w connection sub rank)
+slot_unlinked h w connection sub rank st none =
+    sym (ap (option_map ref_of) (none_at h w connection None (λ n s. live_at sub rank s.board.round) st none))
+
+pub slot_past : (h : Hub) (w : World) (connection place sub rank : ℕ) → StandsHub h w → session_at h.connections.items connection ≡ Some place
+    → length h.sessions.items ≤ place → None ≡ option_map ref_of (slot_in w connection sub rank)
+slot_past h w connection place sub rank st linked past =
+    sym (ap (option_map ref_of) (past_at h w connection place None (λ n s. live_at sub rank s.board.round) st linked past))
+
+pub slot_there : (h : Hub) (w : World) (connection place sub rank : ℕ) (k : Kept) (o : Option SlotRef) → StandsHub h w
+    → session_at h.connections.items connection ≡ Some place → place < length h.sessions.items → k ≡ get_or h.sessions.items place k
+    → ((r : Record) → StandsSession k r → o ≡ option_map ref_of (live_at sub rank r.session.board.round))
+    → o ≡ option_map ref_of (slot_in w connection sub rank)
+slot_there h w connection place sub rank k o st linked low is finds =
+    let at = kept_read h.sessions.items w.sessions place k st.sessions low is in
+    finds at.stands.asking at.stands.stands
+    ∙ ap (λ (s : Session). option_map ref_of (live_at sub rank s.board.round)) at.stands.session
+    ∙ sym (ap (option_map ref_of) (some_at h w connection place at.session None (λ n s. live_at sub rank s.board.round) st linked at.found))
+
+-- what an enqueue does to the cells
+abbrev pub EnqueueDid : AllCells → AllCells → ℕ → ℕ → Option Enqueued → Type 0
+EnqueueDid c c' item slot answer = (items : List Item) (a b : List Live) (v : Live) → StandsCells c items (a ++ v ∷ b) → v.item ≡ item → v.number ≡ slot
+    → (answer ≡ Some (enqueue_answer (length (history_of items v.item)) v.slot.last))
+    × StandsCells c' items (a ++ enqueue_slot (history_of items v.item) v ∷ b)
+
+-- what is kept of a session stands for it, whatever its slots took
+keeps_enqueued : (items : List Item) (sub rank : ℕ) (s : Session) (k : Kept) → IsSession k s → IsSession k (on_board (enqueued_in items sub rank) s)
+keeps_enqueued items sub rank s k is =
+    record {
+      asking = record is.asking { session = on_board (enqueued_in items sub rank) is.asking.session };
+      session = ap (on_board (enqueued_in items sub rank)) is.session;
+      first = is.first;
+      stands = session_enqueued k is.asking items sub rank is.stands;
+    }
+
+-- a slot takes an event, or is up to date
+enqueue_at_place : (h h' : Hub) (w : World) (connection place sub rank : ℕ) (s : Session) (v : Live) (answer : Option Enqueued) (text last : List ℕ)
+    → StandsHub h w → ChangedCells h h' → session_of w connection ≡ Some place → slice_get w.sessions place ≡ Some s → Apart s.board.round
+    → live_at sub rank s.board.round ≡ Some v → EnqueueDid h.cells h'.cells v.item v.number answer
+    → last ≡ text ++ text_of_out (out_enqueued answer) → DidOnce (enqueue_once connection sub rank w) (has_moved answer) text last h'
+enqueue_at_place h h' w connection place sub rank s v answer text last st same linked found apart at did said =
+    subst (λ (o : Once). DidOnce o (has_moved answer) text last h') (sym
+    (ap (λ o. with_session w.sessions o (ends w out.NoSlot) (λ n x. enqueued_by w n sub rank (live_at sub rank x.board.round))) linked
+    ∙ ap (λ o. with_found o (ends w out.NoSlot) (λ x. enqueued_by w place sub rank (live_at sub rank x.board.round))) found
+    ∙ ap (enqueued_by w place sub rank) at))
+    (by_test (nat_lt v.slot.last (length (history_of w.items v.item))) refl)
+  where
+    slot : LiveAt s.board.round sub rank v
+    slot = live_found s.board.round sub rank v apart at
+
+    after : Session
+    after = on_board (enqueued_in w.items sub rank) s
+
+    around : SessionAt w.sessions place s
+    around = session_at_place w.sessions place s found
+
+    split : all_live w.sessions ≡ (around.before ++ slot.before) ++ v ∷ (slot.behind ++ around.after)
+    split = around.all ∙ ap (λ vs. around.before ++ (vs ++ around.after)) slot.round ∙ middle around.before slot.before slot.behind around.after v
+
+    done : (answer ≡ Some (enqueue_answer (length (history_of w.items v.item)) v.slot.last))
+        × StandsCells h'.cells w.items ((around.before ++ slot.before) ++ enqueue_slot (history_of w.items v.item) v ∷ (slot.behind ++ around.after))
+    done = did w.items (around.before ++ slot.before) (slot.behind ++ around.after) v (subst (StandsCells h.cells w.items) split st.cells) refl refl
+
+    moved : all_live (change place (on_board (enqueued_in w.items sub rank)) w.sessions)
+        ≡ (around.before ++ slot.before) ++ enqueue_slot (history_of w.items v.item) v ∷ (slot.behind ++ around.after)
+    moved = around.changed (on_board (enqueued_in w.items sub rank)) ∙ ap (λ vs. around.before ++ (vs ++ around.after)) (slot.enqueued w.items)
+        ∙ middle around.before slot.before slot.behind around.after (enqueue_slot (history_of w.items v.item) v)
+
+    goes : StandsHub h' (record w { sessions = change place (on_board (enqueued_in w.items sub rank)) w.sessions })
+    goes = record {
+      set = ap (λ c. c.set) same.config ∙ st.set;
+      definitions = ap (λ c. c.items) same.config ∙ st.definitions;
+      cells = subst (StandsCells h'.cells w.items) (sym moved) done.1;
+      sessions = subst (λ ks. AreSessions ks.items (change place (on_board (enqueued_in w.items sub rank)) w.sessions)) (sym same.sessions)
+          (are_same h.sessions.items w.sessions place s (on_board (enqueued_in w.items sub rank)) found (keeps_enqueued w.items sub rank s) st.sessions);
+      alive = same.alive ∙ st.alive ∙ sym (alive_changed w.sessions place s (on_board (enqueued_in w.items sub rank)) found refl);
+      connections = ap (λ cs. map seen cs.items) same.connections ∙ st.connections;
+    }
+
+    stayed : enqueue_slot (history_of w.items v.item) v ≡ v → StandsHub h' w
+    stayed is = with_cells h h' w same st
+        (subst (StandsCells h'.cells w.items) (ap (λ u. (around.before ++ slot.before) ++ u ∷ (slot.behind ++ around.after)) is ∙ sym split) done.1)
+
+    printed : (o : Out) (a : Enqueued) → answer ≡ Some a → out_enqueued (Some a) ≡ o → last ≡ text ++ text_of_out o
+    printed o a e is = said ∙ ap (λ x. text ++ text_of_out (out_enqueued x)) e ∙ ap (λ x. text ++ text_of_out x) is
+
+    by_test : (b : Bool) → nat_lt v.slot.last (length (history_of w.items v.item)) ≡ b
+        → DidOnce (cond b
+        (goes_on (record w { sessions = change place (on_board (enqueued_in w.items sub rank)) w.sessions }) (out.Moved (v.slot.last + 1)))
+        (ends w out.UpToDate)) (has_moved answer) text last h'
+    by_test true is =
+        let e : answer ≡ Some (enqueued.Moved (v.slot.last + 1)) = done.0 ∙ ap (λ b. Some (cond b (enqueued.Moved (v.slot.last + 1)) enqueued.UpToDate)) is in
+        record { more = ap has_moved (sym e); text = printed (out.Moved (v.slot.last + 1)) (enqueued.Moved (v.slot.last + 1)) e refl; stands = goes }
+    by_test false is =
+        let e : answer ≡ Some enqueued.UpToDate = done.0 ∙ ap (λ b. Some (cond b (enqueued.Moved (v.slot.last + 1)) enqueued.UpToDate)) is in
+        record {
+          more = ap has_moved (sym e);
+          text = printed out.UpToDate enqueued.UpToDate e refl;
+          stands = stayed (ap (λ b. cond b (record v { slot = slot_after v.slot }) v) is);
+        }
+
+pub enqueue_did : (h h' : Hub) (w : World) (connection sub rank : ℕ) (slot : SlotRef) (answer : Option Enqueued) (text last : List ℕ) → StandsHub h w
+    → ChangedCells h h' → NamedIn w connection sub rank slot → EnqueueDid h.cells h'.cells slot.item slot.slot answer
+    → last ≡ text ++ text_of_out (out_enqueued answer) → DidOnce (enqueue_once connection sub rank w) (has_moved answer) text last h'
+enqueue_did h h' w connection sub rank slot answer text last st same named did said =
+    let there = named.there in
+    enqueue_at_place h h' w connection there.place sub rank there.session named.live answer text last st same there.linked there.found
+    (apart_at h.sessions.items w.sessions there.place there.session there.found st.sessions) there.at
+    (subst (λ (x : SlotRef). EnqueueDid h.cells h'.cells x.item x.slot answer) named.is did) said

@@ -1,6 +1,6 @@
 -- Like steps, one after another, up to one that ends them.
 use Rattle.std.proofs.Common.{◌≡◌, ℕ, zero, suc, ◌+◌, ◌-◌, ◌<◌, ◌&&◌, List, [], ◌∷◌, ◌++◌, refl, sym, ◌∙◌, ap, arith, subst, cond, Bool, true, false}
-use Rattle.std.proofs.Common.{append-nil, append_assoc, slice_get, Option}
+use Rattle.std.proofs.Common.{append-nil, append_assoc}
 use Rattle.std.proofs.lemmas.Grind.{flat_map-append}
 use Rattle.ls_value.proofs.Rows.{and_left, and_right}
 use Rattle.ls_step.specs.declared.out.Out.{Out}
@@ -8,10 +8,9 @@ use Rattle.ls_step.specs.Notes.{text_of_out}
 use Rattle.ls_world.specs.World.{World}
 use Rattle.ls_world.specs.Script.{text_of_outs}
 use Rattle.ls_world.specs.Steps.{Once, Stepped, repeated, stays}
-use Rattle.ls_hub.specs.Hub.{StandsParts, IsOf, DidOnce, DidStep}
+use Rattle.ls_hub.specs.Hub.{StandsHub, Prints, DidOnce}
+use Rattle.ls_hub.specs.declared.hub.Hub.{Hub}
 use Rattle.ls_hub.specs.Repeats.{nth_world, nth_outs, all_go_on, Going}
-use Rattle.ls_session.specs.declared.session.Item.{Item as Kept}
-use Rattle.ls_session.specs.declared.session.Session.{Session as Holding}
 
 -- one more
 world_next : (f : World → Once) (n : ℕ) (w : World) → nth_world f (suc n) w ≡ (f (nth_world f n w)).after
@@ -53,51 +52,36 @@ pub text_one : (o : Out) → text_of_outs (o ∷ []) ≡ text_of_out o
 text_one o = append-nil (text_of_out o)
 
 -- before any
-pub going_start : (f : World → Once) (w : World) (connection : ℕ) (called before : List ℕ) (c : Option Kept) (k : Option Holding) → StandsParts c k w
-    → IsOf w connection called
-    → Going f w connection called 0 before before c k
-going_start f w connection called before c k st named = record { stands = st; named = named; text = sym (append-nil before); goes = refl }
+pub going_start : (f : World → Once) (w : World) (before : List ℕ) (h : Hub) → StandsHub h w → Going f w 0 before before h
+going_start f w before h st = record { stands = st; text = sym (append-nil before); goes = refl }
 
 -- one more was done, and another one follows
-pub going_on : (f : World → Once) (w : World) (connection : ℕ) (called : List ℕ) (n : ℕ) (before after last : List ℕ) (c c' : Option Kept)
-    (k k' : Option Holding) (again : Bool)
-    → Going f w connection called n before after c k → DidOnce (nth_world f n w) (f (nth_world f n w)) again after last c' k' → again ≡ true
-    → Going f w connection called (n + 1) before last c' k'
-going_on f w connection called n before after last c c' k k' again g d more =
+pub going_on : (f : World → Once) (w : World) (n : ℕ) (before after last : List ℕ) (h h' : Hub) (again : Bool) → Going f w n before after h
+    → DidOnce (f (nth_world f n w)) again after last h' → again ≡ true → Going f w (n + 1) before last h'
+going_on f w n before after last h h' again g d more =
     let e : n + 1 ≡ suc n = omega arith in
     let one : List Out = (f (nth_world f n w)).out ∷ [] in
-    subst (λ (m : ℕ). Going f w connection called m before last c' k') (sym e)
+    subst (λ (m : ℕ). Going f w m before last h') (sym e)
     (record {
-      stands = subst (λ (v : World). StandsParts c' k' v) (sym (world_next f n w)) d.stands;
-      named = subst (λ (v : World). IsOf v connection called) (sym (world_next f n w))
-          (record {
-            value = g.named.value;
-            found = ap (λ cs. slice_get cs connection) d.connections ∙ g.named.found;
-            name = g.named.name;
-            session =
-                g.named.session;
-          });
+      stands = subst (λ (v : World). StandsHub h' v) (sym (world_next f n w)) d.stands;
       text = texts_more (nth_outs f n w) one before after last g.text (d.text ∙ ap (λ t. after ++ t) (sym (text_one (f (nth_world f n w)).out)))
           ∙ ap (λ os. before ++ text_of_outs os) (sym (outs_next f n w));
       goes = go_next f n w g.goes (d.more ∙ more);
     })
 
 -- all were done
-pub going_all : (f : World → Once) (w : World) (connection : ℕ) (called : List ℕ) (n times : ℕ) (before after : List ℕ) (c : Option Kept) (k : Option Holding)
-    → n ≡ times
-    → Going f w connection called n before after c k → DidStep (repeated f times w) before after c k
-going_all f w connection called n times before after c k all g =
+pub going_all : (f : World → Once) (w : World) (n times : ℕ) (before after : List ℕ) (h : Hub) → n ≡ times → Going f w n before after h
+    → Prints (repeated f times w) before after h
+going_all f w n times before after h all g =
     let e : repeated f times w ≡ behind_outs (nth_outs f n w) (stays (nth_world f n w) []) =
     ap (λ m. repeated f m w) {x = times} {y = n + zero} (omega (arith, all)) ∙ repeated_from f n zero w g.goes in
-    subst (λ (s : Stepped). DidStep s before after c k) (sym e)
+    subst (λ (s : Stepped). Prints s before after h) (sym e)
     (record { text = g.text ∙ ap (λ os. before ++ text_of_outs os) (sym (append-nil (nth_outs f n w))); stands = g.stands })
 
 -- one more was done, which ends them
-pub going_ended : (f : World → Once) (w : World) (connection : ℕ) (called : List ℕ) (n times : ℕ) (before after last : List ℕ) (c c' : Option Kept)
-    (k k' : Option Holding) (again : Bool)
-    → n < times → Going f w connection called n before after c k → DidOnce (nth_world f n w) (f (nth_world f n w)) again after last c' k' → again ≡ false
-    → DidStep (repeated f times w) before last c' k'
-going_ended f w connection called n times before after last c c' k k' again low g d ends =
+pub going_ended : (f : World → Once) (w : World) (n times : ℕ) (before after last : List ℕ) (h h' : Hub) (again : Bool) → n < times
+    → Going f w n before after h → DidOnce (f (nth_world f n w)) again after last h' → again ≡ false → Prints (repeated f times w) before last h'
+going_ended f w n times before after last h h' again low g d ends =
     let one : List Out = (f (nth_world f n w)).out ∷ [] in
     let stop : (f (nth_world f n w)).more ≡ false = d.more ∙ ends in
     let rest : repeated f (suc (times - n - 1)) (nth_world f n w) ≡ record { after = (f (nth_world f n w)).after; outs = (f (nth_world f n w)).out ∷ [] } =
@@ -106,7 +90,7 @@ going_ended f w connection called n times before after last c c' k k' again low 
     let e : repeated f times w ≡ behind_outs (nth_outs f n w) (record { after = (f (nth_world f n w)).after; outs = (f (nth_world f n w)).out ∷ [] }) =
     ap (λ m. repeated f m w) {x = times} {y = n + suc (times - n - 1)} (omega (arith, low)) ∙ repeated_from f n (suc (times - n - 1)) w g.goes
     ∙ ap (behind_outs (nth_outs f n w)) rest in
-    subst (λ (s : Stepped). DidStep s before last c' k') (sym e)
+    subst (λ (s : Stepped). Prints s before last h') (sym e)
     (record {
       text = texts_more (nth_outs f n w) one before after last g.text (d.text ∙ ap (λ t. after ++ t) (sym (text_one (f (nth_world f n w)).out)));
       stands = d.stands;

@@ -1,4 +1,4 @@
 pub mod Hub
-pub mod Adding
-pub mod Requests
+pub mod Turning
 pub mod Repeats
+pub mod Requests

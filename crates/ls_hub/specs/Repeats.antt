@@ -1,12 +1,11 @@
 -- Like steps, one after another.
-use Rattle.std.specs.Prelude.{◌≡◌, ℕ, zero, suc, List, [], ◌∷◌, ◌++◌, Bool, true, ◌&&◌, Option}
+use Rattle.std.specs.Prelude.{◌≡◌, ℕ, zero, suc, List, [], ◌∷◌, ◌++◌, Bool, true, ◌&&◌}
 use Rattle.ls_step.specs.declared.out.Out.{Out}
 use Rattle.ls_world.specs.World.{World}
 use Rattle.ls_world.specs.Steps.{Once}
 use Rattle.ls_world.specs.Script.{text_of_outs}
-use Rattle.ls_hub.specs.Hub.{StandsParts, IsOf}
-use Rattle.ls_session.specs.declared.session.Item.{Item as Kept}
-use Rattle.ls_session.specs.declared.session.Session.{Session as Holding}
+use Rattle.ls_hub.specs.Hub.{StandsHub}
+use Rattle.ls_hub.specs.declared.hub.Hub.{Hub}
 
 -- the world after n of them, what they print, and whether each asks for a next one
 abbrev pub nth_world : (World → Once) → ℕ → World → World
@@ -22,9 +21,7 @@ all_go_on f zero w = true
 all_go_on f (suc n) w = (f w).more && all_go_on f n (f w).after
 
 -- the first n of them were done and their texts appended, and each asks for a next one
-pub record Going (f : World → Once) (w : World) (connection : ℕ) (called : List ℕ) (n : ℕ) (before after : List ℕ)
-    (c : Option Kept) (k : Option Holding) : Type 0 where
-  pub stands : StandsParts c k (nth_world f n w)
-  pub named : IsOf (nth_world f n w) connection called
+pub record Going (f : World → Once) (w : World) (n : ℕ) (before after : List ℕ) (h : Hub) : Type 0 where
+  pub stands : StandsHub h (nth_world f n w)
   pub text : after ≡ before ++ text_of_outs (nth_outs f n w)
   pub goes : all_go_on f n w ≡ true

@@ -1,82 +1,90 @@
--- What is known of a connection, and what a new subscription makes of the item and the session.
-use Rattle.std.specs.Prelude.{◌≡◌, ◌==◌, ℕ, List, [], ◌∷◌, ◌++◌, length, Bool, true, false, Option, None, Some}
-use Rattle.std.specs.Prelude.{slice_get, option_and_then, unwrap_or, codes, if◌then◌else◌}
-use Rattle.std.specs.Option.{option_map_or}
-use Rattle.std.specs.FinMap as finite
-use Rattle.ls_value.specs.Values.{place_of}
-use Rattle.ls_event.specs.declared.event.Entry.{Entry}
-use Rattle.ls_event.specs.declared.event.Mode.{Mode}
-use Rattle.ls_event.specs.declared.event.Mode.TheVariants as mode
-use Rattle.ls_event.specs.Joining.{plan_of, joined, rows_asked, buffer_size}
-use Rattle.ls_request.specs.declared.request.Add.{Add}
-use Rattle.ls_request.specs.declared.request.LinkKind.{LinkKind}
-use Rattle.ls_request.specs.declared.request.LinkKind.TheVariants as link
-use Rattle.ls_cell.specs.Cell.{StandsCell}
+-- What requests do to the sessions of a hub: which session one names, what it does to that, and which slots join and
+-- leave.
+use Rattle.std.specs.Prelude.{◌≡◌, ℕ, zero, suc, ◌<◌, List, [], ◌∷◌, ◌++◌, length, map, drop, true, Option, None, Some}
+use Rattle.std.specs.Prelude.{slice_get, if◌then◌else◌}
+use Rattle.ls_event.specs.Joining.{plan_of, joined, rows_asked}
+use Rattle.ls_event.specs.declared.limits.TheConstants.{MOST_SLOTS}
+use Rattle.ls_line.specs.declared.line.Line.{Line}
 use Rattle.ls_line.specs.declared.line.Line.TheVariants as line
-use Rattle.ls_line.specs.Lines.{text_of_line}
 use Rattle.ls_world.specs.Cases.{with_found}
 use Rattle.ls_world.specs.Acting.{message_of}
-use Rattle.ls_world.specs.Steps.{is_opening}
-use Rattle.ls_world.specs.Lines.{line_text, Begins, Configures}
-use Rattle.ls_world.specs.Tables.{place_of_field}
-use Rattle.ls_world.specs.World.{is_filtered}
-use Rattle.ls_session.specs.Session.{definition_of}
-use Rattle.ls_hub.specs.Adding.{places_asked}
-use Rattle.ls_mirror.specs.declared.command.KeyPlaces.{KeyPlaces}
-use Rattle.ls_hub.specs.declared.hub.Connection.{Connection}
-use Rattle.ls_session.specs.declared.session.Item.{Item}
-use Rattle.ls_session.specs.declared.session.Session.{Session}
+use Rattle.ls_world.specs.Steps.{with_living, is_opening}
+use Rattle.ls_world.specs.World.{World, Item, Live, Session, definitions, shape_at, history_of, is_alive, change}
+use Rattle.ls_cells.specs.Cells.{StandsCells, AllCells, free_in}
+use Rattle.ls_subs.specs.declared.plan.PlanItem.{PlanItem}
+use Rattle.ls_subs.specs.Plans.{MayJoin}
+use Rattle.ls_hub.specs.declared.hub.Hub.{Hub}
+use Rattle.ls_hub.specs.Hub.{StandsHub}
 
--- what is known of the connection of a place; where there is none it has no session and no name
-abbrev pub session_at : List Connection → ℕ → Option ℕ
-session_at connections n = option_and_then (λ c. c.session) (slice_get connections n)
+-- the place, from 0, of the session of a number from 1
+abbrev pub place_of_number : ℕ → Option ℕ
+place_of_number zero = None
+place_of_number (suc n) = Some n
 
-abbrev pub name_at : List Connection → ℕ → List ℕ
-name_at connections n = option_map_or (λ c. c.name) (slice_get connections n) []
+-- the session of a place, if there is one that hasn't ended
+abbrev pub living_place : List Session → Option ℕ → Option ℕ
+living_place sessions place = with_living sessions place None (λ n s. Some n)
 
-abbrev pub link_at : List Connection → ℕ → LinkKind
-link_at connections n = option_map_or (λ c. c.link) (slice_get connections n) link.Ws
+-- the session of a place, which hasn't ended
+pub record IsLiving (w : World) (place : ℕ) (s : Session) : Type 0 where
+  pub found : slice_get w.sessions place ≡ Some s
+  pub alive : is_alive s.life ≡ true
 
--- a control request is one of the only session's: by its number, 1, or by the connection
-abbrev pub is_first_session : Option ℕ → Bool → Bool
-is_first_session None own = own
-is_first_session (Some n) own = n == 1
+-- the world after an operation on the session of a place, which the code of a refusal leaves as it is
+abbrev pub unless_refused : Option ℕ → ℕ → (Session → Session) → World → World
+unless_refused None place f w = record w { sessions = change place f w.sessions }
+unless_refused (Some code) place f w = w
 
--- the places of the key and the command that a schema of mode COMMAND shows
-abbrev pub keys_shown_in : Mode → List (List ℕ) → List ℕ → Option KeyPlaces
-keys_shown_in mode.Command fields places =
-    Some (record {
-      key = place_of_field (unwrap_or (place_of fields (codes "key")) 0) places;
-      command =
-          place_of_field (unwrap_or (place_of fields (codes "command")) 0) places;
-    })
-keys_shown_in m fields places = None
+-- an operation on the session of a place was refused for the cause of this code, if there is one, or was done
+pub record DidOperate (w : World) (place : ℕ) (code : Option ℕ) (f : Session → Session) (answer : Option ℕ) (h : Hub)
+    : Type 0 where
+  pub answered : answer ≡ code
+  pub stands : StandsHub h (unless_refused code place f w)
+
+-- the answer to a control request: REQOK, or REQERR with the code of a refusal
+abbrev pub answer_line : List ℕ → Option ℕ → Line
+answer_line req None = line.ReqOk req
+answer_line req (Some code) = line.ReqErr req code (message_of code)
 
 -- the answer to a malformed request, by its name, and by its own name where that was read
-abbrev pub malformed_line : List ℕ → Option (List ℕ) → List ℕ
+abbrev pub malformed_line : List ℕ → Option (List ℕ) → Line
 malformed_line name req =
-    if is_opening name then text_of_line (line.ConErr 65 (message_of 65))
-    else with_found req (text_of_line (line.Error 65 (message_of 65)))
-    (λ r. text_of_line (line.ReqErr r 65 (message_of 65)))
+    if is_opening name then line.ConErr 65 (message_of 65)
+    else with_found req (line.Error 65 (message_of 65)) (λ r. line.ReqErr r 65 (message_of 65))
 
--- a slot joined the item, and SUBOK or SUBCMD and CONF were numbered
-pub record Joined (h : List Entry) (a : Add) (places : List ℕ) (c c' : Item) (k k' : Session) : Type 0 where
-  pub cell : StandsCell c'.cell
-      (Some (joined (plan_of c.cell.item.shape h a.mode (buffer_size a.mode a.size)) h (rows_asked a.snapshot)) ∷ []) h
-  pub definition : definition_of c' ≡ definition_of c
-  pub shape : c'.cell.item.shape ≡ c.cell.item.shape
-  pub owed : k'.owed ≡ k.owed
-  pub unsent : k'.unsent.items
-      ≡ (k.unsent.items ++ line_text [] (Begins a.sub 1 (length places) (keys_shown_in a.mode c.fields places)) ∷ [])
-      ++ line_text [] (Configures a.sub (is_filtered a.mode)) ∷ []
-  pub last : k'.last ≡ 2
-  pub keys : Option KeyPlaces
-  pub shown : keys ≡ keys_shown_in a.mode c.fields places
-  pub subscription : k'.subscription
-      ≡ Some (record { sub = a.sub; places = places; keys = keys; row = None; table = finite.empty })
+-- a slot that an item of a plan joins by, where these are live
+pub record Joins (items : List Item) (lives : List Live) (p : PlanItem) (v : Live) : Type 0 where
+  pub item : v.item ≡ p.item
+  pub may : MayJoin (definitions items) p
+  pub room : length lives < MOST_SLOTS
+  pub number : v.number ≡ free_in lives p.item
+  pub slot : v.slot ≡ joined (plan_of (shape_at items p.item) (history_of items p.item) p.mode p.n)
+      (history_of items p.item) (rows_asked p.snapshot)
 
--- a subscription of the item was added, or is refused
-abbrev pub Adds : Bool → List Entry → Add → Item → Item → Session → Session → Type 0
-Adds true h a c c' k k' = (places : List ℕ) × (places_asked (definition_of c) a ≡ Some places)
-    × Joined h a places c c' k k'
-Adds false h a c c' k k' = (places_asked (definition_of c) a ≡ None) × (c' ≡ c) × (k' ≡ k)
+-- the slots by which the items of a plan join, each behind those before it
+abbrev pub JoinInOrder : List Item → List Live → List Live → List PlanItem → List Live → Type 0
+JoinInOrder items a b [] [] = Unit {0}
+JoinInOrder items a b [] (v ∷ vs) = ⊥
+JoinInOrder items a b (p ∷ ps) [] = ⊥
+JoinInOrder items a b (p ∷ ps) (v ∷ vs) = Joins items (a ++ b) p v × JoinInOrder items (a ++ v ∷ []) b ps vs
+
+-- of these slots the first ones joined, by these numbers, and the others are to join by the rest of the items
+pub record JoinedSoFar (k : AllCells) (items : List Item) (a b vs : List Live) (told : List ℕ)
+    (left : List PlanItem) : Type 0 where
+  pub done : List Live
+  pub rest : List Live
+  pub all : vs ≡ done ++ rest
+  pub cells : StandsCells k items ((a ++ done) ++ b)
+  pub more : JoinInOrder items (a ++ done) b left rest
+  pub numbers : told ≡ map (λ v. v.number) done
+
+-- slots leave one after another, each from among those that are left
+abbrev pub Leave : List Live → List Live → List Live → Type 0
+Leave [] lives left = lives ≡ left
+Leave (v ∷ vs) lives left = (a : List Live) × (b : List Live) × (lives ≡ a ++ v ∷ b) × Leave vs (a ++ b) left
+
+-- of these slots the first ones left
+pub record LeftSoFar (k : AllCells) (items : List Item) (vs left : List Live) (from : ℕ) : Type 0 where
+  pub lives : List Live
+  pub cells : StandsCells k items lives
+  pub rest : Leave (drop from vs) lives left

@@ -1,97 +1,102 @@
-//! Texts of the lines that open a session, and of the answers to requests (TLCP 2.1, requests).
-ghost use Rattle.std.specs.Prelude.{◌≡◌, ◌++◌, codes, IfOk};
-ghost use Rattle.std.specs.Fmt.{decimal};
+//! The answers to requests (TLCP 2.1, REQOK, REQERR, CONERR, ERROR and WSOK).
+ghost use Rattle.std.specs.Prelude.{◌≡◌, IfOk, Some};
 ghost use Rattle.ls_line.specs.declared.line.Line.TheVariants as line;
-ghost use Rattle.ls_line.specs.Lines.{text_of_line};
-ghost use Rattle.ls_world.specs.World.{opening_lines};
 ghost use Rattle.ls_world.specs.Acting.{message_of};
+ghost use Rattle.ls_world.specs.Steps.{is_opening};
+ghost use Rattle.ls_hub.specs.Requests.{answer_line, malformed_line};
 
-use ls_line::{Line, text};
-use ls_value::{Bytes, NoMemory, Text};
+use ls_line::Line;
+use ls_value::{NoMemory, Text, same_bytes};
 use std::alloc::Global;
 
-/// The lines with which a session's stream begins, in order: CONOK with the session's name, `S` and its number, and the
-/// keep-alive in milliseconds, then SERVNAME and CONS.
-pub fn opening(alloc: Global, number: u64, keepalive: u32) -> Result<Vec<Bytes>, NoMemory>
-    ensures { IfOk result (λ lines. lines.items ≡ opening_lines number keepalive) }
+/// The code of a malformed request.
+const MALFORMED: u16 = 65;
+
+/// The answer to a control request of this name: REQOK where it was done, or REQERR where it was refused for the cause
+/// of a code.
+pub(crate) fn answer(alloc: Global, request: Text, code: Option<u16>) -> Result<Line, NoMemory>
+    ensures { IfOk result (λ l. l ≡ answer_line request code) }
 {
-    let mut lines = Vec::new(alloc);
-    lines.push(session_text(alloc, number, keepalive)?)?;
-    lines.push(text(alloc, &Line::ServName)?)?;
-    lines.push(unlimited_text(alloc)?)?;
-    Ok(lines)
+    match code {
+        None => Ok(Line::ReqOk { request }),
+        Some(code) => request_refused(alloc, request, code),
+    }
 }
 
-/// The line `CONOK` of a session of this number.
-fn session_text(alloc: Global, number: u64, keepalive: u32) -> Result<Bytes, NoMemory>
-    ensures { IfOk result (λ t. t ≡ text_of_line (line.ConOk (codes "S" ++ decimal number) keepalive)) }
+/// The answer to a malformed request, by its name, and by its own name where that was read: CONERR where it is one for
+/// a session or a stream, REQERR where its own name was read, and else ERROR.
+pub(crate) fn malformed(alloc: Global, name: &[u8], request: Option<Text>) -> Result<Line, NoMemory>
+    ensures { IfOk result (λ l. l ≡ malformed_line name.now request) }
 {
-    let name = format!(in alloc; "S{number}")?;
-    text(
-        alloc,
-        &Line::ConOk {
-            session: Text::from_string(name),
-            keep_alive: u64::from(keepalive),
-        },
-    )
+    if is_opening(name) {
+        return session_refused(alloc, MALFORMED);
+    }
+    match request {
+        Some(request) => request_refused(alloc, request, MALFORMED),
+        None => error(alloc, MALFORMED),
+    }
 }
 
-/// The line `CONS,unlimited`.
-fn unlimited_text(alloc: Global) -> Result<Bytes, NoMemory>
-    ensures { IfOk result (λ t. t ≡ text_of_line (line.Cons (codes "unlimited"))) }
+/// The line CONERR: a request for a session or a stream is refused for the cause of a code.
+pub(crate) fn session_refused(alloc: Global, code: u16) -> Result<Line, NoMemory>
+    ensures { IfOk result (λ l. l ≡ line.ConErr code (message_of code)) }
 {
-    let bandwidth = Text::from_str(alloc, "unlimited")?;
-    text(alloc, &Line::Cons { bandwidth })
+    let message = Text::from_str(alloc, message_of(code))?;
+    Ok(Line::ConErr {
+        code: u64::from(code),
+        message,
+    })
 }
 
-/// The line `REQOK,<reqId>`: the request of this name was accepted.
-pub fn accepted_text(alloc: Global, request: Text) -> Result<Bytes, NoMemory>
-    ensures { IfOk result (λ t. t ≡ text_of_line (line.ReqOk request)) }
+/// The line REQERR: the control request of this name is refused for the cause of a code.
+fn request_refused(alloc: Global, request: Text, code: u16) -> Result<Line, NoMemory>
+    ensures { IfOk result (λ l. l ≡ line.ReqErr request code (message_of code)) }
 {
-    text(alloc, &Line::ReqOk { request })
+    let message = Text::from_str(alloc, message_of(code))?;
+    Ok(Line::ReqErr {
+        request,
+        code: u64::from(code),
+        message,
+    })
 }
 
-/// The line `REQERR,<reqId>,65,<message>`: the request of this name is malformed.
-pub fn malformed_text(alloc: Global, request: Text) -> Result<Bytes, NoMemory>
-    ensures { IfOk result (λ t. t ≡ text_of_line (line.ReqErr request 65 (message_of 65))) }
+/// The line ERROR: a request whose own name can't be told is refused for the cause of a code.
+fn error(alloc: Global, code: u16) -> Result<Line, NoMemory>
+    ensures { IfOk result (λ l. l ≡ line.Error code (message_of code)) }
 {
-    let message = malformed(alloc)?;
-    text(
-        alloc,
-        &Line::ReqErr {
-            request,
-            code: 65,
-            message,
-        },
-    )
+    let message = Text::from_str(alloc, message_of(code))?;
+    Ok(Line::Error {
+        code: u64::from(code),
+        message,
+    })
 }
 
-/// The line `ERROR,65,<message>`: a request whose name can't be told is malformed.
-pub fn error_text(alloc: Global) -> Result<Bytes, NoMemory>
-    ensures { IfOk result (λ t. t ≡ text_of_line (line.Error 65 (message_of 65))) }
+/// The message of a code (this project's profile); other codes have none.
+fn message_of(code: u16) -> &'static str
+    ensures { result.now ≡ message_of code }
 {
-    let message = malformed(alloc)?;
-    text(alloc, &Line::Error { code: 65, message })
+    match code {
+        2 => "Unknown adapter set",
+        8 => "Too many sessions",
+        19 => "Unknown subscription",
+        20 => "Unknown session",
+        21 => "Bad group",
+        23 => "Bad schema",
+        24 => "Mode not allowed",
+        31 => "Destroyed by request",
+        65 => "Malformed request",
+        70 => "Too many lines waiting",
+        71 => "Too many subscriptions",
+        72 => "Subscription id in use",
+        73 => "Session timed out",
+        74 => "Counter spent",
+        _ => "",
+    }
 }
 
-/// The line `CONERR,65,<message>`: a request for a session or a stream is malformed.
-pub fn opening_error_text(alloc: Global) -> Result<Bytes, NoMemory>
-    ensures { IfOk result (λ t. t ≡ text_of_line (line.ConErr 65 (message_of 65))) }
+/// Whether a name is that of a request for a session or a stream.
+fn is_opening(name: &[u8]) -> bool
+    ensures { result ≡ is_opening name.now }
 {
-    let message = malformed(alloc)?;
-    text(alloc, &Line::ConErr { code: 65, message })
-}
-
-/// The line `WSOK`: the WebSocket works.
-pub fn wsok_text(alloc: Global) -> Result<Bytes, NoMemory>
-    ensures { IfOk result (λ t. t ≡ text_of_line line.WsOk) }
-{
-    text(alloc, &Line::WsOk)
-}
-
-/// The message of a malformed request.
-fn malformed(alloc: Global) -> Result<Text, NoMemory>
-    ensures { IfOk result (λ made. made ≡ message_of 65) }
-{
-    Text::from_str(alloc, "Malformed request")
+    same_bytes(name, b"create_session") || same_bytes(name, b"bind_session")
 }

@@ -1,24 +1,23 @@
-//! The hub: the steps of the world, over its one item and its one session.
-ghost use Rattle.std.specs.Prelude.{◌≡◌, ◌<◌, ◌≤◌, ◌++◌, ℕ, List, [], ◌∷◌, Some, None, Ok, Err, IfOk, OnOk, Option};
-ghost use Rattle.std.specs.Prelude.{Result, true, false};
-ghost use Rattle.ls_event.specs.declared.limits.TheConstants.{MOST_ADAPTERS};
-ghost use Rattle.ls_event.specs.Shapes.{shape_of, IsShape};
-ghost use Rattle.ls_event.specs.Slots.{Slot};
-ghost use Rattle.ls_world.specs.World.{World, Item as AnItem};
-ghost use Rattle.ls_world.specs.Steps.{take_once as one_turn, enqueue_once as one_enqueue, repeated, publishes};
-ghost use Rattle.ls_world.specs.Steps.{is_whole as is_whole_event};
-ghost use Rattle.ls_world.specs.Script.{text_of_outs};
-ghost use Rattle.ls_session.specs.declared.session.Session.{Session as Holding};
-ghost use Rattle.ls_session.specs.Session.{StandsItem, IsItem};
-ghost use Rattle.ls_hub.specs.Hub.{StandsParts, IsOf, DidOnce, DidStep, turn_ended, is_line, is_slot, DidEnqueue};
-ghost use Rattle.ls_hub.specs.Hub.{out_enqueued, has_moved, outs_published};
+//! The hub, and its steps.
+ghost use Rattle.std.specs.Prelude.{◌≡◌, ◌<◌, ◌++◌, [], ◌∷◌, IfOk, OnOk, IsErrOf, true, false, codes};
+ghost use Rattle.ls_form.specs.Forms.{form_of};
+ghost use Rattle.ls_step.specs.Adding.{add_pairs};
+ghost use Rattle.ls_step.specs.Ranges.{Fits};
+ghost use Rattle.ls_config.specs.Items.{may_follow};
+ghost use Rattle.ls_event.specs.Shapes.{IsShape, shape_of};
+ghost use Rattle.ls_world.specs.World.{World, empty, definitions};
+ghost use Rattle.ls_world.specs.Steps.{does, stays, connects};
+ghost use Rattle.ls_world.specs.Script.{known_of};
+ghost use Rattle.ls_world.specs.Built.{is_built, is_ws};
+ghost use Rattle.ls_world.specs.Ranges.{StepInRange};
+ghost use Rattle.ls_hub.specs.Hub.{StandsHub, Prints, HasAdapter, session_at, name_at, link_at};
 
-use ls_cell::{Enqueued, ItemCell};
-use ls_event::{Event, ItemDef, PublishRefused};
+use ls_cells::Cells;
+use ls_config::{Config, Items};
+use ls_event::{Event, ItemDef};
 use ls_request::LinkKind;
-use ls_session::{Item, Outcome, Session, turn};
-use ls_step::{Out, append};
-use ls_subs::SLOT;
+use ls_session::Session;
+use ls_step::Step;
 use ls_value::{NoMemory, Text};
 use std::alloc::Global;
 
@@ -42,281 +41,176 @@ impl From<NoMemory> for StepRefused {
     }
 }
 
-/// A connection: its name, what it goes over, and the rank of its session, from 0, if it ever had one.
+/// A connection: its name, what it goes over, and the place of its session, from 0, if it ever had one.
 #[derive(Drop)]
 pub struct Connection {
     pub name: Text,
     pub link: LinkKind,
-    pub session: Option<u32>,
+    pub session: Option<usize>,
 }
 
-/// The adapter set's name, the connections in the order in which they came, the item and the session. It keeps the
-/// allocator that its constructor took.
+/// The adapter set's name and the items' definitions, the items, the connections and the sessions, each in the order in
+/// which they came, and how many sessions haven't ended. It keeps the allocator that its constructor took.
 #[derive(Drop)]
 pub struct Hub {
     pub(crate) alloc: Global,
-    pub set: Text,
-    pub connections: Vec<Connection>,
-    pub item: Option<Item>,
-    pub session: Option<Session>,
+    pub(crate) config: Config,
+    pub(crate) cells: Cells,
+    pub(crate) connections: Vec<Connection>,
+    pub(crate) sessions: Vec<Session>,
+    pub(crate) alive: usize,
 }
 
-/// Turns of the session on a connection of this name: at most so many, up to the first that gives no line.
-pub(crate) fn takes(
-    item: &mut Option<Item>,
-    session: &mut Option<Session>,
-    name: &[u8],
-    times: u32,
-    text: &mut Vec<u8>,
-) -> Result<(), NoMemory>
-    ensures did { OnOk result ((w : World) (connection : ℕ) → StandsParts item.old session.old w
-        → IsOf w connection name.now
-        → DidStep (repeated (one_turn connection) times w) text.old.items text.new.items item.new session.new) }
-{
-    for _ in 0..times {
-        let more = take_once(item, session, name, text)?;
-        if !more {
-            return Ok(());
-        }
+impl Hub {
+    /// Before any step: the adapter set is `DEFAULT`.
+    pub fn new(alloc: Global) -> Result<Hub, NoMemory>
+        ensures { IfOk result (λ h. StandsHub h empty) }
+    {
+        let set = String::from_str(alloc, "DEFAULT")?;
+        Ok(Hub {
+            alloc,
+            config: Config {
+                set: Text::from_string(set),
+                items: Items::new(alloc),
+            },
+            cells: Cells::new(alloc),
+            connections: Vec::new(alloc),
+            sessions: Vec::new(alloc),
+            alive: 0,
+        })
     }
-    Ok(())
-}
 
-/// A turn of the session on a connection of this name; whether another one follows.
-fn take_once(
-    item: &mut Option<Item>,
-    session: &mut Option<Session>,
-    name: &[u8],
-    text: &mut Vec<u8>,
-) -> Result<bool, NoMemory>
-    ensures did { IfOk result (λ more. (w : World) (connection : ℕ) → StandsParts item.old session.old w
-        → IsOf w connection name.now
-        → DidOnce w (one_turn connection w) more text.old.items text.new.items item.new session.new) }
-{
-    match session {
-        None => {
-            append(text, &Out::NoSession)?;
-            Ok(false)
-        }
-        Some(session) => {
-            let start = text.len();
-            begin_line(text, name)?;
-            let outcome = turn(item, session, text)?;
-            let more = end_turn(text, start, outcome)?;
-            Ok(more)
-        }
-    }
-}
-
-/// Begins a line on a connection of this name.
-fn begin_line(text: &mut Vec<u8>, name: &[u8]) -> Result<(), NoMemory>
-    ensures { OnOk result (text.new.items ≡ (text.old.items ++ name.now) ++ 58 ∷ []) }
-{
-    text.extend_from_slice(name)?;
-    text.push(b':')?;
-    Ok(())
-}
-
-/// Ends what a turn prints: its line, or the note that stands in its place; whether another turn follows.
-fn end_turn(text: &mut Vec<u8>, start: usize, outcome: Outcome) -> Result<bool, NoMemory>
-    ensures text { OnOk result (text.new.items ≡ turn_ended start outcome text.old.items) }
-    ensures more { IfOk result (λ more. more ≡ is_line outcome) }
-{
-    match outcome {
-        Outcome::Line => {
-            text.push(b'\n')?;
-            Ok(true)
-        }
-        Outcome::Idle => {
-            text.truncate(start);
-            append(text, &Out::Idle)?;
-            Ok(false)
-        }
-        Outcome::Spent => {
-            text.truncate(start);
-            append(text, &Out::Spent)?;
-            Ok(false)
-        }
-    }
-}
-
-/// Enqueues into the slot of a rank in a subscription of the session: at most so many, up to the first that doesn't
-/// move.
-pub(crate) fn enqueues(
-    item: &mut Option<Item>,
-    session: &Option<Session>,
-    sub: u64,
-    rank: u64,
-    times: u32,
-    text: &mut Vec<u8>,
-) -> Result<(), NoMemory>
-    ensures did { OnOk result ((w : World) (connection : ℕ) (called : List ℕ) → StandsParts item.old session.now w
-        → IsOf w connection called
-        → DidStep (repeated (one_enqueue connection sub rank) times w) text.old.items text.new.items item.new
-        session.now) }
-{
-    for _ in 0..times {
-        let more = enqueue_once(item, session, sub, rank, text)?;
-        if !more {
-            return Ok(());
-        }
-    }
-    Ok(())
-}
-
-/// An enqueue into the slot of a rank in a subscription of the session; whether another one follows.
-fn enqueue_once(
-    item: &mut Option<Item>,
-    session: &Option<Session>,
-    sub: u64,
-    rank: u64,
-    text: &mut Vec<u8>,
-) -> Result<bool, NoMemory>
-    ensures did { IfOk result (λ more. (w : World) (connection : ℕ) (called : List ℕ)
-        → StandsParts item.old session.now w → IsOf w connection called
-        → DidOnce w (one_enqueue connection sub rank w) more text.old.items text.new.items item.new session.now) }
-{
-    if !has_slot(session, sub, rank) {
-        append(text, &Out::NoSlot)?;
-        return Ok(false);
-    }
-    let answer = enqueue_slot(item)?;
-    append(text, &out_enqueued(answer))?;
-    Ok(has_moved(answer))
-}
-
-/// Whether the slot is of this rank in this subscription.
-fn has_slot(session: &Option<Session>, sub: u64, rank: u64) -> bool
-    ensures { result ≡ is_slot session.now sub rank }
-{
-    match session {
-        None => false,
-        Some(session) => match &session.subscription {
-            None => false,
-            Some(subscription) => sub == u64::from(subscription.sub()) && rank == 1,
-        },
-    }
-}
-
-/// An enqueue into the item's slot, if there is one.
-fn enqueue_slot(item: &mut Option<Item>) -> Result<Option<Enqueued>, NoMemory>
-    ensures did { IfOk result (λ answer. (items : List AnItem) (s : Slot) → StandsItem item.old (Some s ∷ []) items
-        → DidEnqueue s items answer item.new) }
-{
-    match item {
-        None => Ok(None),
-        Some(item) => {
-            if !item.cell.has(SLOT) {
-                return Ok(None);
+    /// Does a step of the script's line of this number, at most so often, and appends what it prints. After an error
+    /// nothing is known of the hub and the text.
+    pub fn step(
+        &mut self,
+        line: u64,
+        step: Step,
+        times: u32,
+        text: &mut Vec<u8>,
+    ) -> Result<(), StepRefused>
+        requires range { StepInRange step }
+        requires adapter { HasAdapter step }
+        requires times { 0 < times }
+        ensures ok { OnOk result ((w : World) → StandsHub self.old w → line ≡ w.line → Fits (known_of w) step
+            → (is_built w step ≡ true) × Prints (does w step times) text.old.items text.new.items self.new) }
+        ensures refused { IsErrOf result StepRefused.NotBuilt → (w : World) → StandsHub self.old w → line ≡ w.line
+            → is_built w step ≡ false }
+    {
+        match step {
+            Step::Set { name } => {
+                self.config.set = name;
+                Ok(())
             }
-            let answer = item.cell.enqueue(SLOT)?;
-            Ok(Some(answer))
-        }
-    }
-}
-
-/// What an enqueue prints.
-fn out_enqueued(answer: Option<Enqueued>) -> Out
-    ensures { result ≡ out_enqueued answer }
-{
-    match answer {
-        Some(Enqueued::Moved { no }) => Out::Moved { no },
-        Some(Enqueued::UpToDate) => Out::UpToDate,
-        None => Out::NoSlot,
-    }
-}
-
-/// Whether the slot took an event.
-fn has_moved(answer: Option<Enqueued>) -> bool
-    ensures { result ≡ has_moved answer }
-{
-    match answer {
-        Some(Enqueued::Moved { no: _ }) => true,
-        Some(Enqueued::UpToDate) => false,
-        None => false,
-    }
-}
-
-/// A publish on the item of a place. An update of another number of fields than the item's is none.
-pub(crate) fn publish(
-    item: &mut Option<Item>,
-    place: u32,
-    adapter: u8,
-    seq: u64,
-    event: Event,
-    text: &mut Vec<u8>,
-) -> Result<(), NoMemory>
-    requires { adapter ≤ MOST_ADAPTERS }
-    ensures did { OnOk result ((w : World) (k : Option Holding) → StandsParts item.old k w
-        → DidStep (publishes w place (record { adapter = adapter; seq = seq; event = event })) text.old.items
-        text.new.items item.new k) }
-{
-    if place != 0 {
-        return Ok(());
-    }
-    match item {
-        None => Ok(()),
-        Some(item) => {
-            if !is_whole(item.cell.fields(), &event) {
-                return Ok(());
+            Step::Item { name, kind, fields } => {
+                self.declare(ItemDef { name, kind, fields })?;
+                Ok(())
             }
-            let answer = item.cell.publish(adapter, seq, event);
-            append_published(text, answer)?;
-            Ok(())
+            Step::Tick { ms: _ } | Step::Lose { connection: _ } => Err(StepRefused::NotBuilt),
+            Step::Conn { name, link } => self.connect_over(name, link),
+            Step::Open { name } => {
+                self.connect_and_open(name, text)?;
+                Ok(())
+            }
+            Step::Add { connection, words } => self.add(line, connection, &words, text),
+            Step::Request {
+                connection,
+                name,
+                parameters,
+            } => self.request_form(connection, &name, &parameters, text),
+            Step::Publish {
+                adapter,
+                seq,
+                item,
+                cells,
+            } => {
+                self.publish(item, adapter, seq, Event::Update(cells), text)?;
+                Ok(())
+            }
+            Step::Clear { adapter, seq, item } => {
+                self.publish(item, adapter, seq, Event::Clear, text)?;
+                Ok(())
+            }
+            Step::Enqueue {
+                connection,
+                sub,
+                rank,
+            } => {
+                self.enqueue(connection, sub, rank, times, text)?;
+                Ok(())
+            }
+            Step::Take { connection } => {
+                self.take(connection, times, text)?;
+                Ok(())
+            }
         }
     }
-}
 
-/// Whether an update has a cell for each of so many fields.
-fn is_whole(fields: usize, event: &Event) -> bool
-    ensures { result ≡ is_whole_event fields event.now }
-{
-    match event {
-        Event::Update(cells) => cells.len() == fields,
-        Event::Clear => true,
+    /// A new item, whose name no other has; fewer than may be are declared.
+    fn declare(&mut self, definition: ItemDef) -> Result<(), NoMemory>
+        requires { IsShape (shape_of definition) }
+        ensures ok { OnOk result ((w : World) → StandsHub self.old w
+            → may_follow (definitions w.items) definition.name ≡ true
+            → StandsHub self.new
+            (record w { items = w.items ++ record { definition = definition; history = [] } ∷ [] })) }
+    {
+        self.cells.declare(&definition)?;
+        self.config.items.add(definition)?;
+        Ok(())
     }
-}
 
-/// Appends what a publish prints; want of memory is handed on.
-fn append_published(text: &mut Vec<u8>, answer: Result<u64, PublishRefused>) -> Result<(), NoMemory>
-    ensures some { OnOk result (answer ≡ Err PublishRefused.NoMemory → ⊥) }
-    ensures text { OnOk result (text.new.items ≡ text.old.items ++ text_of_outs (outs_published answer)) }
-{
-    let out = match answer {
-        Ok(no) => Out::Published { no },
-        Err(PublishRefused::Repeated { last }) => Out::Repeated { last },
-        Err(PublishRefused::NoKey) => Out::NoKey,
-        Err(PublishRefused::BadCommand) => Out::BadCommand,
-        Err(PublishRefused::TooLong { bytes }) => Out::TooLong { bytes },
-        Err(PublishRefused::TooManyKeys) => Out::TooManyKeys,
-        Err(PublishRefused::Backlog { slot }) => Out::Backlog { slot },
-        Err(PublishRefused::Spent) => Out::Spent,
-        Err(PublishRefused::NoMemory) => return Err(NoMemory),
-    };
-    append(text, &out)?;
-    Ok(())
-}
-
-/// Appends what is printed.
-pub(crate) fn append_all(text: &mut Vec<u8>, outs: &[Out]) -> Result<(), NoMemory>
-    ensures { OnOk result (text.new.items ≡ text.old.items ++ text_of_outs outs.now) }
-{
-    for out in outs {
-        append(text, out)?;
+    /// A new connection; one over HTTP isn't built yet.
+    fn connect_over(&mut self, name: Text, link: LinkKind) -> Result<(), StepRefused>
+        ensures ok { OnOk result ((w : World) → StandsHub self.old w
+            → (is_ws link ≡ true) × StandsHub self.new (connects w name link)) }
+        ensures refused { IsErrOf result StepRefused.NotBuilt → is_ws link ≡ false }
+    {
+        match link {
+            LinkKind::Http => Err(StepRefused::NotBuilt),
+            LinkKind::Ws => {
+                self.connect(name, link)?;
+                Ok(())
+            }
+        }
     }
-    Ok(())
-}
 
-/// An item that was declared, without events.
-pub(crate) fn declare(alloc: Global, definition: ItemDef) -> Result<Item, NoMemory>
-    requires { IsShape (shape_of definition) }
-    ensures did { IfOk result (λ item. IsItem item [] (record { definition = definition; history = [] })) }
-{
-    let cell = ItemCell::new(alloc, &definition)?;
-    let ItemDef {
-        name,
-        kind: _,
-        fields,
-    } = definition;
-    Ok(Item { name, fields, cell })
+    /// A new connection, which has no session.
+    pub(crate) fn connect(&mut self, name: Text, link: LinkKind) -> Result<(), NoMemory>
+        ensures { OnOk result ((w : World) → StandsHub self.old w → StandsHub self.new (connects w name link)) }
+    {
+        self.connections.push(Connection {
+            name,
+            link,
+            session: None,
+        })?;
+        Ok(())
+    }
+
+    /// The place of a connection's session, if it ever had one.
+    pub(crate) fn session_of(&self, connection: usize) -> Option<usize>
+        ensures { result ≡ session_at self.now.connections.items connection }
+    {
+        let connection = self.connections.get(connection)?;
+        connection.session
+    }
+
+    /// The name of a connection; it is empty where there is none.
+    pub(crate) fn name_of(&self, connection: usize) -> &[u8]
+        ensures { result.now ≡ name_at self.now.connections.items connection }
+    {
+        match self.connections.get(connection) {
+            None => &[],
+            Some(connection) => connection.name.as_bytes(),
+        }
+    }
+
+    /// What a connection goes over.
+    pub(crate) fn link_of(&self, connection: usize) -> LinkKind
+        ensures { result ≡ link_at self.now.connections.items connection }
+    {
+        match self.connections.get(connection) {
+            None => LinkKind::Ws,
+            Some(connection) => connection.link,
+        }
+    }
 }

@@ -1,23 +1,30 @@
-//! The hub: the steps of a script and the requests of its clients, over the item, the session and the connections (TLCP
-//! 2.1, requests; this project's profile).
+//! The hub: the steps of a script on all items, sessions and connections, one after another.
 //!
-//! A `Hub` keeps the adapter set's name, the `Connection`s, the item (ls_cell) and the session (ls_session). Its method
-//! `step` does a step (ls_step) and appends what it prints to a text:
+//! A `Hub` keeps the adapter set's name and the items' definitions (ls_config), the items' cells (ls_cells), the
+//! connections, and the sessions (ls_session). `Hub::step` does a step and appends what it prints. It finds items and
+//! connections by their numbers, and sessions by theirs; no step but a turn of its own session's round grows with what
+//! it doesn't touch.
+//!
+//! A session holds no items: its turn asks what a slot has to tell, the hub looks at the slot's cell, gives the session
+//! the answer, and moves the slot past what was taken.
 //!
 //! ```text
-//! hub.step(5, Step::Publish { .. }, 1, &mut text)    appends "-no 1\n"
-//! hub.step(6, Step::Enqueue { .. }, 1, &mut text)    appends "-moved 1\n"
-//! hub.step(7, Step::Take { .. }, 9, &mut text)       appends "c:U,1,1,3.05|20:00:33\n-idle\n"
+//! take c 9
+//!   Session::turn    Ask: what has this slot?
+//!   Cells::look      its next cut
+//!   Session::answer  the cut's line is numbered, or it makes none
+//!   Cells::pass      the slot is past the cut
+//!   Session::turn    Send: the line
 //! ```
-//!
-//! A step that holds a request of a client is done by `Hub::request`, whose answers are lines on the connection. What
-//! isn't built yet is refused (`StepRefused`). It reads no script, and writes to no output.
 #![tactic(auto)]
 
-mod adding;
 mod answers;
+mod controlling;
+mod creating;
+mod events;
 mod hub;
 mod requests;
-mod stepping;
+mod slots;
+mod turning;
 
 pub use hub::{Connection, Hub, StepRefused};

@@ -1,14 +1,15 @@
 -- What an add that is accepted says of what it asks for.
 use Rattle.std.proofs.Common.{◌≡◌, ◌==◌, ℕ, zero, suc, ◌+◌, ◌<◌, ◌≤◌, List, [], ◌∷◌, length, map, refl, sym, ◌∙◌, ap, arith, subst, cond, Bool, true, false}
-use Rattle.std.proofs.Common.{◌&&◌, ◌||◌, Option, Some, None, IfSome, nat_lt, nat_le, slice_get, codes, option_map}
-use Rattle.std.specs.Prelude.{unwrap_or, is_some, not}
+use Rattle.std.proofs.Common.{◌&&◌, Option, Some, None, IfSome, nat_lt, nat_le, slice_get, codes, option_map}
+use Rattle.std.specs.Prelude.{unwrap_or, is_some}
 use Rattle.std.specs.List.{list_all}
 use Rattle.std.proofs.lemmas.Option.{slice_get_within}
-use Rattle.std.proofs.lemmas.Bool.{eq-eqb, eqb-true}
+use Rattle.std.proofs.lemmas.Bool.{eq-eqb}
 use Rattle.std.proofs.lemmas.Bool.Decides.{nat_tests}
 use Rattle.std.proofs.lemmas.List.{length-map}
 use Rattle.ls_value.specs.Values.{text_eq, place_of}
-use Rattle.ls_value.proofs.Rows.{and_left, and_right, text_eq_true, text_eq_same, place_of_within, place_of_found}
+use Rattle.ls_value.proofs.Rows.{and_left, and_right, text_eq_true, place_of_within}
+use Rattle.ls_event.specs.declared.item.ItemDef.{ItemDef}
 use Rattle.ls_event.specs.declared.event.Mode.{Mode}
 use Rattle.ls_event.specs.declared.event.Mode.TheVariants as mode
 use Rattle.ls_event.specs.declared.item.Kind.{Kind}
@@ -19,15 +20,15 @@ use Rattle.ls_request.specs.declared.request.Add.{Add}
 use Rattle.ls_mirror.specs.declared.command.KeyPlaces.{KeyPlaces}
 use Rattle.ls_world.specs.Tables.{place_of_field, keys_shown_at}
 use Rattle.ls_world.specs.Cutting.{Ask}
-use Rattle.ls_world.specs.World.{World, Item, Session, is_used, all_live, shape_at, fields_at}
-use Rattle.ls_world.specs.declared.TheConstants.{MOST_GROUP_ITEMS, MOST_UNSENT}
+use Rattle.ls_world.specs.World.{World, Item, Session, definitions, is_used, all_live, shape_at, fields_in}
+use Rattle.ls_world.specs.declared.TheConstants.{MOST_GROUP_ITEMS, MOST_SUBSCRIPTIONS, MOST_UNSENT}
 use Rattle.ls_event.specs.declared.limits.TheConstants.{MOST_FIELDS, MOST_SLOTS, MOST_BUFFER_SIZE}
 use Rattle.ls_value.specs.declared.limits.TheConstants.{GREATEST_NUMBER}
 use Rattle.ls_event.specs.Joining.{is_mode_of}
-use Rattle.ls_world.specs.Cases.{first_code}
-use Rattle.ls_world.specs.Acting.{are_among, places_among, are_names, is_group, group_of, is_allowed, shows_keys, is_schema, snapshot_asked, ask_of, asks_of}
-use Rattle.ls_world.specs.Acting.{unsent, add_refusals, add_code}
+use Rattle.ls_world.specs.Acting.{are_among, places_among, are_names, names_of, is_group, group_of, is_allowed, shows_keys, is_schema, snapshot_asked, ask_of}
+use Rattle.ls_world.specs.Acting.{asks_of, subscriptions, unsent, free_slots, add_refusals, add_code}
 use Rattle.ls_world.specs.Lawful.{Each}
+use Rattle.ls_world.proofs.Naming.{Passes, passes, place_is, name_differs, not_or, not_false}
 
 -- an item of kind COMMAND, whose key and command a schema shows
 pub record ShowsKeys (p : Shape) (places : List ℕ) : Type 0 where
@@ -55,12 +56,12 @@ pub record IsAsk (items : List Item) (a : Add) (ask : Ask) : Type 0 where
 pub record IsAsked (w : World) (s : Session) (a : Add) : Type 0 where
   pub new : is_used a.sub s.board.round ≡ false
   pub room : unsent s + 2 ≤ MOST_UNSENT
-  pub some : 1 ≤ length (asks_of w.items a)
-  pub most : length (asks_of w.items a) ≤ MOST_GROUP_ITEMS
+  pub some : 1 ≤ length (asks_of (definitions w.items) a)
+  pub most : length (asks_of (definitions w.items) a) ≤ MOST_GROUP_ITEMS
   pub some_fields : 1 ≤ length a.schema
   pub most_fields : length a.schema ≤ MOST_FIELDS
-  pub each : Each (IsAsk w.items a) (asks_of w.items a)
-  pub few : length (all_live w.sessions) + length (asks_of w.items a) ≤ MOST_SLOTS
+  pub each : Each (IsAsk w.items a) (asks_of (definitions w.items) a)
+  pub few : length (all_live w.sessions) + length (asks_of (definitions w.items) a) ≤ MOST_SLOTS
   pub unspent : length s.board.lines + 2 ≤ GREATEST_NUMBER
 
 -- a size that is asked for is at least 1
@@ -93,27 +94,20 @@ shape_found [] n i is = absurd (let e : None ≡ Some i = is in cc)
 shape_found (j ∷ items) zero i is = let e : j ≡ i = cc in ap (λ (x : Item). shape_of x.definition) e
 shape_found (j ∷ items) (suc n) i is = shape_found items n i is
 
-fields_found : (items : List Item) (n : ℕ) (i : Item) → slice_get items n ≡ Some i → fields_at items n ≡ i.definition.fields
+fields_found : (items : List Item) (n : ℕ) (i : Item) → slice_get items n ≡ Some i → fields_in (definitions items) n ≡ i.definition.fields
 fields_found [] n i is = absurd (let e : None ≡ Some i = is in cc)
 fields_found (j ∷ items) zero i is = let e : j ≡ i = cc in ap (λ (x : Item). x.definition.fields) e
 fields_found (j ∷ items) (suc n) i is = fields_found items n i is
 
-item_found : (items : List Item) (n : ℕ) → n < length items → (i : Item) × (slice_get items n ≡ Some i)
-item_found [] n within = absurd (omega (arith, within))
-item_found (i ∷ items) zero within = (i, refl)
-item_found (i ∷ items) (suc n) within = item_found items n (omega (arith, within))
+pub element_found : {A : Type 0} (xs : List A) (n : ℕ) → n < length xs → (x : A) × (slice_get xs n ≡ Some x)
+element_found [] n within = absurd (omega (arith, within))
+element_found (x ∷ xs) zero within = (x, refl)
+element_found (x ∷ xs) (suc n) within = element_found xs n (omega (arith, within))
 
 -- places among names
 
 pub places_length : (names schema : List (List ℕ)) → length (places_among names schema) ≡ length schema
 places_length names schema = length-map schema (λ t. unwrap_or (place_of names t) 0)
-
-place_is : (names : List (List ℕ)) (name : List ℕ) → is_some (place_of names name) ≡ true → place_of names name ≡ Some (unwrap_or (place_of names name) 0)
-place_is names name there = by_place (place_of names name) there
-  where
-    by_place : (o : Option ℕ) → is_some o ≡ true → o ≡ Some (unwrap_or o 0)
-    by_place None there = cc
-    by_place (Some p) there = refl
 
 found_within : (names : List (List ℕ)) (name : List ℕ) (p : ℕ) → place_of names name ≡ Some p → p < length names
 found_within names name p is = subst (λ (o : Option ℕ). IfSome o (λ i. i < length names)) is (place_of_within names name)
@@ -151,21 +145,6 @@ shown_in names (t ∷ ts) name among shown =
         by_place p (unwrap_or (place_of names name) 0) ps (p == unwrap_or (place_of names name) 0) (more (ap is_some later))
 
 -- it is the place of the name itself
-name_differs : (names : List (List ℕ)) (t name : List ℕ) (p q : ℕ) → text_eq t name ≡ false → place_of names t ≡ Some p → place_of names name ≡ Some q
-    → (p == q) ≡ false
-name_differs names t name p q other at is = by_test (p == q) refl
-  where
-    at_place : (n : List ℕ) (i : ℕ) → place_of names n ≡ Some i → slice_get names i ≡ Some n
-    at_place n i e = subst (λ (o : Option ℕ). IfSome o (λ j. slice_get names j ≡ Some n)) e (place_of_found names n)
-
-    by_test : (b : Bool) → (p == q) ≡ b → b ≡ false
-    by_test false e = refl
-    by_test true e =
-        let same : Some t ≡ Some name = sym (at_place t p at) ∙ ap (slice_get names) (eqb-true p q e) ∙ at_place name q is in
-        let is : t ≡ name = cc in
-        let u : text_eq t name ≡ true = subst (λ (n : List ℕ). text_eq t n ≡ true) is (text_eq_same t) in
-        sym u ∙ other
-
 shown_as_named : (names schema : List (List ℕ)) (name : List ℕ) → are_among names schema ≡ true → is_some (place_of schema name) ≡ true
     → (q : ℕ) × (place_of names name ≡ Some q) × (place_of_field q (places_among names schema) ≡ unwrap_or (place_of schema name) 0)
 shown_as_named names [] name among shown = cc
@@ -199,11 +178,12 @@ named_in names schema name among shown =
     ap (λ o. place_of_field (unwrap_or o 0) (places_among names schema)) m.1 ∙ m.2
 
 -- the group's items are declared, in the order of its names
-pub group_declared : (items : List Item) (names : List (List ℕ)) → are_among (map (λ i. i.definition.name) items) names ≡ true
-    → Each (λ n. n < length items) (group_of items names)
+pub group_declared : (items : List Item) (names : List (List ℕ)) → are_among (names_of (definitions items)) names ≡ true
+    → Each (λ n. n < length items) (group_of (definitions items) names)
 group_declared items names among =
-    subst (λ (k : ℕ). Each (λ n. n < k) (group_of items names)) (length-map items (λ i. i.definition.name))
-    (places_within (map (λ i. i.definition.name) items) names among)
+    subst (λ (k : ℕ). Each (λ n. n < k) (group_of (definitions items) names))
+    (length-map (definitions items) (λ d. d.name) ∙ length-map items (λ i. i.definition))
+    (places_within (names_of (definitions items)) names among)
 
 names_bounds : (most : ℕ) (names : List (List ℕ)) → are_names most names ≡ true → (1 ≤ length names) × (length names ≤ most)
 names_bounds most names h = bounds (length names) (and_left _ _ (and_left _ _ h)) (and_right _ _ (and_left _ _ h))
@@ -213,18 +193,18 @@ names_bounds most names h = bounds (length names) (and_left _ _ (and_left _ _ h)
 
 -- one ask
 ask_is : (items : List Item) (a : Add) (n : ℕ) (i : Item) → slice_get items n ≡ Some i → is_mode_of a.mode (shape_at items n).kind ≡ true
-    → are_among (fields_at items n) a.schema ≡ true → shows_keys a.mode a.schema ≡ true
-    → IsAsk items a (ask_of a n (places_among (fields_at items n) a.schema))
+    → are_among (fields_in (definitions items) n) a.schema ≡ true → shows_keys a.mode a.schema ≡ true
+    → IsAsk items a (ask_of a n (places_among (fields_in (definitions items) n) a.schema))
 ask_is items a n i at allowed among shown =
     let shape : shape_at items n ≡ shape_of i.definition = shape_found items n i at in
-    let fields : fields_at items n ≡ i.definition.fields = fields_found items n i at in
+    let fields : fields_in (definitions items) n ≡ i.definition.fields = fields_found items n i at in
     let own : are_among i.definition.fields a.schema ≡ true = subst (λ (fs : List (List ℕ)). are_among fs a.schema ≡ true) fields among in
     record {
       declared = slice_get_within items n i at;
       mode = refl;
       allowed = allowed;
       size = refl;
-      schema = places_length (fields_at items n) a.schema;
+      schema = places_length (fields_in (definitions items) n) a.schema;
       within = rw (shape, fields) (places_within i.definition.fields a.schema own);
       snapshot = refl;
       keys = λ command. rw (shape, fields) (by_command own (subst (λ (p : Shape). is_mode_of a.mode p.kind ≡ true) shape allowed) command);
@@ -266,51 +246,34 @@ ask_is items a n i at allowed among shown =
         }
 
 -- all asks
-asks_are : (items : List Item) (a : Add) (group : List ℕ) → Each (λ n. n < length items) group → is_allowed items a.mode group ≡ true
-    → list_all (λ n. are_among (fields_at items n) a.schema) group ≡ true → shows_keys a.mode a.schema ≡ true
-    → Each (IsAsk items a) (map (λ n. ask_of a n (places_among (fields_at items n) a.schema)) group)
+asks_are : (items : List Item) (a : Add) (group : List ℕ) → Each (λ n. n < length items) group → is_allowed (definitions items) a.mode group ≡ true
+    → list_all (λ n. are_among (fields_in (definitions items) n) a.schema) group ≡ true → shows_keys a.mode a.schema ≡ true
+    → Each (IsAsk items a) (map (λ n. ask_of a n (places_among (fields_in (definitions items) n) a.schema)) group)
 asks_are items a [] declared allowed among shown = tt
 asks_are items a (n ∷ group) declared allowed among shown =
-    let i = item_found items n declared.0 in (
+    let i = element_found items n declared.0 in (
       ask_is items a n i.0 i.1 (and_left _ _ allowed) (and_left _ _ among) shown,
       asks_are items a group declared.1 (and_right _ _ allowed) (and_right _ _ among) shown,
     )
 
-pub asks_length : (items : List Item) (a : Add) → length (asks_of items a) ≡ length a.group
-asks_length items a = length-map (group_of items a.group) (λ n. ask_of a n (places_among (fields_at items n) a.schema))
-    ∙ places_length (map (λ i. i.definition.name) items) a.group
-
--- what no row of a table refuses
-abbrev Passes : List (ℕ × Bool) → Type 0
-Passes rows = Each (λ row. row.1 ≡ false) rows
-
-passes : (rows : List (ℕ × Bool)) → first_code rows ≡ None → Passes rows
-passes [] is = tt
-passes (row ∷ rows) is = by_test row.1 refl is (λ more. passes rows more)
-  where
-    by_test : (b : Bool) → row.1 ≡ b → cond b (Some row.0) (first_code rows) ≡ None → (first_code rows ≡ None → Passes rows) → Passes (row ∷ rows)
-    by_test true e is more = absurd (let x : Some row.0 ≡ None = is in cc)
-    by_test false e is more = (e, more is)
-
-not_or : (a b : Bool) → (a || b) ≡ false → (a ≡ false) × (b ≡ false)
-not_or true b h = cc
-not_or false b h = (refl, h)
-
-not_false : (b : Bool) → not b ≡ false → b ≡ true
-not_false true h = refl
-not_false false h = cc
+pub asks_length : (defs : List ItemDef) (a : Add) → length (asks_of defs a) ≡ length a.group
+asks_length defs a = length-map (group_of defs a.group) (λ n. ask_of a n (places_among (fields_in defs n) a.schema))
+    ∙ places_length (names_of defs) a.group
 
 -- an add that is accepted
 pub asked_is : (w : World) (s : Session) (a : Add) → add_code w s a ≡ None → IsAsked w s a
 asked_is w s a is =
-    let p : Passes (add_refusals w s a) = passes (add_refusals w s a) is in
-    let group : is_group w.items a.group ≡ true = not_false _ p.1.1.0 in
-    let allowed : is_allowed w.items a.mode (group_of w.items a.group) ≡ true = not_false _ p.1.1.1.0 in
-    let schema : is_schema w.items a.mode (group_of w.items a.group) a.schema ≡ true = not_false _ p.1.1.1.1.0 in
-    let total : nat_lt MOST_SLOTS (length (all_live w.sessions) + length a.group) ≡ false = (not_or _ _ p.1.1.1.1.1.0).1 in
+    let defs : List ItemDef = definitions w.items in
+    let free : ℕ = free_slots w.sessions in
+    let p : Passes (add_refusals defs free s a) = passes (add_refusals defs free s a) is in
+    let group : is_group defs a.group ≡ true = not_false _ p.1.1.0 in
+    let allowed : is_allowed defs a.mode (group_of defs a.group) ≡ true = not_false _ p.1.1.1.0 in
+    let schema : is_schema defs a.mode (group_of defs a.group) a.schema ≡ true = not_false _ p.1.1.1.1.0 in
+    let total : nat_lt free (length a.group) ≡ false =
+    (not_or (nat_le MOST_SUBSCRIPTIONS (subscriptions s.board.round)) (nat_lt free (length a.group)) p.1.1.1.1.1.0).1 in
     let names : (1 ≤ length a.group) × (length a.group ≤ MOST_GROUP_ITEMS) = names_bounds MOST_GROUP_ITEMS a.group (and_left _ _ group) in
     let fields : (1 ≤ length a.schema) × (length a.schema ≤ MOST_FIELDS) = names_bounds MOST_FIELDS a.schema (and_left _ _ (and_left _ _ schema)) in
-    let many : length (asks_of w.items a) ≡ length a.group = asks_length w.items a in
+    let many : length (asks_of defs a) ≡ length a.group = asks_length defs a in
     record {
       new = p.0;
       room = at_most MOST_UNSENT (unsent s + 2) p.1.0;
@@ -318,9 +281,9 @@ asked_is w s a is =
       most = omega (arith, many, names.1);
       some_fields = fields.0;
       most_fields = fields.1;
-      each = asks_are w.items a (group_of w.items a.group) (group_declared w.items a.group (and_right _ _ group)) allowed (and_right _ _ schema)
+      each = asks_are w.items a (group_of defs a.group) (group_declared w.items a.group (and_right _ _ group)) allowed (and_right _ _ schema)
           (and_right _ _ (and_left _ _ schema));
-      few = omega (arith, many, at_most MOST_SLOTS (length (all_live w.sessions) + length a.group) total);
+      few = omega (arith, many, names.0, at_most free (length a.group) total);
       unspent = at_most GREATEST_NUMBER (length s.board.lines + 2) p.1.1.1.1.1.1.0;
     }
   where

@@ -1,5 +1,6 @@
 -- Short scripts, run in the definitions alone: the steps that their lines ask for, and what is printed for them.
-use Rattle.std.proofs.Common.{◌≡◌, ℕ, List, [], ◌∷◌, ◌++◌, ◌+◌, length, replicate, refl, codes, Bool, true, false, Option, None, Some, nat_lt}
+use Rattle.std.proofs.Common.{◌≡◌, ◌∙◌, sym, ◌==◌, ℕ, List, [], ◌∷◌, ◌++◌, replicate, refl, codes, Bool, true, false, Option, None, Some}
+use Rattle.std.proofs.lemmas.Bool.{eq-eqb}
 use Rattle.std.specs.Fmt.{digits}
 use Rattle.ls_value.specs.declared.row.Cell.{Cell}
 use Rattle.ls_value.specs.declared.row.Cell.TheVariants as cell
@@ -9,6 +10,7 @@ use Rattle.ls_event.specs.declared.event.Event.TheVariants.{Update}
 use Rattle.ls_event.specs.declared.event.Mode.{Mode}
 use Rattle.ls_event.specs.declared.event.Mode.TheVariants as mode
 use Rattle.ls_event.specs.declared.event.Taken.TheVariants as taken
+use Rattle.ls_event.specs.declared.item.ItemDef.{ItemDef}
 use Rattle.ls_event.specs.declared.item.Kind.{Kind}
 use Rattle.ls_event.specs.declared.item.Kind.TheVariants as kind
 use Rattle.ls_event.specs.Joining.{plan_of, joined}
@@ -17,17 +19,19 @@ use Rattle.ls_form.specs.declared.form.Pair.{Pair}
 use Rattle.ls_mirror.specs.Client.{Row, Lost}
 use Rattle.ls_request.specs.declared.request.LinkKind.TheVariants as link
 use Rattle.ls_step.specs.declared.step.AddWords.{AddWords}
+use Rattle.ls_step.specs.declared.step.Step.{Step}
+use Rattle.ls_step.specs.declared.step.Repeat.{Repeat}
 use Rattle.ls_step.specs.declared.step.Step.TheVariants as step
 use Rattle.ls_step.specs.Adding.{are_utf8, all_pairs, parameter}
 use Rattle.ls_world.specs.declared.Refused.TheVariants.{BadScript, NotBuilt}
 use Rattle.ls_world.specs.Cutting.{Wanted, turn}
 use Rattle.ls_world.specs.Lines.{Ends}
+use Rattle.ls_world.specs.Cases.{first_code}
 use Rattle.ls_world.specs.World.{World, Live, Session, is_used, empty, opened}
 use Rattle.ls_request.specs.declared.request.Add.{Add}
-use Rattle.ls_value.specs.declared.limits.TheConstants.{GREATEST_NUMBER}
-use Rattle.ls_world.specs.declared.TheConstants.{MOST_UNSENT}
-use Rattle.ls_world.specs.Acting.{is_group, group_of, is_allowed, is_schema, is_full, unsent, add_code}
+use Rattle.ls_world.specs.Acting.{is_group, group_of, is_allowed, is_schema, is_full, are_too_many, are_spent, add_refusals}
 use Rattle.ls_world.specs.Steps.{Stepped, requests, does}
+use Rattle.ls_laws.specs.Alone.{RunStep, First, Second, Own, Shared, firsts, told, DifferElsewhere}
 use Rattle.ls_world.specs.Built.{are_built}
 use Rattle.ls_world.specs.Script.{counted, lines_of, output_of, text_of_outs, done, first_refused}
 
@@ -287,6 +291,77 @@ pub without_key : printed (table ∷ opens ∷ add_of (codes "q") (codes "key,qt
 unfolding digits
 without_key = refl
 
+-- a subscription ends: none of its updates is told any more, its number is free, and a number without one is unknown
+abbrev operates_on : List ℕ → List Pair → World → Stepped
+operates_on word more =
+    request (codes "control") (says (codes "LS_reqId") (codes "r") ∷ says (codes "LS_session") (codes "S1") ∷ says (codes "LS_op") word ∷ more)
+
+abbrev unsubscribe : World → Stepped
+unsubscribe = operates_on (codes "delete") (says (codes "LS_subId") (codes "1") ∷ [])
+
+pub unsubscribed : printed (item kind.Merge (codes "x" ∷ []) ∷ opens ∷ add mode.Merge (codes "x") None None ∷ take 9 ∷ publish 1 (text (codes "A") ∷ [])
+    ∷ enqueue 1 ∷ unsubscribe ∷ unsubscribe ∷ enqueue 1 ∷ take 9 ∷ add mode.Merge (codes "x") None None ∷ [])
+    ≡ codes "c:REQOK,3\n" ++ opening ++ codes "c:SUBOK,1,1,1\nc:CONF,1,unlimited,filtered\n-idle\n-no 1\n-moved 1\nc:REQOK,r\n"
+    ++ codes "c:REQERR,r,19,Unknown subscription\n-noslot\nc:UNSUB,1\n-idle\nc:REQOK,11\n"
+unfolding digits
+unsubscribed = refl
+
+-- a session ends: END is given once, and requests know it no more
+pub ends : printed (item kind.Merge (codes "x" ∷ []) ∷ opens ∷ add mode.Merge (codes "x") None None ∷ take 1 ∷ operates_on (codes "destroy") [] ∷ take 9
+    ∷ take 1 ∷ operates_on (codes "destroy") [] ∷ [])
+    ≡ codes "c:REQOK,3\nc:CONOK,S1,50000,5000,*\nc:REQOK,r\nc:END,31,Destroyed by request\n-ended 31\n-ended 31\nc:REQERR,r,20,Unknown session\n"
+unfolding digits
+ends = refl
+
+-- two sessions: in one run the second one takes two lines, in the other its slot moves; the first one is told the same
+abbrev step_once : Step → Repeat
+step_once s = record { step = s; times = 1 }
+
+abbrev subscribes_at : ℕ → World → Stepped
+subscribes_at connection w =
+    requests w connection (codes "control")
+    (Some (all_pairs w.line
+    (record { sub = codes "1"; items = codes "q"; fields = codes "x"; mode = mode.Merge; snapshot = None; buffer = None; frequency = None })))
+
+abbrev two_sessions : World
+two_sessions = after empty (item kind.Merge (codes "x" ∷ []) ∷ opens ∷ (λ w. does w (step.Open (codes "d")) 1) ∷ subscribes_at 0 ∷ subscribes_at 1 ∷ [])
+
+abbrev apart_steps : List RunStep
+apart_steps =
+    First (record { step = step.Take 1; times = 2 }) ∷ Shared (step_once (step.Publish 1 1 0 (text (codes "A") ∷ [])))
+    ∷ Second (step_once (step.Enqueue 1 1 1)) ∷ Own (step_once (step.Enqueue 0 1 1)) ∷ Own (record { step = step.Take 0; times = 6 }) ∷ []
+
+differ : (m n : ℕ) → (m == n) ≡ false → Some m ≡ Some n → ⊥
+differ m n no_same is = absurd (let e : m ≡ n = cc in let x : true ≡ false = sym (eq-eqb m n e) ∙ no_same in cc)
+
+no_place : (n : ℕ) → None ≡ Some n → ⊥
+no_place n is = cc
+
+neither : {a b : Bool} → a ≡ false → b ≡ false → a ≡ b
+neither p q = p ∙ sym q
+
+pub apart : DifferElsewhere 0 0 two_sessions two_sessions apart_steps
+unfolding digits
+apart = (
+  record { session = refl; apart = differ 1 0 refl },
+  refl,
+  (
+    record { session = refl; apart = no_place 0 },
+    record { session = refl; apart = no_place 0 },
+    refl,
+    (
+      record { session = refl; apart = differ 1 0 refl },
+      refl,
+      (record { session = refl; on = refl; room = neither refl refl }, (record { session = refl; on = refl; room = neither refl refl }, tt)),
+    ),
+  ),
+)
+
+pub told_apart : text_of_outs (told 0 two_sessions (firsts apart_steps)) ≡ codes "-moved 1\n" ++ opening
+    ++ codes "c:SUBOK,1,1,1\nc:CONF,1,unlimited,filtered\nc:U,1,1,A\n"
+unfolding digits
+told_apart = refl
+
 -- too many lines wait
 abbrev with_session : (Session → Session) → World
 with_session f = let w = after empty (item kind.Merge (codes "x" ∷ []) ∷ opens ∷ []) in record w { sessions = f (opened 1 5000) ∷ [] }
@@ -311,11 +386,11 @@ unfolding digits
 too_many_subscriptions = refl
 
 -- and a session whose numbered lines are spent
-pub spent : (w : World) (s : Session) (a : Add) → is_used a.sub s.board.round ≡ false → nat_lt MOST_UNSENT (unsent s + 2) ≡ false
-    → is_group w.items a.group ≡ true
-    → is_allowed w.items a.mode (group_of w.items a.group) ≡ true → is_schema w.items a.mode (group_of w.items a.group) a.schema ≡ true
-    → is_full w s a.group ≡ false → nat_lt GREATEST_NUMBER (length s.board.lines + 2) ≡ true → add_code w s a ≡ Some 74
-spent w s a new room group allowed schema few full = rw (new, room, group, allowed, schema, few, full) refl
+pub spent : (defs : List ItemDef) (free : ℕ) (s : Session) (a : Add) → is_used a.sub s.board.round ≡ false → are_too_many s 2 ≡ false
+    → is_group defs a.group ≡ true → is_allowed defs a.mode (group_of defs a.group) ≡ true
+    → is_schema defs a.mode (group_of defs a.group) a.schema ≡ true → is_full free s a.group ≡ false → are_spent s 2 ≡ true
+    → first_code (add_refusals defs free s a) ≡ Some 74
+spent defs free s a new room group allowed schema few full = rw (new, room, group, allowed, schema, few, full) refl
 
 -- lines outside the grammar
 
@@ -333,12 +408,6 @@ before_no_line = refl
 
 -- and lines that aren't built yet
 
-pub second_item : first_refused empty (lines_of true (codes "item q MERGE x\nitem r MERGE x\n")) ≡ Some NotBuilt
-second_item = refl
-
-pub second_session : first_refused empty (lines_of true (codes "open c\nopen d\n")) ≡ Some NotBuilt
-second_session = refl
-
 pub over_http : first_refused empty (lines_of true (codes "conn c http\n")) ≡ Some NotBuilt
 over_http = refl
 
@@ -348,24 +417,21 @@ a_tick = refl
 pub a_loss : first_refused empty (lines_of true (codes "open c\nlose c\n")) ≡ Some NotBuilt
 a_loss = refl
 
--- so are requests: an add that is refused, a second subscription, and a bandwidth
-abbrev is_built_add : List (World → Stepped) → List ℕ → Mode → Bool
-is_built_add lines fields m =
-    let w = after empty lines in
+-- so are requests: an add with a frequency, and a create with a bandwidth
+abbrev is_built_add : Option (List ℕ) → Bool
+is_built_add frequency =
+    let w = after empty (item kind.Merge (codes "x" ∷ []) ∷ opens ∷ []) in
     are_built w 0 (codes "control")
-    (Some (all_pairs w.line (record { sub = codes "1"; items = codes "q"; fields = fields; mode = m; snapshot = None; buffer = None; frequency = None })))
+    (Some (all_pairs w.line
+    (record { sub = codes "1"; items = codes "q"; fields = codes "x"; mode = mode.Merge; snapshot = None; buffer = None; frequency = frequency })))
 
-pub first_subscription : is_built_add (item kind.Merge (codes "x" ∷ []) ∷ opens ∷ []) (codes "x") mode.Merge ≡ true
+pub without_frequency : is_built_add None ≡ true
 unfolding digits
-first_subscription = refl
+without_frequency = refl
 
-pub wrong_mode : is_built_add (item kind.Merge (codes "x" ∷ []) ∷ opens ∷ []) (codes "x") mode.Distinct ≡ false
+pub with_frequency : is_built_add (Some (codes "2")) ≡ false
 unfolding digits
-wrong_mode = refl
-
-pub second_subscription : is_built_add (item kind.Merge (codes "x" ∷ []) ∷ opens ∷ add mode.Merge (codes "x") None None ∷ []) (codes "x") mode.Merge ≡ false
-unfolding digits
-second_subscription = refl
+with_frequency = refl
 
 pub a_bandwidth : are_built (after empty (conn ∷ [])) 0 (codes "create_session") (Some (says (codes "LS_requested_max_bandwidth") (codes "unlimited") ∷ []))
     ≡ false

@@ -11,12 +11,13 @@ use Rattle.ls_world.specs.Came.{Came}
 use Rattle.ls_event.specs.Joining.{plan_of}
 use Rattle.ls_world.specs.CommandMode.{IsKeyed}
 use Rattle.ls_world.specs.Cutting.{Ask, Wanted, Turn, turn}
-use Rattle.ls_world.specs.Lines.{Line, Begins, Configures, Tells, came}
+use Rattle.ls_world.specs.Lines.{Line, Begins, Ends, Configures, Tells, came}
 use Rattle.ls_world.specs.World.{Item, Live, Board, RoundLine, Round, history_of, shape_at, joined_slot, keys_shown, are_filtered, change, is_at, is_of}
-use Rattle.ls_world.specs.World.{is_used, joined_all, added, enqueue_slot, enqueue_at, enqueued_in, live_turn, round_of, taken_in}
+use Rattle.ls_world.specs.World.{is_used, joined_all, added, without, removed, enqueue_slot, enqueue_at, enqueued_in, live_turn, round_of, taken_in}
 use Rattle.ls_world.proofs.Parts.{turn_if, met_by, given_by}
 use Rattle.ls_world.specs.Steps.{grown}
 use Rattle.ls_world.specs.Lawful.{Each, Apart, LawfulSlot, LawfulLive, LawfulBoard}
+use Rattle.ls_world.proofs.Rules.{cond_rule}
 use Rattle.ls_world.proofs.Each.{each_map, each_mapped, each_append, each_both}
 use Rattle.ls_laws.proofs.Modes.{keeps, joined_plan, joins, AfterTurn, turn_keeps, turn_plan}
 
@@ -316,4 +317,42 @@ add_keeps items free sub fields asks b new may l =
           (λ v h. begun_keeps items b.lines sub (are_filtered asks) (length asks) fields (keys_shown items asks) v h.0 h.1)
           (each_both (λ v. is_of sub v ≡ false) (LawfulLive items b.lines) b.round away l.slots))
           (joined_keeps items free b.lines sub (are_filtered asks) (length asks) fields (keys_shown items asks) 1 asks may);
+    }
+
+-- the slots of other subscriptions
+pub without_each : (P : Live → Type 0) (sub : ℕ) (vs : List Live) → Each P vs → Each P (without sub vs)
+without_each P sub [] e = tt
+without_each P sub (v ∷ vs) e =
+    cond_rule (Each P) (is_of sub v) _ _ (λ t. without_each P sub vs e.1) (λ t. (e.0, without_each P sub vs e.1))
+
+pub without_others : (sub : ℕ) (vs : List Live) → Each (λ v. is_of sub v ≡ false) (without sub vs)
+without_others sub [] = tt
+without_others sub (v ∷ vs) =
+    cond_rule (Each (λ u. is_of sub u ≡ false)) (is_of sub v) _ _ (λ t. without_others sub vs) (λ t. (t, without_others sub vs))
+
+without_apart : (sub : ℕ) (vs : List Live) → Apart vs → Apart (without sub vs)
+without_apart sub [] a = tt
+without_apart sub (v ∷ vs) a =
+    cond_rule Apart (is_of sub v) _ _ (λ t. without_apart sub vs a.1)
+    (λ t. (without_each (λ u. is_at v.sub v.rank u ≡ false) sub vs a.0, without_apart sub vs a.1))
+
+-- the end of a subscription brings nothing to them
+ends_keeps : (items : List Item) (lines : List Line) (sub : ℕ) (v : Live) → is_of sub v ≡ false → LawfulLive items lines v
+    → LawfulLive items (Ends sub ∷ lines) v
+ends_keeps items lines sub v other l =
+    record {
+      declared = l.declared;
+      shape = l.shape;
+      came = subst (λ (cs : List Came). LawfulSlot (history_of items v.item) v.wanted v.slot cs)
+          (sym (ap (λ (b : Bool). cond b [] (came v.sub v.rank lines)) other)) l.came;
+    }
+
+pub remove_keeps : (items : List Item) (sub : ℕ) (b : Board) → LawfulBoard items b → LawfulBoard items (removed sub b)
+remove_keeps items sub b l =
+    record {
+      apart = without_apart sub b.round l.apart;
+      slots = each_map (λ v. (is_of sub v ≡ false) × LawfulLive items b.lines v) (LawfulLive items (Ends sub ∷ b.lines)) (without sub b.round)
+          (λ v h. ends_keeps items b.lines sub v h.0 h.1)
+          (each_both (λ v. is_of sub v ≡ false) (LawfulLive items b.lines) (without sub b.round) (without_others sub b.round)
+          (without_each (LawfulLive items b.lines) sub b.round l.slots));
     }

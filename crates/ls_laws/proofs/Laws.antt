@@ -27,11 +27,12 @@ use Rattle.ls_step.specs.declared.step.Repeat.{Repeat}
 use Rattle.ls_step.specs.Adding.{add_pairs}
 use Rattle.ls_world.specs.Cutting.{Ask}
 use Rattle.ls_world.specs.CommandMode.{IsKeyed}
-use Rattle.ls_world.specs.World.{World, Item, Live, Session, empty, history_of, shape_at, change, live_at, added, enqueued_in, least_far, free_number, on_board}
-use Rattle.ls_world.specs.World.{opened}
-use Rattle.ls_world.specs.Acting.{asks_of, subscribed, add_code, create_code}
-use Rattle.ls_world.specs.Steps.{Stepped, Once, session_of, grown, is_whole, cause_to_refuse, publishes, creates, operates, session_named, acts, is_opening}
-use Rattle.ls_world.specs.Steps.{malformed, request_on, requests, connects, plain_create, enqueue_once, TurnGives, Gave, Idle, Spent, session_turn, took}
+use Rattle.ls_world.specs.World.{World, Item, Live, Session, empty, definitions, history_of, shape_at, change, live_at, added, removed, enqueued_in, least_far}
+use Rattle.ls_world.specs.World.{free_number, on_board, opened, ended}
+use Rattle.ls_world.specs.Acting.{asks_of, subscribed, add_code, delete_code, create_code, destroyed}
+use Rattle.ls_world.specs.Steps.{Stepped, Once, session_of, grown, is_whole, cause_to_refuse, publishes, creates, operated, operates, session_named, acts}
+use Rattle.ls_world.specs.Steps.{is_opening, malformed, request_on, requests, connects, plain_create, enqueue_once, TurnGives, Gave, Idle, Spent, Over}
+use Rattle.ls_world.specs.Steps.{session_turn, took}
 use Rattle.ls_world.specs.Steps.{take_once, does, does_all}
 use Rattle.ls_world.proofs.Parts.{enqueued_by}
 use Rattle.ls_world.specs.Ranges.{StepInRange, HasDistinctFields, InRange}
@@ -40,8 +41,8 @@ use Rattle.ls_laws.proofs.Asked.{IsAsk, IsAsked, asked_is, size_some}
 use Rattle.ls_laws.proofs.Requested.{IsAdd, IsOp, IsRequest, request_on_is}
 use Rattle.ls_world.proofs.Rules.{found_rule, session_rule, cond_rule, repeated_keeps}
 use Rattle.ls_world.proofs.Each.{each_map, each_changed, each_append, each_at}
-use Rattle.ls_laws.proofs.Frame.{later_grown, later_declared, enqueue_keeps, MayJoin, add_keeps}
-use Rattle.ls_laws.proofs.Sessions.{session_later, opened_lawful, on_board_keeps, session_keeps}
+use Rattle.ls_laws.proofs.Frame.{later_grown, later_declared, enqueue_keeps, MayJoin, add_keeps, remove_keeps}
+use Rattle.ls_laws.proofs.Sessions.{session_later, opened_lawful, ended_lawful, on_board_keeps, session_keeps, living_rule}
 
 -- a change of one session
 pub one_changed : (w : World) (n : ℕ) (s : Session) (f : Session → Session) → slice_get w.sessions n ≡ Some s
@@ -68,26 +69,34 @@ may_join items a ask sound add is =
         let k = is.keys (sym is.mode ∙ command) in
         record { key = shape.key; command = shape.command; apart = shape.apart k.kind; key_shown = k.key; command_shown = k.command }
 
-lawful_adds : (w : World) (a : Add) (n : ℕ) (s : Session) → slice_get w.sessions n ≡ Some s → IsAdd a → add_code w s a ≡ None → LawfulRecords w
-    → LawfulRecords
-    (record w { sessions = change n (subscribed w a) w.sessions })
-lawful_adds w a n s is add none l =
+add_lawful : (w : World) (s : Session) (a : Add) → Each IsSound w.items → IsAdd a → add_code w s a ≡ None → LawfulSession w.items s
+    → LawfulSession w.items (subscribed w a s)
+add_lawful w s a sound add none =
+    let asks : List Ask = asks_of (definitions w.items) a in
     let k : IsAsked w s a = asked_is w s a none in
-    one_changed w n s (subscribed w a) is
-    (on_board_keeps w.items (added w.items (free_number w.sessions) a.sub (length a.schema) (asks_of w.items a)) s
-    (add_keeps w.items (free_number w.sessions) a.sub (length a.schema) (asks_of w.items a) s.board k.new
-    (each_map (IsAsk w.items a) (MayJoin w.items) (asks_of w.items a) (λ ask x. may_join w.items a ask l.items add x) k.each)) (omega arith)) l
+    on_board_keeps w.items (added w.items (free_number w.sessions) a.sub (length a.schema) asks) s
+    (add_keeps w.items (free_number w.sessions) a.sub (length a.schema) asks s.board k.new
+    (each_map (IsAsk w.items a) (MayJoin w.items) asks (λ ask x. may_join w.items a ask sound add x) k.each)) (omega arith)
 
 -- requests
+lawful_operated : (w : World) (connection : ℕ) (req : List ℕ) (n : ℕ) (s : Session) (code : Option ℕ) (f : Session → Session)
+    → slice_get w.sessions n ≡ Some s → (code ≡ None → LawfulSession w.items s → LawfulSession w.items (f s)) → LawfulRecords w
+    → LawfulRecords (operated w connection req n code f).after
+lawful_operated w connection req n s code f is keep l =
+    found_rule (λ (r : Stepped). LawfulRecords r.after) code _ _ (λ none. one_changed w n s f is (keep none) l) (λ c x. l)
+
 lawful_operates : (w : World) (connection : ℕ) (req : List ℕ) (o : Op) (n : ℕ) (s : Session) → slice_get w.sessions n ≡ Some s → IsOp o → LawfulRecords w
     → LawfulRecords (operates w connection req o n s).after
 lawful_operates w connection req (op.Add a) n s is k l =
-    found_rule (λ (r : Stepped). LawfulRecords r.after) (add_code w s a) _ _ (λ none. lawful_adds w a n s is k none l) (λ code x. l)
-lawful_operates w connection req (op.Delete sub) n s is k l = l
+    lawful_operated w connection req n s (add_code w s a) (subscribed w a) is (λ none. add_lawful w s a l.items k none) l
+lawful_operates w connection req (op.Delete sub) n s is k l =
+    lawful_operated w connection req n s (delete_code s sub) (on_board (removed sub)) is
+    (λ none. on_board_keeps w.items (removed sub) s (remove_keeps w.items sub s.board) (omega arith)) l
 lawful_operates w connection req (op.Reconf sub frequency) n s is k l = l
 lawful_operates w connection req (op.Constrain bandwidth) n s is k l = l
 lawful_operates w connection req op.ForceRebind n s is k l = l
-lawful_operates w connection req op.Destroy n s is k l = l
+lawful_operates w connection req op.Destroy n s is k l =
+    lawful_operated w connection req n s None (ended destroyed) is (λ none. ended_lawful w.items destroyed s) l
 
 lawful_creates : (w : World) (connection : ℕ) (c : Create) → LawfulRecords w → LawfulRecords (creates w connection c).after
 lawful_creates w connection c l =
@@ -103,8 +112,8 @@ lawful_acts : (w : World) (connection : ℕ) (r : Request) → IsRequest r → L
 lawful_acts w connection (request.Create c) k l = lawful_creates w connection c l
 lawful_acts w connection (request.Bind b) k l = l
 lawful_acts w connection (request.Control c) k l =
-    session_rule (λ (r : Stepped). LawfulRecords r.after) w.sessions (session_named w connection c.session) _ (operates w connection c.req c.op) l
-    (λ n s is. lawful_operates w connection c.req c.op n s is k l)
+    living_rule (λ (r : Stepped). LawfulRecords r.after) w.sessions (session_named w connection c.session) _ (operates w connection c.req c.op) l
+    (λ n s is living. lawful_operates w connection c.req c.op n s is k l)
 lawful_acts w connection request.Wsok k l = l
 
 lawful_malformed : (w : World) (connection : ℕ) (name : List ℕ) (req : Option (List ℕ)) → LawfulRecords w
@@ -161,6 +170,7 @@ pub lawful_took : (w : World) (connection n : ℕ) (old new : Session) (g : Turn
 lawful_took w connection n old new (Gave text) is k l = one_changed w n old (λ x. new) is (λ x. k) l
 lawful_took w connection n old new Idle is k l = one_changed w n old (λ x. new) is (λ x. k) l
 lawful_took w connection n old new Spent is k l = l
+lawful_took w connection n old new (Over code) is k l = l
 
 -- one step, made at most so often
 pub lawful_does : (w : World) (s : Step) (times : ℕ) → StepInRange s → HasDistinctFields s → LawfulRecords w → LawfulRecords (does w s times).after

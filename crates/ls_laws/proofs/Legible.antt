@@ -35,14 +35,15 @@ use Rattle.ls_mirror.specs.Client.{Begun, begun, begun_after, What, Row, Lost, C
 use Rattle.ls_world.specs.Came.{Came, whats}
 use Rattle.ls_world.specs.Tables.{keys_shown_at}
 use Rattle.ls_world.specs.Cutting.{Ask, Wanted, schema_of, turn}
-use Rattle.ls_world.specs.Lines.{Line, Begins, Configures, Tells, came, last_row, tells_line, begins_line, wire}
-use Rattle.ls_world.specs.World.{World, Item, Live, Board, Session, RoundLine, Round, empty, history_of, shape_at, joined_slot, change, is_at, is_of, live_at}
-use Rattle.ls_world.specs.World.{keys_in, keys_shown, are_filtered, joined_all, added, enqueue_at, enqueue_slot, enqueued_in, free_number, live_turn}
-use Rattle.ls_world.specs.World.{round_of, taken_in, on_board, is_unsent, given_next, opened}
-use Rattle.ls_world.specs.Acting.{asks_of, subscribed, add_code, create_code}
-use Rattle.ls_world.specs.Steps.{Stepped, Once, repeated, SessionTurn, session_of, grown, is_whole, cause_to_refuse, publishes, creates, operates}
+use Rattle.ls_world.specs.Lines.{Line, Begins, Ends, Configures, Tells, came, last_row, tells_line, begins_line, wire}
+use Rattle.ls_world.specs.World.{World, Item, Live, Board, Life, Alive, Ending, Ended, Session, RoundLine, Round, empty, definitions, history_of, shape_at}
+use Rattle.ls_world.specs.World.{joined_slot, change, is_at, is_of, live_at, keys_in, keys_shown, are_filtered, joined_all, added, without, removed}
+use Rattle.ls_world.specs.World.{enqueue_at, enqueue_slot, enqueued_in, free_number, live_turn, round_of, taken_in, on_board, is_unsent, given_next, opened}
+use Rattle.ls_world.specs.World.{ended}
+use Rattle.ls_world.specs.Acting.{asks_of, subscribed, add_code, delete_code, create_code, destroyed}
+use Rattle.ls_world.specs.Steps.{Stepped, Once, repeated, SessionTurn, session_of, grown, is_whole, cause_to_refuse, publishes, creates, operated, operates}
 use Rattle.ls_world.specs.Steps.{session_named, acts, is_opening, malformed, request_on, requests, connects, plain_create, enqueue_once, TurnGives, Gave, Idle}
-use Rattle.ls_world.specs.Steps.{Spent, round_turn, turn_owing, session_turn, took, take_once, does, does_all}
+use Rattle.ls_world.specs.Steps.{Spent, Over, round_turn, turn_owing, turn_living, session_turn, took, take_once, does, does_all}
 use Rattle.ls_world.proofs.Parts.{turn_if, met_by, given_by, enqueued_by, round_given}
 use Rattle.ls_world.specs.Script.{counted}
 use Rattle.ls_world.specs.RawMode.{RawSays}
@@ -55,7 +56,7 @@ use Rattle.ls_world.proofs.Each.{each_map, each_mapped, each_changed, each_appen
 use Rattle.ls_laws.proofs.Asked.{schema_keys, IsAsk, IsAsked, asked_is}
 use Rattle.ls_laws.proofs.Requested.{IsAdd, IsOp, IsRequest, request_on_is}
 use Rattle.ls_laws.proofs.Modes.{joined_plan, turn_plan}
-use Rattle.ls_laws.proofs.Frame.{unused_each, take_keeps}
+use Rattle.ls_laws.proofs.Frame.{unused_each, without_each, without_others, take_keeps}
 use Rattle.ls_laws.proofs.Heard.{wires, RowFits, tells_begun, has_come, CanWrite, are_read}
 use Rattle.ls_laws.proofs.Updates.{updates_few}
 use Rattle.ls_laws.proofs.KeyTables.{told_places}
@@ -64,7 +65,7 @@ use Rattle.ls_laws.proofs.DistinctTruths.{IsLine, distinct_each}
 use Rattle.ls_laws.proofs.Textual.{Textual, TextualEvent, KeyLineFits, key_line, plain_utf8, turn_fits, slot_fits}
 use Rattle.ls_world.proofs.Rules.{found_rule, session_rule, cond_rule, repeated_keeps}
 use Rattle.ls_laws.proofs.Laws.{lawful_does, lawful_enqueued, lawful_took, lawful_empty}
-use Rattle.ls_laws.proofs.Sessions.{session_keeps}
+use Rattle.ls_laws.proofs.Sessions.{session_keeps, living_rule}
 
 -- the subscription of a slot of mode COMMAND, whose item has keys, was begun by a SUBCMD with the places of the key and the command in its schema
 pub record IsBegun (v : Live) (keyed : Option KeyPlaces) : Type 0 where
@@ -325,7 +326,7 @@ legible_taken items b sound t l h =
 -- a session's turn changes its board as its round does, or not at all
 turned_board : (P : Board → Type 0) (items : List Item) (s : Session) → P s.board → P (taken_in (λ v. true) items s.board)
     → P (session_turn items s).session.board
-turned_board P items s p q = by_owed s.owed
+turned_board P items s p q = by_life s.life
   where
     given : (t : Session) → P t.board → P (given_next t).board
     given t r = cond_rule (λ (u : Session). P u.board) (is_unsent t) _ _ (λ x. r) (λ x. r)
@@ -342,6 +343,11 @@ turned_board P items s p q = by_owed s.owed
     by_owed : (owed : List (List ℕ)) → P (turn_owing items s owed).session.board
     by_owed (text ∷ owed) = p
     by_owed [] = cond_rule (λ (u : SessionTurn). P u.session.board) (is_unsent s) _ _ (λ x. given s p) (λ x. by_round s.board.round)
+
+    by_life : (life : Life) → P (turn_living items s life).session.board
+    by_life Alive = by_owed s.owed
+    by_life (Ending code) = p
+    by_life (Ended code) = p
 
 -- a new subscription: the places of its key and command lie in its schema
 abbrev KeysIn : ℕ → Option KeyPlaces → Type 0
@@ -468,9 +474,9 @@ ask_shown items a keyed ask first k =
     record { schema = k.schema; kind = λ command. (k.keys (sym k.mode ∙ command)).kind; keys = first ∙ sym (ask_keys items a ask k) }
 
 legible_added : (w : World) (s : Session) (a : Add) (free : ℕ → ℕ) → IsAdd a → IsAsked w s a → LegibleBoard s.board
-    → LegibleBoard (added w.items free a.sub (length a.schema) (asks_of w.items a) s.board)
+    → LegibleBoard (added w.items free a.sub (length a.schema) (asks_of (definitions w.items) a) s.board)
 legible_added w s a free is k h =
-    let asks : List Ask = asks_of w.items a in
+    let asks : List Ask = asks_of (definitions w.items) a in
     let sub : IsOrdinal a.sub = record { some = is.some; most = is.most } in
     let fields : IsOrdinal (length a.schema) = record { some = k.some_fields; most = omega (arith, k.most_fields) } in
     record {
@@ -502,22 +508,56 @@ board_changed : (w : World) (n : ℕ) (s : Session) (f : Session → Session) �
 board_changed w n s f is keep l =
     record { items = l.items; sessions = each_changed (λ (t : Session). LegibleBoard t.board) n f s w.sessions is keep l.sessions }
 
-legible_adds : (w : World) (a : Add) (n : ℕ) (s : Session) → slice_get w.sessions n ≡ Some s → IsAdd a → add_code w s a ≡ None → Legible w
-    → Legible (record w { sessions = change n (subscribed w a) w.sessions })
-legible_adds w a n s is range none l =
-    board_changed w n s (subscribed w a) is
-    (legible_added w s a (free_number w.sessions) range (asked_is w s a none)) l
+-- a subscription that ends
+ends_writable : (lines : List Line) (sub : ℕ) → IsOrdinal sub → IsWritable (wire lines (Ends sub))
+ends_writable lines sub s = ((s.some, s.most), tt)
+
+shown_ends : (lines : List Line) (sub : ℕ) (v : Live) → is_of sub v ≡ false → Shown lines v → Shown (Ends sub ∷ lines) v
+shown_ends lines sub v other h =
+    record {
+      subscription = h.subscription;
+      is = ap (λ (b : Bool). cond b None (begun v.sub (wires lines))) other ∙ h.is;
+      sub = h.sub;
+      rank = h.rank;
+      within = h.within;
+      some = h.some;
+      most = h.most;
+      schema = h.schema;
+      keyed = h.keyed;
+      rows = subst (λ (cs : List Came). Each (RowFits h.subscription.fields) (whats cs)) (sym (ap (λ (b : Bool). cond b [] (came v.sub v.rank lines)) other))
+          h.rows;
+    }
+
+legible_removed : (sub : ℕ) (b : Board) → IsOrdinal sub → LegibleBoard b → LegibleBoard (removed sub b)
+legible_removed sub b s h =
+    record {
+      lines = (ends_writable b.lines sub s, h.lines);
+      slots = each_map (λ (v : Live). (is_of sub v ≡ false) × Shown b.lines v) (Shown (Ends sub ∷ b.lines)) (without sub b.round)
+          (λ v x. shown_ends b.lines sub v x.0 x.1)
+          (each_both (λ (v : Live). is_of sub v ≡ false) (Shown b.lines) (without sub b.round) (without_others sub b.round)
+          (without_each (Shown b.lines) sub b.round h.slots));
+    }
 
 -- requests
+legible_operated : (w : World) (connection : ℕ) (req : List ℕ) (n : ℕ) (s : Session) (code : Option ℕ) (f : Session → Session)
+    → slice_get w.sessions n ≡ Some s → (code ≡ None → LegibleBoard s.board → LegibleBoard (f s).board) → Legible w
+    → Legible (operated w connection req n code f).after
+legible_operated w connection req n s code f is keep l =
+    found_rule (λ (x : Stepped). Legible x.after) code _ _ (λ none. board_changed w n s f is (keep none) l) (λ c x. l)
+
 legible_operates : (w : World) (connection : ℕ) (req : List ℕ) (o : Op) (n : ℕ) (s : Session) → slice_get w.sessions n ≡ Some s → IsOp o → Legible w
     → Legible (operates w connection req o n s).after
 legible_operates w connection req (op.Add a) n s is range l =
-    found_rule (λ (x : Stepped). Legible x.after) (add_code w s a) _ _ (λ none. legible_adds w a n s is range none l) (λ code x. l)
-legible_operates w connection req (op.Delete sub) n s is range l = l
+    legible_operated w connection req n s (add_code w s a) (subscribed w a) is
+    (λ none. legible_added w s a (free_number w.sessions) range (asked_is w s a none)) l
+legible_operates w connection req (op.Delete sub) n s is range l =
+    legible_operated w connection req n s (delete_code s sub) (on_board (removed sub)) is
+    (λ none. legible_removed sub s.board (record { some = range.0; most = range.1 })) l
 legible_operates w connection req (op.Reconf sub frequency) n s is range l = l
 legible_operates w connection req (op.Constrain bandwidth) n s is range l = l
 legible_operates w connection req op.ForceRebind n s is range l = l
-legible_operates w connection req op.Destroy n s is range l = l
+legible_operates w connection req op.Destroy n s is range l =
+    legible_operated w connection req n s None (ended destroyed) is (λ none b. record { lines = b.lines; slots = tt }) l
 
 legible_creates : (w : World) (connection : ℕ) (c : Create) → Legible w → Legible (creates w connection c).after
 legible_creates w connection c l =
@@ -533,8 +573,8 @@ legible_acts : (w : World) (connection : ℕ) (r : Request) → IsRequest r → 
 legible_acts w connection (request.Create c) range l = legible_creates w connection c l
 legible_acts w connection (request.Bind b) range l = l
 legible_acts w connection (request.Control c) range l =
-    session_rule (λ (x : Stepped). Legible x.after) w.sessions (session_named w connection c.session) _ (operates w connection c.req c.op) l
-    (λ n s is. legible_operates w connection c.req c.op n s is range l)
+    living_rule (λ (x : Stepped). Legible x.after) w.sessions (session_named w connection c.session) _ (operates w connection c.req c.op) l
+    (λ n s is living. legible_operates w connection c.req c.op n s is range l)
 legible_acts w connection request.Wsok range l = l
 
 legible_malformed : (w : World) (connection : ℕ) (name : List ℕ) (req : Option (List ℕ)) → Legible w → Legible (malformed w connection name req).after
@@ -582,6 +622,7 @@ legible_took : (w : World) (connection n : ℕ) (old new : Session) (g : TurnGiv
 legible_took w connection n old new (Gave text) is k l = board_changed w n old (λ x. new) is (λ x. k) l
 legible_took w connection n old new Idle is k l = board_changed w n old (λ x. new) is (λ x. k) l
 legible_took w connection n old new Spent is k l = l
+legible_took w connection n old new (Over code) is k l = l
 
 both_enqueued : (connection sub rank times : ℕ) (w : World) → Both w → Both (repeated (enqueue_once connection sub rank) times w).after
 both_enqueued connection sub rank times w b =

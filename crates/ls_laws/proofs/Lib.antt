@@ -25,4 +25,8 @@ pub mod Legible
 pub mod Scripts
 pub mod Settled
 pub mod ClientTables
+pub mod Unnumbered
+pub mod Others
+pub mod Alone
+pub mod Runs
 pub mod Examples

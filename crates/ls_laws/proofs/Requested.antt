@@ -26,9 +26,13 @@ pub record IsAdd (a : Add) : Type 0 where
   pub most : a.sub ≤ 999999999
   pub size : IfSome a.size (λ n. 1 ≤ n)
 
+-- a number between two
+abbrev pub Within : ℕ → ℕ → ℕ → Type 0
+Within low high n = (low ≤ n) × (n ≤ high)
+
 abbrev pub IsOp : Op → Type 0
 IsOp (op.Add a) = IsAdd a
-IsOp (op.Delete sub) = Unit {0}
+IsOp (op.Delete sub) = Within 1 999999999 sub
 IsOp (op.Reconf sub frequency) = Unit {0}
 IsOp (op.Constrain bandwidth) = Unit {0}
 IsOp op.ForceRebind = Unit {0}
@@ -71,9 +75,6 @@ unless_is P true o h = tt
 unless_is P false o h = h
 
 -- numbers
-abbrev Within : ℕ → ℕ → ℕ → Type 0
-Within low high n = (low ≤ n) × (n ≤ high)
-
 number_within : (low high : ℕ) (text : List ℕ) → IfSome (number_in low high text) (Within low high)
 number_within low high text =
     free (Within low high) (number_of text) (within low high) (λ n. kept (Within low high) (nat_le low n && nat_le n high) n
@@ -113,7 +114,9 @@ op_is : (word : List ℕ) (ps : List Pair) → IfSome (op_of word ps) IsOp
 op_is word ps =
     one_of IsOp (is_word (codes "add") word) (option_map (λ a. op.Add a) (add_of ps)) (plain_op_of word ps)
     (made IsAdd IsOp (λ a. op.Add a) (add_of ps) (add_is ps) (λ a h. h))
-    (one_of IsOp (is_word (codes "delete") word) (delete_of ps) _ (free IsOp (needed sub_of (text_under ps (codes "LS_subId"))) _ (λ sub. tt))
+    (one_of IsOp (is_word (codes "delete") word) (delete_of ps) _
+    (chained (Within 1 999999999) IsOp (needed sub_of (text_under ps (codes "LS_subId"))) _
+    (free (Within 1 999999999) (text_under ps (codes "LS_subId")) sub_of (λ text. number_within 1 999999999 text)) (λ sub h. h))
     (one_of IsOp (is_word (codes "reconf") word) (reconf_of ps) _
     (free IsOp (needed sub_of (text_under ps (codes "LS_subId"))) _ (λ sub. free IsOp (needed frequency_of (text_under ps (codes "LS_requested_max_frequency")))
     _ (λ frequency. tt)))

@@ -1,8 +1,10 @@
 -- A step of a session keeps it lawful.
-use Rattle.std.proofs.Common.{◌≡◌, ℕ, ◌+◌, ◌^◌, ◌≤◌, List, [], ◌∷◌, length, refl, arith, Bool, true, false, cond, Option, Some, None, nat_le}
+use Rattle.std.proofs.Common.{◌≡◌, ℕ, ◌+◌, ◌^◌, ◌≤◌, List, [], ◌∷◌, length, refl, arith, Bool, true, false, cond, Option, Some, None, nat_le, slice_get}
 use Rattle.std.proofs.lemmas.Bool.{ltb-true}
-use Rattle.ls_world.specs.World.{Item, Live, Board, Stream, Session, RoundLine, round_of, taken_in, on_board, noted_in, is_unsent, given_next, opened}
-use Rattle.ls_world.specs.Steps.{Spent, next_given, round_turn, turn_owing, session_turn}
+use Rattle.ls_world.specs.World.{Item, Live, Board, Stream, Life, Alive, Ending, Ended, Session, RoundLine, round_of, taken_in, on_board, noted_in, is_unsent}
+use Rattle.ls_world.specs.World.{given_next, opened, ended, is_alive}
+use Rattle.ls_world.specs.Steps.{Spent, next_given, round_turn, turn_owing, turn_living, session_turn, with_living}
+use Rattle.ls_world.proofs.Rules.{cond_rule, session_rule}
 use Rattle.ls_world.proofs.Parts.{given_by, round_given, round_taken}
 use Rattle.ls_world.specs.Lawful.{LawfulStreams, LawfulBoard, LawfulSession}
 use Rattle.ls_laws.proofs.Frame.{Later, board_later, take_keeps}
@@ -68,5 +70,22 @@ owing_keeps items s [] l = by_test (is_unsent s)
     by_test true = next_keeps items s l
     by_test false = round_turn_keeps items s s.board.round l
 
+-- one that has ended tells its client so
+living_keeps : (items : List Item) (s : Session) (life : Life) → LawfulSession items s → LawfulSession items (turn_living items s life).session
+living_keeps items s Alive l = owing_keeps items s s.owed l
+living_keeps items s (Ending code) l = record { board = l.board; sent = l.sent; streams = l.streams }
+living_keeps items s (Ended code) l = l
+
 pub session_keeps : (items : List Item) (s : Session) → LawfulSession items s → LawfulSession items (session_turn items s).session
-session_keeps items s l = owing_keeps items s s.owed l
+session_keeps items s l = living_keeps items s s.life l
+
+-- one that ends has no slot
+pub ended_lawful : (items : List Item) (code : ℕ) (s : Session) → LawfulSession items s → LawfulSession items (ended code s)
+ended_lawful items code s l = record { board = record { apart = tt; slots = tt }; sent = l.sent; streams = l.streams }
+
+-- what is done with one that hasn't ended, by what is true with none and with one
+pub living_rule : {A : Type 0} (P : A → Type 0) (sessions : List Session) (o : Option ℕ) (none : A) (f : ℕ → Session → A) → P none
+    → ((n : ℕ) (s : Session) → slice_get sessions n ≡ Some s → is_alive s.life ≡ true → P (f n s)) → P (with_living sessions o none f)
+living_rule P sessions o none f p q =
+    session_rule P sessions o none (λ n s. cond (is_alive s.life) (f n s) none) p
+    (λ n s is. cond_rule P (is_alive s.life) (f n s) none (λ t. q n s is t) (λ t. p))

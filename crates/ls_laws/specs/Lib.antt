@@ -1,2 +1,3 @@
 pub mod Truths
 pub mod ClientTables
+pub mod Alone

@@ -2,6 +2,7 @@
 //! and so 1 to 64 distinct fields, is among the premises: a lawful world says it, and a step that declares an item
 //! keeps to it.
 ghost use Rattle.std.specs.Prelude.{◌≡◌, ◌+◌, ◌<◌, ◌≤◌, ◌++◌, ◌∷◌, ℕ, List, [], length, None, Some, false, true};
+ghost use Rattle.std.specs.Prelude.{slice_get};
 ghost use Rattle.std.specs.List.{Contains};
 ghost use Rattle.ls_value.specs.Values.{projected};
 ghost use Rattle.ls_value.specs.declared.row.Value.{Value};
@@ -16,8 +17,9 @@ ghost use Rattle.ls_event.specs.Cuts.{cut, is_pending};
 ghost use Rattle.ls_world.specs.Lines.{came, last_row, texts};
 ghost use Rattle.ls_world.specs.Cutting.{Wanted, client_row, schema_of, turn};
 ghost use Rattle.ls_world.specs.World.{World, Session, Live, empty, history_of, shape_at};
+ghost use Rattle.ls_step.specs.declared.step.Step.{Step};
 ghost use Rattle.ls_step.specs.declared.step.Repeat.{Repeat};
-ghost use Rattle.ls_world.specs.Steps.{does_all};
+ghost use Rattle.ls_world.specs.Steps.{does, does_all};
 ghost use Rattle.ls_world.specs.Script.{world_of};
 ghost use Rattle.ls_world.specs.Lawful.{Each, IsMergeLine, LawfulSlot, Lawful};
 ghost use Rattle.std.specs.FinMap as finite;
@@ -31,6 +33,8 @@ ghost use Rattle.ls_world.specs.CommandMode.{cursor_of_key, AgreesAt, NoTurn, Is
 ghost use Rattle.ls_world.specs.Tables.{projected_row, table_at};
 ghost use Rattle.ls_world.specs.Ranges.{InRange};
 ghost use Rattle.ls_laws.specs.Truths.{TellsOf, IsTrueOf};
+ghost use Rattle.ls_laws.specs.Alone.{seen, connection_of, is_own, lacks_slots, changes_items};
+ghost use Rattle.ls_laws.specs.Alone.{RunStep, firsts, seconds, told, DifferElsewhere};
 
 /// Each world that steps make of the empty one is lawful, where the parts of each step are in their ranges (a new item
 /// has 1 to 64 distinct fields, and in kind COMMAND a key and a command among them; the texts of an update are UTF-8):
@@ -171,4 +175,46 @@ pub fn settled_slots_are_at_the_last_event()
 pub fn the_turn_ends_its_cuts()
     ensures { (h : List Entry) (w : Wanted) (s : Slot) (cs : List Came) → (turn h w s cs).came ≡ None
         → cut h (turn h w s cs).slot ≡ None }
+{}
+
+/// A step changes one session at most, the one that it means: an enqueue, a take or a request that names no session
+/// means its connection's, a control request the one that it names, and a create_session makes a new one. Each other
+/// session is as it was, and so are the items unless the step is a new item, an update or a Clear.
+pub fn a_step_changes_its_session_alone()
+    ensures sessions { (w : World) (n : ℕ) (s : Step) (times : ℕ) → n < length w.sessions → is_own n w s ≡ false
+        → slice_get (does w s times).after.sessions n ≡ slice_get w.sessions n }
+    ensures items { (w : World) (s : Step) (times : ℕ) → changes_items s ≡ false
+        → (does w s times).after.items ≡ w.items }
+{}
+
+/// What a session's own step prints, and what the session sees after it, follow from what it sees: the items, its
+/// connection, and itself but for the numbers of its slots. So in any two worlds that it sees alike, whatever their
+/// other sessions are, its enqueues, takes and requests print the same and lead to worlds that it sees alike. Only an
+/// add counts the slots of others: the server must lack slots for it (code 71) in both worlds or in neither.
+pub fn a_session_is_told_what_it_sees()
+    ensures printed { (n connection : ℕ) (w v : World) (s : Step) (times : ℕ)
+        → seen n connection w ≡ seen n connection v → connection_of s ≡ Some connection → is_own n w s ≡ true
+        → lacks_slots w s ≡ lacks_slots v s → (does w s times).outs ≡ (does v s times).outs }
+    ensures sees { (n connection : ℕ) (w v : World) (s : Step) (times : ℕ)
+        → seen n connection w ≡ seen n connection v → connection_of s ≡ Some connection → is_own n w s ≡ true
+        → lacks_slots w s ≡ lacks_slots v s
+        → seen n connection (does w s times).after ≡ seen n connection (does v s times).after }
+{}
+
+/// In two runs that differ only in what is done elsewhere, a session is told the same and sees the same in the end.
+/// Elsewhere are the steps of other sessions, and those that make connections and sessions; the session's own steps, on
+/// one connection, are made in both runs.
+///
+/// Not independent of others are: the numbers of slots, which only the note of a refused update prints; how many
+/// sessions and slots there may still be (codes 8 and 71), and a new session's place, by which it is named; and an
+/// update that is refused because a slot of another session lags. Then the item's history is another one, so of shared
+/// steps the law asks that they make the same items in both runs.
+pub fn a_session_is_told_nothing_of_others()
+    ensures told { (n connection : ℕ) (w v : World) (steps : List RunStep) → n < length w.sessions
+        → connection < length w.connections → seen n connection w ≡ seen n connection v
+        → DifferElsewhere n connection w v steps → told n w (firsts steps) ≡ told n v (seconds steps) }
+    ensures sees { (n connection : ℕ) (w v : World) (steps : List RunStep) → n < length w.sessions
+        → connection < length w.connections → seen n connection w ≡ seen n connection v
+        → DifferElsewhere n connection w v steps
+        → seen n connection (does_all w (firsts steps)) ≡ seen n connection (does_all v (seconds steps)) }
 {}

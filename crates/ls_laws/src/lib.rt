@@ -5,6 +5,7 @@
 //! lines are states that its item had, and it never goes back. The others say for each mode what a lawful slot's client
 //! has: `each_row_is_among_the_last_states` of MERGE, `each_update_is_told_or_counted` of RAW,
 //! `only_old_rows_are_left_out` of DISTINCT, `no_key_goes_back` of COMMAND, and what a client has once nothing waits.
+//! `a_session_is_told_nothing_of_others` says that what one session is told doesn't depend on what others do.
 //!
 //! The laws are of the definitions alone. That the program does what these say is the contracts of the engine's crates.
 //! Only the program stands on this crate, so a change of a proof here proves nothing else again.
@@ -13,7 +14,9 @@
 mod law;
 
 pub use law::{
-    a_loss_is_told_only_past_256, each_client_has_the_rows_of_its_keys, each_key_is_told_as_it_was,
+    a_loss_is_told_only_past_256, a_session_is_told_nothing_of_others,
+    a_session_is_told_what_it_sees, a_step_changes_its_session_alone,
+    each_client_has_the_rows_of_its_keys, each_key_is_told_as_it_was,
     each_row_is_among_the_last_states, each_script_is_lawful, each_update_is_told_or_counted,
     each_world_is_lawful, no_key_goes_back, no_state_is_invented, only_old_rows_are_left_out,
     settled_clients_have_the_items_rows, settled_clients_have_the_items_state,

@@ -1,2 +1,10 @@
 pub mod Queues
-pub mod Sessions
+pub mod Waiting
+pub mod Moves
+pub mod Turns
+pub mod Keeping
+pub mod Adding
+pub mod Answering
+pub mod Deleting
+pub mod Tables
+pub mod Enqueuing

@@ -11,17 +11,9 @@ use Rattle.ls_event.specs.Updates.{updates_between, last_clear, recent_rows}
 use Rattle.ls_event.specs.OwnCuts.{first_of_last, raw_taken, raw_cut_of, row_taken, clear_cut, snapshot_cut, distinct_cut_by}
 use Rattle.ls_event.specs.CommandCuts.{key_taken, command_cut_by, command_queue}
 use Rattle.ls_event.specs.Cuts.{cut_of, cut}
+use Rattle.ls_subs.specs.Standing.{Suits}
 
--- a row is told in each mode but MERGE, a change in mode MERGE alone, a key in mode COMMAND alone
-abbrev pub Suits : Mode → Taken → Type 0
-Suits m (taken.Row row upto) = m ≡ mode.Merge → ⊥
-Suits m (taken.Lost count upto) = Unit {0}
-Suits m (taken.Change cells upto) = m ≡ mode.Merge
-Suits m (taken.Key key row upto) = m ≡ mode.Command
-Suits m (taken.Cleared upto) = Unit {0}
-Suits m taken.EndOfSnapshot = Unit {0}
-
--- so does a cut, where there is one
+-- a cut, where there is one, suits a mode
 abbrev AllSuit : Mode → Option Taken → Type 0
 AllSuit m o = (t : Taken) → o ≡ Some t → Suits m t
 

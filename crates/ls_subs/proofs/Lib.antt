@@ -2,4 +2,11 @@ pub mod Lengths
 pub mod KeyRows
 pub mod Cuts
 pub mod Subscriptions
-pub mod Turning
+pub mod Rounds
+pub mod Moves
+pub mod Keeping
+pub mod Places
+pub mod Accepting
+pub mod Asks
+pub mod Planning
+pub mod Enqueues

@@ -18,7 +18,7 @@ use Rattle.ls_world.specs.Cutting.{Wanted, client_row, what_of_change, schema_of
 use Rattle.ls_world.specs.World.{keys_in}
 use Rattle.ls_subs.specs.Subscribed.{Subscribed}
 use Rattle.ls_subs.specs.Subscription.{row_of, what_by_key, what_comes, after_what, HoldsKeys, HasStarted, StandsSubscribed}
-use Rattle.ls_subs.proofs.Cuts.{Suits}
+use Rattle.ls_subs.specs.Standing.{Suits}
 use Rattle.ls_subs.proofs.KeyRows.{holds_more}
 
 -- the client's row

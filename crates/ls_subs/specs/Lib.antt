@@ -1,2 +1,5 @@
 pub mod Subscribed
 pub mod Subscription
+pub mod Kept
+pub mod Standing
+pub mod Plans

@@ -1,31 +1,26 @@
--- What a subscription of one item keeps of its client, and what its turn is.
-use Rattle.std.specs.Prelude.{◌≡◌, ℕ, List, [], ◌∷◌, ◌++◌, length, Bool, true, false, Option, None, Some, is_some}
+-- What an item of a subscription tells its client, and what is kept of it.
+use Rattle.std.specs.Prelude.{◌≡◌, ℕ, List, ◌++◌, length, Bool, true, false, Option, None, Some, is_some}
 use Rattle.std.specs.Prelude.{option_map}
 use Rattle.std.specs.Option.{option_map_or}
 use Rattle.std.specs.FinMap as finite
 use Rattle.ls_value.specs.Values.{applied, nulls, value_at, projected, projected_cells}
 use Rattle.ls_value.specs.declared.row.Value.{Value}
-use Rattle.ls_event.specs.declared.event.Entry.{Entry}
 use Rattle.ls_event.specs.declared.event.Mode.{Mode}
 use Rattle.ls_event.specs.declared.event.Mode.TheVariants as mode
 use Rattle.ls_event.specs.declared.event.Taken.{Taken}
 use Rattle.ls_event.specs.declared.event.Taken.TheVariants as taken
-use Rattle.ls_event.specs.Slots.{Slot, passed}
-use Rattle.ls_event.specs.Cuts.{cut}
+use Rattle.ls_event.specs.Slots.{Slot}
 use Rattle.ls_mirror.specs.Client.{What, Row, Lost, Cleared, End, row_or}
 use Rattle.ls_mirror.specs.Keys.{KeyTable}
-use Rattle.ls_world.specs.Came.{Came, came_by, whats}
+use Rattle.ls_world.specs.Came.{Came, whats}
 use Rattle.ls_world.specs.Lines.{last_row, tells_text}
 use Rattle.ls_world.specs.Tables.{text_or_empty, kept_of, what_of_key, table_at, projected_row}
-use Rattle.ls_world.specs.Cutting.{Wanted, Turn, schema_of, what_of_change, what_of_cut, turn_within}
+use Rattle.ls_world.specs.Cutting.{Wanted, schema_of, what_of_change}
 use Rattle.ls_world.specs.World.{keys_in}
-use Rattle.ls_cell.specs.Cell.{Held, StandsCell}
 use Rattle.ls_mirror.specs.declared.command.KeyPlaces.{KeyPlaces}
-use Rattle.ls_subs.specs.declared.subscription.Cutting.{Cutting}
-use Rattle.ls_subs.specs.declared.subscription.Cutting.TheVariants as cutting
 pub use Rattle.ls_subs.specs.Subscribed.{Subscribed}
-use Rattle.ls_subs.specs.declared.subscription.LineKind.{LineKind}
-use Rattle.ls_subs.specs.declared.subscription.LineKind.TheVariants as kind
+use Rattle.ls_subs.specs.declared.followed.LineKind.{LineKind}
+use Rattle.ls_subs.specs.declared.followed.LineKind.TheVariants as kind
 
 -- what a line of a kind tells, where this is its row
 abbrev pub what_in : List Value → LineKind → What
@@ -89,7 +84,7 @@ after_line u what = option_map_or (after_what u) what u
 
 -- the text of the line that tells it
 abbrev pub line_if : Subscribed → Option What → Option (List ℕ)
-line_if u what = option_map (tells_text u.row u.sub 1) what
+line_if u what = option_map (tells_text u.row u.sub u.rank) what
 
 -- a text to which a line was appended, or none
 pub record Appended : Type 0 where
@@ -119,62 +114,3 @@ pub record StandsSubscribed (u : Subscribed) (w : Wanted) (s : Slot) (cs : List 
   pub row : u.row ≡ last_row cs
   pub has_started : HasStarted s.plan.mode s.has_started u.row
   pub table : HoldsKeys u.keys u.table (whats cs)
-
--- what a cut leaves as it was: the subscription and the text, where it makes no line
-abbrev pub Leaves : Cutting → Subscribed → Subscribed → List ℕ → List ℕ → Type 0
-Leaves cutting.Nothing u v before after = (v ≡ u) × (after ≡ before)
-Leaves cutting.Silent u v before after = (v ≡ u) × (after ≡ before)
-Leaves cutting.Line u v before after = v.sub ≡ u.sub
-
--- a slot without a cut
-pub record NoCut (w : Wanted) (s : Slot) (h : List Entry) (cs : List Came) (c : Held) (v : Subscribed) : Type 0 where
-  pub none : cut h s ≡ None
-  pub cell : StandsCell c (Some s ∷ []) h
-  pub client : StandsSubscribed v w s cs
-
--- a cut that was passed and makes no line
-pub record SilentCut (w : Wanted) (s : Slot) (h : List Entry) (cs : List Came) (c : Held) (v : Subscribed) : Type 0
-  where
-    pub taken : Taken
-    pub is : cut h s ≡ Some taken
-    pub none : what_of_cut w s cs taken ≡ None
-    pub cell : StandsCell c (Some (passed s taken) ∷ []) h
-    pub client : StandsSubscribed v w (passed s taken) cs
-
--- a cut that was passed, and whose line was appended
-pub record LineCut (sub : ℕ) (w : Wanted) (s : Slot) (h : List Entry) (cs : List Came) (before after : List ℕ)
-    (c : Held) (v : Subscribed) : Type 0 where
-  pub taken : Taken
-  pub is : cut h s ≡ Some taken
-  pub what : What
-  pub some : what_of_cut w s cs taken ≡ Some what
-  pub text : after ≡ before ++ tells_text (last_row cs) sub 1 what
-  pub cell : StandsCell c (Some (passed s taken) ∷ []) h
-  pub client : StandsSubscribed v w (passed s taken) (came_by s taken what ∷ cs)
-
--- one cut of the item's slot
-abbrev pub DidCut : Cutting → ℕ → Wanted → Slot → List Entry → List Came → List ℕ → List ℕ → Held → Subscribed → Type 0
-DidCut cutting.Nothing sub w s h cs before after c v = NoCut w s h cs c v
-DidCut cutting.Silent sub w s h cs before after c v = SilentCut w s h cs c v
-DidCut cutting.Line sub w s h cs before after c v = LineCut sub w s h cs before after c v
-
--- a text and a subscription after a turn by which this came, or nothing
-abbrev pub Gives : ℕ → Wanted → Slot → List Came → Option Came → Appended → Subscribed → Type 0
-Gives sub w s cs None a v = Appends a None × StandsSubscribed v w s cs
-Gives sub w s cs (Some c) a v = Appends a (Some (tells_text (last_row cs) sub 1 c.what))
-    × StandsSubscribed v w s (c ∷ cs)
-
--- a slot's turn was done
-pub record SlotTurned (sub : ℕ) (w : Wanted) (h : List Entry) (cs : List Came) (t : Turn) (a : Appended) (c : Held)
-    (v : Subscribed) : Type 0 where
-  pub cell : StandsCell c (Some t.slot ∷ []) h
-  pub same : v.sub ≡ sub
-  pub gives : Gives sub w t.slot cs t.came a v
-
--- a turn that isn't done yet: its silent cuts led to a slot, and so many cuts of the turn are to come
-pub record GoesOn (w : Wanted) (h : List Entry) (cs : List Came) (t : Turn) (c : Held) (v : Subscribed) : Type 0 where
-  pub slot : Slot
-  pub more : ℕ
-  pub cell : StandsCell c (Some slot ∷ []) h
-  pub client : StandsSubscribed v w slot cs
-  pub rest : t ≡ turn_within more h w slot cs

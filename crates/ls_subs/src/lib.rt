@@ -1,10 +1,10 @@
-//! A subscription of one item: which line a cut makes, by what the client has, and its text (TLCP 2.1, notifications;
-//! General Concepts, modes).
+//! The live subscriptions of a session: what each client has of the items of each, and which line a cut makes of it
+//! (TLCP 2.1, subscriptions and notifications; General Concepts, modes).
 //!
-//! A `Subscription` keeps the places of its schema and what its client has: the last row, and in mode COMMAND its rows
-//! by key. `accept` takes a cut (ls_event's `Taken`) and appends the line that it makes, if it makes one; then the
-//! client has what the line tells. `take_line` is a slot's turn: it takes cuts of an item's slot (ls_cell) up to the
-//! first line.
+//! `Subs` keeps the items of each subscription by its number. `prepare` says what a request for a new one asks of the
+//! items of its group (an `AddPlan`), or why it is refused; once slots joined them, `finish` makes it live. `find`
+//! names the slot of an item, a `SlotRef`. `accept` takes a cut of a slot (ls_event's `Taken`) and appends the line
+//! that it makes, if it makes one; then the client has what the line tells.
 //!
 //! ```text
 //! last|time  3.04|20:00:33        what the client has
@@ -12,13 +12,19 @@
 //! U,1,1,3.05|                     the line, coded against what the client has
 //! ```
 //!
-//! `begin_text` and `configure_text` are the lines with which a subscription begins. It neither numbers lines nor keeps
-//! them: that is the session's.
+//! It neither looks at items nor numbers lines or keeps them: those are the engine's and the session's.
 #![tactic(auto)]
 
+mod adding;
+mod followed;
 mod lines;
+mod plan;
 mod schema;
-mod subscription;
+mod slot_ref;
+mod subs;
 
+pub use followed::Followed;
 pub use lines::{begin_text, configure_text};
-pub use subscription::{SLOT, Subscription, take_line};
+pub use plan::{AddPlan, PlanItem, Refusal};
+pub use slot_ref::SlotRef;
+pub use subs::Subs;

@@ -7,3 +7,4 @@ pub mod ScriptRanges
 pub mod Cuts
 pub mod Queues
 pub mod Turns
+pub mod Naming

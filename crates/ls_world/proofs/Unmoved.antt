@@ -1,5 +1,5 @@
 -- What events, enqueues, turns and requests leave of a world as it was.
-use Rattle.std.proofs.Common.{ℕ, ◌+◌, List, [], ◌∷◌, ◌++◌, length, Option, codes, nat_lt, slice_get}
+use Rattle.std.proofs.Common.{ℕ, ◌+◌, List, [], ◌∷◌, ◌++◌, length, Option, None, codes, cond, nat_lt, slice_get}
 use Rattle.std.specs.Prelude.{option_and_then}
 use Rattle.ls_event.specs.declared.event.Entry.{Entry}
 use Rattle.ls_event.specs.declared.event.Event.TheVariants.{Update, Clear}
@@ -15,10 +15,11 @@ use Rattle.ls_request.specs.Requests.{req_behind}
 use Rattle.ls_step.specs.declared.step.Step.{Step}
 use Rattle.ls_step.specs.declared.step.Step.TheVariants as step
 use Rattle.ls_step.specs.Adding.{add_pairs}
-use Rattle.ls_world.specs.World.{World, Session, history_of, change, live_at, enqueued_in, on_board, opened}
-use Rattle.ls_world.specs.Acting.{subscribed, add_code, create_code}
-use Rattle.ls_world.specs.Steps.{Stepped, Once, repeated, session_of, grown, is_whole, cause_to_refuse, publishes, with_link, creates, operates, session_named}
-use Rattle.ls_world.specs.Steps.{acts, is_opening, malformed, request_on, requests, connects, plain_create, enqueue_once, TurnGives, Gave, Idle, Spent}
+use Rattle.ls_world.specs.World.{World, Session, history_of, change, live_at, enqueued_in, on_board, opened, ended, removed, is_alive}
+use Rattle.ls_world.specs.Acting.{subscribed, add_code, delete_code, create_code, destroyed}
+use Rattle.ls_world.specs.Steps.{Stepped, Once, repeated, session_of, grown, is_whole, cause_to_refuse, publishes, with_link, creates, operated, operates}
+use Rattle.ls_world.specs.Steps.{session_named, refuses}
+use Rattle.ls_world.specs.Steps.{acts, is_opening, malformed, request_on, requests, connects, plain_create, enqueue_once, TurnGives, Gave, Idle, Spent, Over}
 use Rattle.ls_world.specs.Steps.{session_turn, took, take_once, does}
 use Rattle.ls_world.proofs.Rules.{found_rule, session_rule, cond_rule, repeated_keeps}
 
@@ -46,6 +47,7 @@ took_unmoved : (P : World → Type 0) → Unmoved P → (w : World) (connection 
 took_unmoved P k w connection n s (Gave text) p = k.sessions w (change n (λ old. s) w.sessions) p
 took_unmoved P k w connection n s Idle p = k.sessions w (change n (λ old. s) w.sessions) p
 took_unmoved P k w connection n s Spent p = p
+took_unmoved P k w connection n s (Over code) p = p
 
 pub takes_unmoved : (P : World → Type 0) → Unmoved P → (connection times : ℕ) (w : World) → P w → P (repeated (take_once connection) times w).after
 takes_unmoved P k connection times w p =
@@ -67,24 +69,27 @@ creates_unmoved P k w connection c p =
     found_rule (λ (r : Stepped). P r.after) (create_code w c) _ _
     (λ x. k.links (record w { sessions = ss }) connection (length w.sessions) (k.rest.sessions w ss p)) (λ code x. p)
 
-operates_unmoved : (P : World → Type 0) → Unlinked P → (w : World) (connection : ℕ) (req : List ℕ) (o : Op) (n : ℕ) (s : Session) → P w
+operated_unmoved : (P : World → Type 0) → Unmoved P → (w : World) (connection : ℕ) (req : List ℕ) (n : ℕ) (code : Option ℕ) (f : Session → Session) → P w
+    → P (operated w connection req n code f).after
+operated_unmoved P k w connection req n code f p =
+    found_rule (λ (r : Stepped). P r.after) code _ _ (λ x. k.sessions w (change n f w.sessions) p) (λ code x. p)
+
+operates_unmoved : (P : World → Type 0) → Unmoved P → (w : World) (connection : ℕ) (req : List ℕ) (o : Op) (n : ℕ) (s : Session) → P w
     → P (operates w connection req o n s).after
-operates_unmoved P k w connection req (op.Add a) n s p =
-    found_rule (λ (r : Stepped). P r.after) (add_code w s a) _ _
-    (λ x. k.rest.sessions w (change n (subscribed w a) w.sessions) p)
-    (λ code x. p)
-operates_unmoved P k w connection req (op.Delete sub) n s p = p
+operates_unmoved P k w connection req (op.Add a) n s p = operated_unmoved P k w connection req n (add_code w s a) (subscribed w a) p
+operates_unmoved P k w connection req (op.Delete sub) n s p = operated_unmoved P k w connection req n (delete_code s sub) (on_board (removed sub)) p
 operates_unmoved P k w connection req (op.Reconf sub frequency) n s p = p
 operates_unmoved P k w connection req (op.Constrain bandwidth) n s p = p
 operates_unmoved P k w connection req op.ForceRebind n s p = p
-operates_unmoved P k w connection req op.Destroy n s p = p
+operates_unmoved P k w connection req op.Destroy n s p = operated_unmoved P k w connection req n None (ended destroyed) p
 
 acts_unmoved : (P : World → Type 0) → Unlinked P → (w : World) (connection : ℕ) (r : Request) → P w → P (acts w connection r).after
 acts_unmoved P k w connection (request.Create c) p = creates_unmoved P k w connection c p
 acts_unmoved P k w connection (request.Bind b) p = p
 acts_unmoved P k w connection (request.Control c) p =
-    session_rule (λ (r : Stepped). P r.after) w.sessions (session_named w connection c.session) _ (operates w connection c.req c.op) p
-    (λ n s is. operates_unmoved P k w connection c.req c.op n s p)
+    session_rule (λ (r : Stepped). P r.after) w.sessions (session_named w connection c.session) _
+    (λ n s. cond (is_alive s.life) (operates w connection c.req c.op n s) (refuses w connection c.req 20)) p
+    (λ n s is. cond_rule (λ (r : Stepped). P r.after) (is_alive s.life) _ _ (λ t. operates_unmoved P k.rest w connection c.req c.op n s p) (λ t. p))
 acts_unmoved P k w connection request.Wsok p = p
 
 malformed_unmoved : (P : World → Type 0) (w : World) (connection : ℕ) (name : List ℕ) (req : Option (List ℕ)) → P w → P (malformed w connection name req).after

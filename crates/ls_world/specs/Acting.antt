@@ -4,6 +4,7 @@ use Rattle.std.specs.Prelude.{◌==◌, ℕ, ◌+◌, ◌-◌, List, [], ◌∷�
 use Rattle.std.specs.Prelude.{Option, None, Some, is_some, nat_lt, nat_le, codes, if◌then◌else◌, unwrap_or}
 use Rattle.std.specs.List.{list_all}
 use Rattle.ls_value.specs.Values.{text_eq, place_of}
+use Rattle.ls_event.specs.declared.item.ItemDef.{ItemDef}
 use Rattle.ls_event.specs.declared.event.Mode.{Mode}
 use Rattle.ls_event.specs.declared.event.Mode.TheVariants as mode
 use Rattle.ls_event.specs.declared.event.Snap.{Snap}
@@ -13,8 +14,8 @@ use Rattle.ls_request.specs.declared.request.Create.{Create}
 use Rattle.ls_value.specs.Values.{are_distinct}
 use Rattle.ls_world.specs.Cutting.{Ask}
 use Rattle.ls_world.specs.Cases.{first_code}
-use Rattle.ls_world.specs.World.{World, Item, Live, Session, is_used, all_live, shape_at, fields_at, free_number}
-use Rattle.ls_world.specs.World.{added, on_board}
+use Rattle.ls_world.specs.World.{World, Live, Session, definitions, shape_in, fields_in, is_used, all_live}
+use Rattle.ls_world.specs.World.{free_number, added, on_board, alive}
 use Rattle.ls_world.specs.declared.TheConstants.{MOST_GROUP_ITEMS, MOST_SESSIONS, MOST_SUBSCRIPTIONS, MOST_UNSENT}
 use Rattle.ls_event.specs.declared.limits.TheConstants.{MOST_FIELDS, MOST_SLOTS}
 use Rattle.ls_value.specs.declared.limits.TheConstants.{GREATEST_NUMBER}
@@ -24,14 +25,17 @@ abbrev pub message_of : ℕ → List ℕ
 message_of code =
     if code == 2 then codes "Unknown adapter set"
     else if code == 8 then codes "Too many sessions"
+    else if code == 19 then codes "Unknown subscription"
     else if code == 20 then codes "Unknown session"
     else if code == 21 then codes "Bad group"
     else if code == 23 then codes "Bad schema"
     else if code == 24 then codes "Mode not allowed"
+    else if code == 31 then codes "Destroyed by request"
     else if code == 65 then codes "Malformed request"
     else if code == 70 then codes "Too many lines waiting"
     else if code == 71 then codes "Too many subscriptions"
     else if code == 72 then codes "Subscription id in use"
+    else if code == 73 then codes "Session timed out"
     else if code == 74 then codes "Counter spent"
     else []
 
@@ -46,16 +50,20 @@ places_among names others = map (λ t. unwrap_or (place_of names t) 0) others
 abbrev pub are_names : ℕ → List (List ℕ) → Bool
 are_names most names = nat_le 1 (length names) && nat_le (length names) most && are_distinct names
 
--- whether a group is one of declared items, at most as many as it may name, and its items by their places
-abbrev pub is_group : List Item → List (List ℕ) → Bool
-is_group items group = are_names MOST_GROUP_ITEMS group && are_among (map (λ i. i.definition.name) items) group
+-- the names of items
+abbrev pub names_of : List ItemDef → List (List ℕ)
+names_of defs = map (λ d. d.name) defs
 
-abbrev pub group_of : List Item → List (List ℕ) → List ℕ
-group_of items group = places_among (map (λ i. i.definition.name) items) group
+-- whether a group is one of declared items, at most as many as it may name, and its items by their places
+abbrev pub is_group : List ItemDef → List (List ℕ) → Bool
+is_group defs group = are_names MOST_GROUP_ITEMS group && are_among (names_of defs) group
+
+abbrev pub group_of : List ItemDef → List (List ℕ) → List ℕ
+group_of defs group = places_among (names_of defs) group
 
 -- whether a mode is allowed on each of these items
-abbrev pub is_allowed : List Item → Mode → List ℕ → Bool
-is_allowed items m group = list_all (λ n. is_mode_of m (shape_at items n).kind) group
+abbrev pub is_allowed : List ItemDef → Mode → List ℕ → Bool
+is_allowed defs m group = list_all (λ n. is_mode_of m (shape_in defs n).kind) group
 
 -- in mode COMMAND a schema shows the key and the command
 abbrev pub shows_keys : Mode → List (List ℕ) → Bool
@@ -63,10 +71,10 @@ shows_keys mode.Command schema = is_some (place_of schema (codes "key")) && is_s
 shows_keys m schema = true
 
 -- whether a schema is one of a mode, and each of these items has its fields
-abbrev pub is_schema : List Item → Mode → List ℕ → List (List ℕ) → Bool
-is_schema items m group schema =
+abbrev pub is_schema : List ItemDef → Mode → List ℕ → List (List ℕ) → Bool
+is_schema defs m group schema =
     are_names MOST_FIELDS schema && shows_keys m schema
-    && list_all (λ n. are_among (fields_at items n) schema) group
+    && list_all (λ n. are_among (fields_in defs n) schema) group
 
 -- RAW has no snapshot
 abbrev pub snapshot_asked : Mode → Snap → Option ℕ
@@ -84,13 +92,13 @@ ask_of a item places =
     }
 
 -- what it asks of each item of its group, in their order
-abbrev pub asks_of : List Item → Add → List Ask
-asks_of items a = map (λ n. ask_of a n (places_among (fields_at items n) a.schema)) (group_of items a.group)
+abbrev pub asks_of : List ItemDef → Add → List Ask
+asks_of defs a = map (λ n. ask_of a n (places_among (fields_in defs n) a.schema)) (group_of defs a.group)
 
 -- a session with the subscription that an add asks for
 abbrev pub subscribed : World → Add → Session → Session
 subscribed w a =
-    on_board (added w.items (free_number w.sessions) a.sub (length a.schema) (asks_of w.items a))
+    on_board (added w.items (free_number w.sessions) a.sub (length a.schema) (asks_of (definitions w.items) a))
 
 -- how many subscriptions are in a round: each has one first item
 abbrev pub subscriptions : List Live → ℕ
@@ -100,26 +108,45 @@ subscriptions round = sum_by (λ v. if v.rank == 1 then 1 else 0) round
 abbrev pub unsent : Session → ℕ
 unsent s = length s.board.lines - s.sent
 
--- whether the session, or all of them, have no room for the slots of a group
-abbrev pub is_full : World → Session → List (List ℕ) → Bool
-is_full w s group =
-    nat_le MOST_SUBSCRIPTIONS (subscriptions s.board.round)
-    || nat_lt MOST_SLOTS (length (all_live w.sessions) + length group)
+-- whether so many more lines may wait to be given, or be numbered
+abbrev pub are_too_many : Session → ℕ → Bool
+are_too_many s more = nat_lt MOST_UNSENT (unsent s + more)
 
--- what an add to a session is refused for: each code beside its condition, in their order
-abbrev pub add_refusals : World → Session → Add → List (ℕ × Bool)
-add_refusals w s a =
+abbrev pub are_spent : Session → ℕ → Bool
+are_spent s more = nat_lt GREATEST_NUMBER (length s.board.lines + more)
+
+-- how many slots the server may still give
+abbrev pub free_slots : List Session → ℕ
+free_slots sessions = MOST_SLOTS - length (all_live sessions)
+
+-- whether the session has no room for a subscription, or the server none for the slots of a group
+abbrev pub is_full : ℕ → Session → List (List ℕ) → Bool
+is_full free s group = nat_le MOST_SUBSCRIPTIONS (subscriptions s.board.round) || nat_lt free (length group)
+
+-- what an add to a session is refused for, by the items and the slots that the server may still give: each code beside
+-- its condition, in their order
+abbrev pub add_refusals : List ItemDef → ℕ → Session → Add → List (ℕ × Bool)
+add_refusals defs free s a =
     (72, is_used a.sub s.board.round)
-    ∷ (70, nat_lt MOST_UNSENT (unsent s + 2))
-    ∷ (21, not (is_group w.items a.group))
-    ∷ (24, not (is_allowed w.items a.mode (group_of w.items a.group)))
-    ∷ (23, not (is_schema w.items a.mode (group_of w.items a.group) a.schema))
-    ∷ (71, is_full w s a.group)
-    ∷ (74, nat_lt GREATEST_NUMBER (length s.board.lines + 2))
+    ∷ (70, are_too_many s 2)
+    ∷ (21, not (is_group defs a.group))
+    ∷ (24, not (is_allowed defs a.mode (group_of defs a.group)))
+    ∷ (23, not (is_schema defs a.mode (group_of defs a.group) a.schema))
+    ∷ (71, is_full free s a.group)
+    ∷ (74, are_spent s 2)
     ∷ []
 
 abbrev pub add_code : World → Session → Add → Option ℕ
-add_code w s a = first_code (add_refusals w s a)
+add_code w s a = first_code (add_refusals (definitions w.items) (free_slots w.sessions) s a)
+
+-- what a delete of a subscription is refused for, in this order
+abbrev pub delete_code : Session → ℕ → Option ℕ
+delete_code s sub =
+    first_code ((19, not (is_used sub s.board.round)) ∷ (70, are_too_many s 1) ∷ (74, are_spent s 1) ∷ [])
+
+-- the code of a session that a request destroyed
+abbrev pub destroyed : ℕ
+destroyed = 31
 
 -- the adapter set is the one that is named, where one is
 abbrev pub is_set_of : World → Option (List ℕ) → Bool
@@ -129,4 +156,7 @@ is_set_of w (Some name) = text_eq name w.set
 -- what a create is refused for, in this order
 abbrev pub create_code : World → Create → Option ℕ
 create_code w c =
-    first_code ((2, not (is_set_of w c.set)) ∷ (8, nat_le MOST_SESSIONS (length w.sessions)) ∷ [])
+    first_code ((2, not (is_set_of w c.set))
+    ∷ (8, nat_le MOST_SESSIONS (alive w.sessions))
+    ∷ (74, nat_le GREATEST_NUMBER (length w.sessions))
+    ∷ [])

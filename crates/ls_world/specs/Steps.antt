@@ -30,9 +30,10 @@ use Rattle.ls_step.specs.declared.step.Repeat.{Repeat}
 use Rattle.ls_step.specs.Adding.{add_pairs}
 use Rattle.ls_world.specs.Cases.{with_found}
 use Rattle.ls_world.specs.Lines.{text_at}
-use Rattle.ls_world.specs.World.{World, Item, Live, Session, history_of, change, live_at, enqueued_in, least_far}
-use Rattle.ls_world.specs.World.{round_of, taken_in, on_board, is_unsent, given_next, opened}
-use Rattle.ls_world.specs.Acting.{message_of, subscribed, add_code, create_code}
+use Rattle.ls_world.specs.World.{World, Item, Live, Life, Alive, Ending, Ended, Session, history_of, change, live_at}
+use Rattle.ls_world.specs.World.{enqueued_in, least_far, round_of, taken_in, on_board, is_unsent, given_next, removed}
+use Rattle.ls_world.specs.World.{opened, ended, is_alive}
+use Rattle.ls_world.specs.Acting.{message_of, subscribed, add_code, delete_code, create_code, destroyed}
 use Rattle.ls_value.specs.declared.limits.TheConstants.{GREATEST_NUMBER}
 
 -- the world after a step, and what is printed
@@ -64,6 +65,11 @@ repeated f (suc n) w = behind (f w) (λ v. repeated f n v)
 -- what is done with a session, by its place from 0, where there is one
 abbrev pub with_session : {A : Type 0} → List Session → Option ℕ → A → (ℕ → Session → A) → A
 with_session sessions place none f = with_found place none (λ n. with_found (slice_get sessions n) none (f n))
+
+-- what is done with one that hasn't ended: requests know no other
+abbrev pub with_living : {A : Type 0} → List Session → Option ℕ → A → (ℕ → Session → A) → A
+with_living sessions place none f =
+    with_session sessions place none (λ n s. if is_alive s.life then f n s else none)
 
 -- a connection's session, name and link
 abbrev pub session_of : World → ℕ → Option ℕ
@@ -146,15 +152,19 @@ refuses w connection req code = stays w (on w connection (text_of_line (line.Req
 abbrev pub unbuilt : World → Stepped
 unbuilt w = stays w []
 
--- what a control request does with a session: a new subscription is added, or refused
-abbrev pub operates : World → ℕ → List ℕ → Op → ℕ → Session → Stepped
-operates w connection req (op.Add a) n s =
-    with_found (add_code w s a)
-    (record {
-      after = record w { sessions = change n (subscribed w a) w.sessions };
-      outs = request_ok w connection req;
-    })
+-- what a control request does with a session: it is changed, or the request is refused
+abbrev pub operated : World → ℕ → List ℕ → ℕ → Option ℕ → (Session → Session) → Stepped
+operated w connection req n code f =
+    with_found code
+    (record { after = record w { sessions = change n f w.sessions }; outs = request_ok w connection req })
     (refuses w connection req)
+
+-- a subscription is added, or ended; or the session is
+abbrev pub operates : World → ℕ → List ℕ → Op → ℕ → Session → Stepped
+operates w connection req (op.Add a) n s = operated w connection req n (add_code w s a) (subscribed w a)
+operates w connection req (op.Delete sub) n s =
+    operated w connection req n (delete_code s sub) (on_board (removed sub))
+operates w connection req op.Destroy n s = operated w connection req n None (ended destroyed)
 operates w connection req o n s = unbuilt w
 
 -- the session that a control request names by its number from 1, or the connection's
@@ -163,12 +173,12 @@ session_named w connection None = session_of w connection
 session_named w connection (Some zero) = None
 session_named w connection (Some (suc n)) = Some n
 
--- a request that was read; a control request names a session that there is
+-- a request that was read; a control request names a session that hasn't ended
 abbrev pub acts : World → ℕ → Request → Stepped
 acts w connection (request.Create c) = creates w connection c
 acts w connection (request.Bind b) = unbuilt w
 acts w connection (request.Control c) =
-    with_session w.sessions (session_named w connection c.session) (refuses w connection c.req 20)
+    with_living w.sessions (session_named w connection c.session) (refuses w connection c.req 20)
     (operates w connection c.req c.op)
 acts w connection request.Wsok = stays w (on w connection (text_of_line line.WsOk))
 
@@ -219,11 +229,13 @@ enqueue_once connection sub rank w =
     (out.Moved (v.slot.last + 1))
     else ends w out.UpToDate))
 
--- what a session's turn gives: a line, nothing, or no number for a line
+-- what a session's turn gives: a line, nothing, no number for a line, or that the session has ended for the cause of a
+-- code
 pub data TurnGives : Type 0 where
   Gave : List ℕ → TurnGives
   Idle : TurnGives
   Spent : TurnGives
+  Over : ℕ → TurnGives
 
 -- a session after its turn, and what the turn gives
 pub record SessionTurn : Type 0 where
@@ -249,9 +261,18 @@ abbrev pub turn_owing : List Item → Session → List (List ℕ) → SessionTur
 turn_owing items s (text ∷ owed) = record { session = record s { owed = owed }; gives = Gave text }
 turn_owing items s [] = if is_unsent s then next_given s else round_turn items s s.board.round
 
--- a session's turn
+-- what tells a client that its session has ended (TLCP 2.1, END)
+abbrev pub end_text : ℕ → List ℕ
+end_text code = text_of_line (line.End code (message_of code))
+
+-- a session's turn: one that has ended gives END once, and nothing else
+abbrev pub turn_living : List Item → Session → Life → SessionTurn
+turn_living items s Alive = turn_owing items s s.owed
+turn_living items s (Ending code) = record { session = record s { life = Ended code }; gives = Gave (end_text code) }
+turn_living items s (Ended code) = record { session = s; gives = Over code }
+
 abbrev pub session_turn : List Item → Session → SessionTurn
-session_turn items s = turn_owing items s s.owed
+session_turn items s = turn_living items s s.life
 
 -- a turn of the session of this place: the line is printed, or why there is none
 abbrev pub took : World → ℕ → ℕ → Session → TurnGives → Once
@@ -259,6 +280,7 @@ took w connection n s (Gave text) =
     goes_on (record w { sessions = change n (λ old. s) w.sessions }) (out.Line (name_of w connection) text)
 took w connection n s Idle = ends (record w { sessions = change n (λ old. s) w.sessions }) out.Idle
 took w connection n s Spent = ends w out.Spent
+took w connection n s (Over code) = ends w (out.Ended code)
 
 -- a turn of a connection's session
 abbrev pub take_once : ℕ → World → Once

@@ -1,7 +1,7 @@
 -- The world: all items with their whole histories, all sessions with all their numbered lines, and the connections
 -- (this project's profile).
-use Rattle.std.specs.Prelude.{◌==◌, ℕ, zero, suc, ◌+◌, List, [], ◌∷◌, ◌++◌, length, map, min, Bool, true, false, ◌&&◌}
-use Rattle.std.specs.Prelude.{◌||◌, Option, None, Some, nat_lt, codes, if◌then◌else◌, option_and_then}
+use Rattle.std.specs.Prelude.{◌==◌, ℕ, zero, suc, ◌+◌, List, [], ◌∷◌, ◌++◌, length, map, min, max, Bool, true, false}
+use Rattle.std.specs.Prelude.{◌&&◌, ◌||◌, Option, None, Some, nat_lt, codes, if◌then◌else◌, option_and_then, sum_by}
 use Rattle.std.specs.Option.{option_map_or}
 use Rattle.std.specs.List.{flat_map}
 use Rattle.std.specs.Fmt.{decimal}
@@ -19,7 +19,7 @@ use Rattle.ls_world.specs.Cases.{with_found}
 use Rattle.ls_world.specs.Came.{Came}
 use Rattle.ls_line.specs.declared.line.Line.TheVariants as line
 use Rattle.ls_line.specs.Lines.{text_of_line}
-use Rattle.ls_world.specs.Lines.{Line, Begins, Configures, Tells, came}
+use Rattle.ls_world.specs.Lines.{Line, Begins, Ends, Configures, Tells, came}
 use Rattle.ls_world.specs.Tables.{keys_shown_at}
 use Rattle.ls_world.specs.Cutting.{Wanted, Ask, Turn, turn}
 
@@ -48,12 +48,20 @@ pub record Stream : Type 0 where
   pub from : ℕ
   pub given : List ℕ
 
--- a session: its board, the number sent last, the lines owed to its stream, and its streams, the newest first
+-- a session is alive; or it has ended for the cause of a code, and its client is to be told, or was told
+pub data Life : Type 0 where
+  Alive : Life
+  Ending : ℕ → Life
+  Ended : ℕ → Life
+
+-- a session: its board, the number sent last, the lines owed to its stream, its streams, the newest first, and whether
+-- it has ended
 pub record Session : Type 0 where
   pub board : Board
   pub sent : ℕ
   pub owed : List (List ℕ)
   pub streams : List Stream
+  pub life : Life
 
 -- a connection: its name, what it goes over, and the session of its last create, if it ever had one
 pub record Connection : Type 0 where
@@ -75,21 +83,29 @@ pub record World : Type 0 where
 abbrev pub empty : World
 empty = record { line = 0; set = codes "DEFAULT"; tick = 0; items = []; sessions = []; connections = [] }
 
--- an item's history, its shape and its fields; past the last item there is nothing
+-- an item's history; past the last item there is nothing
 abbrev pub history_of : List Item → ℕ → List Entry
 history_of [] n = []
 history_of (i ∷ items) zero = i.history
 history_of (i ∷ items) (suc n) = history_of items n
 
-abbrev pub shape_at : List Item → ℕ → Shape
-shape_at [] n = record { kind = kind.Merge; fields = 0; key = 0; command = 0 }
-shape_at (i ∷ items) zero = shape_of i.definition
-shape_at (i ∷ items) (suc n) = shape_at items n
+-- the definitions of items
+abbrev pub definitions : List Item → List ItemDef
+definitions items = map (λ i. i.definition) items
 
-abbrev pub fields_at : List Item → ℕ → List (List ℕ)
-fields_at [] n = []
-fields_at (i ∷ items) zero = i.definition.fields
-fields_at (i ∷ items) (suc n) = fields_at items n
+-- the shape and the fields of an item, by the definitions; past the last item there is nothing
+abbrev pub shape_in : List ItemDef → ℕ → Shape
+shape_in [] n = record { kind = kind.Merge; fields = 0; key = 0; command = 0 }
+shape_in (d ∷ defs) zero = shape_of d
+shape_in (d ∷ defs) (suc n) = shape_in defs n
+
+abbrev pub fields_in : List ItemDef → ℕ → List (List ℕ)
+fields_in [] n = []
+fields_in (d ∷ defs) zero = d.fields
+fields_in (d ∷ defs) (suc n) = fields_in defs n
+
+abbrev pub shape_at : List Item → ℕ → Shape
+shape_at items n = shape_in (definitions items) n
 
 -- the list with the n-th changed
 abbrev pub change : {A : Type 0} → ℕ → (A → A) → List A → List A
@@ -149,9 +165,14 @@ abbrev pub least_free_from : ℕ → ℕ → List ℕ → ℕ
 least_free_from zero n used = n
 least_free_from (suc k) n used = if holds n used then least_free_from k (n + 1) used else n
 
--- the least number from 1 that no slot on the item has
+-- the greatest of numbers, 0 where there is none
+abbrev pub greatest_of : List ℕ → ℕ
+greatest_of [] = 0
+greatest_of (n ∷ ns) = max n (greatest_of ns)
+
+-- the least number from 1 that no slot on the item has: one up to the greatest that a slot has, or the next
 abbrev pub free_number : List Session → ℕ → ℕ
-free_number sessions item = let used = numbers_of item (all_live sessions) in least_free_from (length used) 1 used
+free_number sessions item = let used = numbers_of item (all_live sessions) in least_free_from (greatest_of used) 1 used
 
 -- the slot that joins an item, as is asked
 abbrev pub joined_slot : List Item → Ask → Slot
@@ -204,6 +225,15 @@ added items free sub fields asks b =
       lines = Configures sub (are_filtered asks) ∷ Begins sub (length asks) fields (keys_shown items asks) ∷ b.lines;
       round = b.round ++ joined_all items free sub 1 asks;
     }
+
+-- the slots of other subscriptions
+abbrev pub without : ℕ → List Live → List Live
+without sub [] = []
+without sub (v ∷ vs) = if is_of sub v then without sub vs else v ∷ without sub vs
+
+-- a subscription ends: UNSUB is numbered, and its slots leave
+abbrev pub removed : ℕ → Board → Board
+removed sub b = record b { lines = Ends sub ∷ b.lines; round = without sub b.round }
 
 -- a slot takes its item's next event, if there is one
 abbrev pub enqueue_slot : List Entry → Live → Live
@@ -280,4 +310,18 @@ opened number keepalive =
       sent = 0;
       owed = opening_lines number keepalive;
       streams = record { from = 0; given = [] } ∷ [];
+      life = Alive;
     }
+
+-- a session that ends for the cause of a code: its slots leave, and its client is to be told
+abbrev pub ended : ℕ → Session → Session
+ended code s = record s { board = record s.board { round = [] }; life = Ending code }
+
+-- whether a session hasn't ended, and how many haven't
+abbrev pub is_alive : Life → Bool
+is_alive Alive = true
+is_alive (Ending code) = false
+is_alive (Ended code) = false
+
+abbrev pub alive : List Session → ℕ
+alive sessions = sum_by (λ s. if is_alive s.life then 1 else 0) sessions

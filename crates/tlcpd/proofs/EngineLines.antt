@@ -33,7 +33,15 @@ has_adapter k (step.Take connection) f = tt
 has_adapter k (step.Lose connection) f = tt
 
 counted_hub : (h : Hub) (w : World) → StandsHub h w → StandsHub h (counted w)
-counted_hub h w st = record { set = st.set; connections = st.connections; parts = record { all = st.parts.all; leads = st.parts.leads } }
+counted_hub h w st =
+    record {
+      set = st.set;
+      definitions = st.definitions;
+      cells = st.cells;
+      sessions = st.sessions;
+      alive = st.alive;
+      connections = st.connections;
+    }
 
 read_is : (k : Known) (w : World) (line : List ℕ) (r : Repeat) → k ≡ known_of w → is_skipped line ≡ false → line_of k line ≡ Some r
     → one_step w line ≡ stepped_by (counted w) (Some r)
@@ -50,12 +58,12 @@ line_skipped e w line text skips st =
 
 pub line_did : (e e' : Engine) (w : World) (line : List ℕ) (s : Step) (times : ℕ) (text text' : List ℕ)
     → is_skipped line ≡ false → line_of e.script line ≡ Some (record { step = s; times = times })
-    → e'.line ≡ e.line + 1 → e'.script ≡ known_after e.script s
-    → ((v : World) → StandsHub e.hub v → e.line + 1 ≡ v.line → (is_built v s ≡ true) × Prints (does v s times) text text' e'.hub)
-    → StandsEngine e w → Steps (one_step w line) text text' e'
-line_did e e' w line s times text text' skips is number known did st =
+    → Fits e.script s → e'.line ≡ e.line + 1 → e'.script ≡ known_after e.script s
+    → ((v : World) → StandsHub e.hub v → e.line + 1 ≡ v.line → Fits (known_of v) s
+    → (is_built v s ≡ true) × Prints (does v s times) text text' e'.hub) → StandsEngine e w → Steps (one_step w line) text text' e'
+line_did e e' w line s times text text' skips is fits number known did st =
     let d : (is_built (counted w) s ≡ true) × Prints (does (counted w) s times) text text' e'.hub =
-    did (counted w) (counted_hub e.hub w st.hub) (ap (λ n. n + 1) st.line) in
+    did (counted w) (counted_hub e.hub w st.hub) (ap (λ n. n + 1) st.line) (subst (λ (k : Known). Fits k s) st.known fits) in
     let made : one_step w line ≡ Ok (does (counted w) s times) =
     read_is e.script w line (record { step = s; times = times }) st.known skips is ∙ ap (λ b. cond b (Ok (does (counted w) s times)) (Err NotBuilt)) d.0 in
     subst (λ (r : Result Stepped Refused). Steps r text text' e') (sym made) (

@@ -8,6 +8,8 @@
 //! What `run` promises is `Ran` in specs/. It serves no network: a script stands for the feeds and the clients.
 #![tactic(auto)]
 
+#[cfg(test)]
+mod by_hand;
 mod engine;
 mod replay;
 mod running;

@@ -1,5 +1,6 @@
 //! Runs over memory: worked scripts, the greatest sizes, and reads and writes that fail, each in turn.
 use super::*;
+use crate::running::codes::{FIELDS, LINES, REQUESTED, SESSIONS, SLOTS, SUBSCRIPTIONS};
 use crate::running::longest::{
     BACKLOG, BYTES, KEYS, Long, RAW_256, RAW_300, SILENT, WIDE, text_of,
 };
@@ -92,6 +93,7 @@ fn first_unlike<R: Wait>(rt: &R, alloc: Global, rows: &[Row]) -> Result<Option<u
 fn worked_scripts(rt: HostRuntime) -> Result<(), Fail> {
     assert!(rt; first_unlike(&rt, rt.alloc(), &WORKED)?.is_none());
     assert!(rt; first_unlike(&rt, rt.alloc(), &REFUSED)?.is_none());
+    assert!(rt; first_unlike(&rt, rt.alloc(), &REQUESTED)?.is_none());
     Ok(())
 }
 
@@ -178,11 +180,10 @@ fn is_printed<R: Wait>(rt: &R, alloc: Global, long: Long) -> Result<bool, Fail> 
     Ok(prints(rt, alloc, &script, Status::Ok, &printed)?)
 }
 
-/// The first script of the greatest sizes that prints something else, by its number from 0.
-fn first_long_unlike<R: Wait>(rt: &R, alloc: Global) -> Result<Option<usize>, Fail> {
-    let long = [RAW_300, RAW_256, KEYS, WIDE, SILENT, BACKLOG, BYTES];
-    for (number, long) in long.into_iter().enumerate() {
-        if !is_printed(rt, alloc, long)? {
+/// The first of these scripts that prints something else, by its number from 0.
+fn first_long_unlike<R: Wait>(rt: &R, alloc: Global, long: &[Long]) -> Result<Option<usize>, Fail> {
+    for (number, long) in long.iter().enumerate() {
+        if !is_printed(rt, alloc, *long)? {
             return Ok(Some(number));
         }
     }
@@ -191,7 +192,15 @@ fn first_long_unlike<R: Wait>(rt: &R, alloc: Global) -> Result<Option<usize>, Fa
 
 #[test]
 fn the_greatest_sizes(rt: HostRuntime) -> Result<(), Fail> {
-    assert!(rt; first_long_unlike(&rt, rt.alloc())?.is_none());
+    let long = [RAW_300, RAW_256, KEYS, WIDE, SILENT, BACKLOG, BYTES];
+    assert!(rt; first_long_unlike(&rt, rt.alloc(), &long)?.is_none());
+    Ok(())
+}
+
+#[test]
+fn the_limits_of_requests(rt: HostRuntime) -> Result<(), Fail> {
+    let long = [SESSIONS, SUBSCRIPTIONS, LINES, SLOTS, FIELDS];
+    assert!(rt; first_long_unlike(&rt, rt.alloc(), &long)?.is_none());
     Ok(())
 }
 

@@ -169,7 +169,7 @@ pub(crate) const WORKED: [Row; 17] = [
 ];
 
 /// Scripts with a line that is refused, and what is printed before it.
-pub(crate) const REFUSED: [Row; 15] = [
+pub(crate) const REFUSED: [Row; 13] = [
     // Undeclared item.
     (
         b"item q MERGE x\npub 1 1 ghost x=1\n",
@@ -184,14 +184,6 @@ pub(crate) const REFUSED: [Row; 15] = [
     ),
     // No line.
     (b"stop\n", Status::BadScript { line: 1 }, b""),
-    // Second item.
-    (
-        b"item q MERGE x\nitem r MERGE x\n",
-        Status::NotBuilt { line: 2 },
-        b"",
-    ),
-    // Second session.
-    (b"open c\nopen d\n", Status::NotBuilt { line: 2 }, b""),
     // Over http.
     (b"conn c http\n", Status::NotBuilt { line: 1 }, b""),
     // A tick.
@@ -210,28 +202,25 @@ pub(crate) const REFUSED: [Row; 15] = [
         Status::NotBuilt { line: 2 },
         b"",
     ),
-    // Another set.
+    // A change of a frequency, of a bandwidth, of a stream, and a bind.
     (
-        b"conn c ws\nreq c create_session LS_adapter_set=B\n",
+        b"open c\nreq c control LS_reqId=1&LS_op=reconf&LS_subId=1&LS_requested_max_frequency=1\n",
         Status::NotBuilt { line: 2 },
         b"",
     ),
-    // Second subscription.
     (
-        b"item q MERGE x\nopen c\nadd c 1 q x MERGE\nadd c 2 q x MERGE\n",
-        Status::NotBuilt { line: 4 },
-        b"c:REQOK,3\n",
-    ),
-    // Wrong mode.
-    (
-        b"item q MERGE x\nopen c\nadd c 1 q x DISTINCT\n",
-        Status::NotBuilt { line: 3 },
+        b"open c\nreq c control LS_reqId=1&LS_op=constrain&LS_requested_max_bandwidth=1\n",
+        Status::NotBuilt { line: 2 },
         b"",
     ),
-    // No session.
     (
-        b"item q MERGE x\nconn c ws\nadd c 1 q x MERGE\n",
-        Status::NotBuilt { line: 3 },
+        b"open c\nreq c control LS_reqId=1&LS_op=force_rebind\n",
+        Status::NotBuilt { line: 2 },
+        b"",
+    ),
+    (
+        b"open c\nreq c bind_session LS_session=S1\n",
+        Status::NotBuilt { line: 2 },
         b"",
     ),
     // An update without the command of the item.

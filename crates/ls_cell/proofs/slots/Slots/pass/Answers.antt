@@ -1,9 +1,20 @@
-use Rattle.std.proofs.Common.{subst, sym, IsSome, ◌-◌}
+use Rattle.std.proofs.Common.{subst, sym, IsSome, None, get_or, ◌-◌}
+use Rattle.std.proofs.lemmas.List.{length-set}
 use Rattle.ls_cell.specs.Any.{any_cut}
 use Rattle.ls_cell.specs.Numbered.{slot_at, EachSlot, StandsAll}
 use Rattle.ls_cell.specs.Standing.{IsSlotOf, StandsSlot}
-use Rattle.ls_cell.proofs.Changes.{each_set, slot_each, stands_set, slot_stands, some_of}
+use Rattle.ls_cell.proofs.Changes.{each_set, slot_each, stands_set, slot_stands, live_at, live_kept, free_kept, some_of}
 use Rattle.ls_cell.proofs.slots.Slots.pass.Goals as goal
+
+pub invariant_of-self : goal.invariant_of-self
+invariant_of-self c =
+    let live : IsSome (get_or c.self.inside.slots.items (c.args.slot - 1) None) =
+    live_at _ c.args.slot (subst (λ t. IsSome (slot_at t c.args.slot)) (sym c.self.view_is) (some_of any_cut _ c.requires)) in
+    rw (
+      length-set c.self.inside.slots.items (c.args.slot - 1) c.pass_at.new.slot,
+      live_kept _ _ c.pass_at.new.slot live c.pass_at.ensures.live,
+      free_kept _ _ c.pass_at.new.slot live c.pass_at.ensures.live,
+    ) c.self.invariant
 
 pub returns-clause-sound : goal.returns-clause-sound
 returns-clause-sound c = λ p number kept each.

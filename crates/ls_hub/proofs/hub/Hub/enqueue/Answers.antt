@@ -1,19 +1,22 @@
-use Rattle.std.proofs.Common.{refl, sym, ap, ◌∙◌}
-use Rattle.std.specs.Prelude.{is_none}
-use Rattle.ls_hub.proofs.Connected.{is_nothing}
-use Rattle.ls_hub.proofs.HubSteps.{on_ok, enqueue_nowhere, enqueues_did}
+use Rattle.std.proofs.Common.{arith}
+use Rattle.ls_world.specs.Steps.{enqueue_once}
+use Rattle.ls_hub.proofs.Repeats.{going_start, going_on, going_all, going_ended}
 use Rattle.ls_hub.proofs.hub.Hub.enqueue.Goals as goal
 
-pub returns-then-is_none : goal.returns-then-is_none
-returns-then-is_none c =
-    on_ok _ _ c.append.result
-    (λ _ is w st. enqueue_nowhere c.args.self.now w c.args.connection c.args.sub c.args.rank c.args.times _ _
-    (ap is_none (sym c.session_of.ensures) ∙ sym (is_nothing c.session_of.result c.is_none.result c.is_none.ensures) ∙ c.if-is_none.true) c.requires is st)
-    c.append.ensures
+pub loop-init : goal.loop-init
+loop-init c = λ w st. going_start (enqueue_once c.args.connection c.args.sub c.args.rank) w _ _ st
+
+pub returns-then-not-more : goal.returns-then-not-more
+returns-then-not-more c = λ w st.
+    let g = c.loop.invariant w st in
+    going_ended (enqueue_once c.args.connection c.args.sub c.args.rank) w c.loop.counter c.args.times _ _ _ _ _ _ c.loop-test.true g
+    (c.in_ok-more.ensures _ g.stands)
+    c.if-not-more.true
+
+pub loop-preserved : goal.loop-preserved
+loop-preserved c = λ w st.
+    let g = c.loop.invariant w st in
+    going_on (enqueue_once c.args.connection c.args.sub c.args.rank) w c.loop.counter _ _ _ _ _ _ g (c.in_ok-more.ensures _ g.stands) c.if-not-more.false
 
 pub returns : goal.returns
-returns c =
-    on_ok _ _ c.enqueues.result
-    (λ _ did w st. enqueues_did c.args.self.now _ w c.args.connection c.args.sub c.args.rank c.args.times _ _
-    (ap is_none (sym c.session_of.ensures) ∙ sym (is_nothing c.session_of.result c.is_none.result c.is_none.ensures) ∙ c.if-is_none.false) refl refl did st)
-    c.enqueues.ensures.did
+returns c = λ w st. going_all (enqueue_once c.args.connection c.args.sub c.args.rank) w c.loop.counter c.args.times _ _ _ (omega arith) (c.loop.invariant w st)

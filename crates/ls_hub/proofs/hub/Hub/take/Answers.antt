@@ -1,20 +1,21 @@
-use Rattle.std.proofs.Common.{refl, sym, ap, ◌∙◌}
-use Rattle.std.specs.Prelude.{is_none}
-use Rattle.ls_hub.specs.Requests.{name_at}
-use Rattle.ls_hub.proofs.Connected.{is_nothing}
-use Rattle.ls_hub.proofs.HubSteps.{on_ok, take_nowhere, takes_did}
+use Rattle.std.proofs.Common.{arith}
+use Rattle.ls_world.specs.Steps.{take_once}
+use Rattle.ls_hub.proofs.Repeats.{going_start, going_on, going_all, going_ended}
 use Rattle.ls_hub.proofs.hub.Hub.take.Goals as goal
 
-pub returns-then-is_none : goal.returns-then-is_none
-returns-then-is_none c =
-    on_ok _ _ c.append.result
-    (λ _ is w st. take_nowhere c.args.self.now w c.args.connection c.args.times _ _
-    (ap is_none (sym c.session_of.ensures) ∙ sym (is_nothing c.session_of.result c.is_none.result c.is_none.ensures) ∙ c.if-is_none.true) c.requires is st)
-    c.append.ensures
+pub loop-init : goal.loop-init
+loop-init c = λ w st. going_start (take_once c.args.connection) w _ _ st
+
+pub returns-then-not-more : goal.returns-then-not-more
+returns-then-not-more c = λ w st.
+    let g = c.loop.invariant w st in
+    going_ended (take_once c.args.connection) w c.loop.counter c.args.times _ _ _ _ _ _ c.loop-test.true g (c.in_ok-more.ensures _ g.stands)
+    c.if-not-more.true
+
+pub loop-preserved : goal.loop-preserved
+loop-preserved c = λ w st.
+    let g = c.loop.invariant w st in
+    going_on (take_once c.args.connection) w c.loop.counter _ _ _ _ _ _ g (c.in_ok-more.ensures _ g.stands) c.if-not-more.false
 
 pub returns : goal.returns
-returns c =
-    on_ok _ _ c.takes.result
-    (λ _ did w st. takes_did c.args.self.now _ w c.args.connection c.args.times _ _ _
-    (ap is_none (sym c.session_of.ensures) ∙ sym (is_nothing c.session_of.result c.is_none.result c.is_none.ensures) ∙ c.if-is_none.false)
-    (c.name_bytes-name.ensures ∙ ap (λ cs. name_at cs c.args.connection) c.deref.ensures.value) refl refl did st) c.takes.ensures.did
+returns c = λ w st. going_all (take_once c.args.connection) w c.loop.counter c.args.times _ _ _ (omega arith) (c.loop.invariant w st)

@@ -1,0 +1,9 @@
+pub mod Places
+pub mod Numbers
+pub mod Counted
+pub mod Items
+pub mod Least
+pub mod OneSlot
+pub mod OneItem
+pub mod Lives
+pub mod Calls

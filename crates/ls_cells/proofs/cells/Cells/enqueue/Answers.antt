@@ -1,0 +1,21 @@
+use Rattle.std.proofs.Common.{subst, sym, arith, ◌++◌, ◌∷◌, ◌≡◌, None}
+use Rattle.ls_cells.specs.Cells.{AllCells, StandsCells}
+use Rattle.ls_cells.proofs.Calls.{no_item, enqueue_did, none_did}
+use Rattle.ls_cells.proofs.cells.Cells.enqueue.Goals as goal
+
+pub returns-then-index-len-clause-ok : goal.returns-then-index-len-clause-ok
+returns-then-index-len-clause-ok c = λ items a b v st on numbered.
+    absurd (no_item (record { cells = c.self.inside.cells.items; live = c.self.inside.live }) c.args.item items a b v
+    (subst (λ (k : AllCells). StandsCells k items (a ++ v ∷ b)) (sym c.self.view_is) st) on (omega arith))
+
+pub returns-clause-ok : goal.returns-clause-ok
+returns-clause-ok c = λ items a b v st on numbered.
+    enqueue_did c.self.inside.cells.items c.args.item c.index_mut.result.now (omega arith) c.index_mut.ensures.value
+    c.enqueue_on.new.cell c.self.inside.live c.args.slot c.in_ok-enqueued.enqueued c.in_ok-enqueued.ensures.shape c.in_ok-enqueued.ensures.answer
+    c.in_ok-enqueued.ensures.stands items a b v (subst (λ (k : AllCells). StandsCells k items (a ++ v ∷ b)) (sym c.self.view_is) st) on numbered
+
+pub returns-clause-none : goal.returns-clause-none
+returns-clause-none c = λ items lives st none.
+    none_did c.self.inside.cells.items c.args.item c.index_mut.result.now (omega arith) c.index_mut.ensures.value (c.in_ok-enqueued.enqueued ≡ None)
+    c.enqueue_on.new.cell c.self.inside.live c.args.slot items lives c.in_ok-enqueued.ensures.none
+    (subst (λ (k : AllCells). StandsCells k items lives) (sym c.self.view_is) st) none

@@ -1,0 +1,78 @@
+-- A create_session: why it is refused, and the hub with a session more.
+use Rattle.std.proofs.Common.{◌≡◌, ℕ, ◌+◌, ◌<◌, ◌≤◌, List, [], ◌∷◌, ◌++◌, length, map, refl, sym, ◌∙◌, ap, arith, subst, cond, Bool, true, false, not}
+use Rattle.std.proofs.Common.{Some, None, nat_le}
+use Rattle.std.proofs.lemmas.Bool.Decides.{nat_tests}
+use Rattle.std.proofs.lemmas.List.{length-map}
+use Rattle.ls_value.specs.declared.limits.TheConstants.{GREATEST_NUMBER}
+use Rattle.ls_line.specs.declared.line.Line.TheVariants as line
+use Rattle.ls_line.specs.Lines.{text_of_line}
+use Rattle.ls_request.specs.declared.request.Create.{Create}
+use Rattle.ls_step.specs.Notes.{text_of_out}
+use Rattle.ls_step.specs.declared.out.Out.TheVariants as out
+use Rattle.ls_world.specs.World.{World, Live, Connection, alive, all_live, opened, change}
+use Rattle.ls_world.specs.Acting.{create_code, is_set_of, message_of}
+use Rattle.ls_world.specs.Cases.{with_found}
+use Rattle.ls_world.specs.Steps.{Stepped, stays, creates, created, on}
+use Rattle.ls_world.specs.declared.TheConstants.{MOST_SESSIONS}
+use Rattle.ls_cells.specs.Cells.{StandsCells}
+use Rattle.ls_cells.proofs.Lives.{all_live_more}
+use Rattle.ls_session.specs.Record.{begun_anew}
+use Rattle.ls_session.specs.Session.{StandsSession}
+use Rattle.ls_session.specs.declared.session.Session.{Session as Kept}
+use Rattle.ls_hub.specs.Hub.{StandsHub, Prints, seen, name_at}
+use Rattle.ls_hub.specs.declared.hub.Hub.{Hub}
+use Rattle.ls_hub.proofs.Alive.{alive_more}
+use Rattle.ls_hub.proofs.Connected.{line_printed}
+use Rattle.ls_hub.proofs.Sessions.{as_many, kept_more}
+
+pub few : (m n : ℕ) → n < m → nat_le m n ≡ false
+few m n low = grind (arith, nat_tests)
+
+pub many : (m n : ℕ) → m ≤ n → nat_le m n ≡ true
+many m n high = grind (arith, nat_tests)
+
+-- the code by its conditions
+pub codes_are : (w : World) (c : Create) (set full spent : Bool) → is_set_of w c.set ≡ set → nat_le MOST_SESSIONS (alive w.sessions) ≡ full
+    → nat_le GREATEST_NUMBER (length w.sessions) ≡ spent
+    → create_code w c ≡ cond (not set) (Some 2) (cond full (Some 8) (cond spent (Some 74) None))
+codes_are w c set full spent a b d =
+    ap (λ x. cond (not x) (Some 2) (cond (nat_le MOST_SESSIONS (alive w.sessions)) (Some 8)
+    (cond (nat_le GREATEST_NUMBER (length w.sessions)) (Some 74) None))) a
+    ∙ ap (λ x. cond (not set) (Some 2) (cond x (Some 8) (cond (nat_le GREATEST_NUMBER (length w.sessions)) (Some 74) None))) b
+    ∙ ap (λ x. cond (not set) (Some 2) (cond full (Some 8) (cond x (Some 74) None))) d
+
+-- a create that is refused
+pub refused_printed : (h : Hub) (w : World) (n : ℕ) (c : Create) (code : ℕ) (before after : List ℕ) → StandsHub h w → create_code w c ≡ Some code
+    → after ≡ before ++ text_of_out (out.Line (name_at h.connections.items n) (text_of_line (line.ConErr code (message_of code))))
+    → Prints (creates w n c) before after h
+refused_printed h w n c code before after st some is =
+    subst (λ (s : Stepped). Prints s before after h)
+    (sym (ap (λ o. with_found o (stays (created w n c.keepalive) []) (λ k. stays w (on w n (text_of_line (line.ConErr k (message_of k)))))) some))
+    (line_printed h h w w n (text_of_line (line.ConErr code (message_of code))) before after st st is)
+
+-- a hub with a session more
+pub begun : (h h' : Hub) (w : World) (n keepalive place : ℕ) (k : Kept) → StandsHub h w → h'.config ≡ h.config → h'.cells ≡ h.cells
+    → h'.alive ≡ h.alive + 1 → place ≡ length h.sessions.items → h'.sessions.items ≡ h.sessions.items ++ k ∷ []
+    → StandsSession k (begun_anew (opened (place + 1) keepalive))
+    → map seen h'.connections.items ≡ change n (λ (c : Connection). record c { session = Some place }) (map seen h.connections.items)
+    → StandsHub h' (created w n keepalive)
+begun h h' w n keepalive place k st config cells living last more stands given =
+    subst (λ (m : ℕ). StandsHub h' (record w {
+      sessions = w.sessions ++ opened (m + 1) keepalive ∷ [];
+      connections = change n (λ (c : Connection). record c { session = Some m }) w.connections;
+    })) (last ∙ as_many h.sessions.items w.sessions st.sessions)
+    (record {
+      set = ap (λ x. x.set) config ∙ st.set;
+      definitions = ap (λ x. x.items) config ∙ st.definitions;
+      cells = subst (λ x. StandsCells x w.items (all_live (w.sessions ++ opened (place + 1) keepalive ∷ []))) (sym cells)
+          (subst (λ (vs : List Live). StandsCells h.cells w.items vs) (sym (all_live_more w.sessions (opened (place + 1) keepalive) refl)) st.cells);
+      sessions = rw more
+          (kept_more h.sessions.items w.sessions k (opened (place + 1) keepalive) st.sessions
+          (record { asking = begun_anew (opened (place + 1) keepalive); session = refl; first = refl; stands = stands }));
+      alive = living ∙ ap (λ x. x + 1) st.alive ∙ sym (alive_more w.sessions (opened (place + 1) keepalive) refl);
+      connections = given ∙ ap (change n (λ (c : Connection). record c { session = Some place })) st.connections;
+    })
+
+-- the place of a new connection
+pub connected_many : (h : Hub) (w : World) (n : ℕ) → StandsHub h w → n ≡ length h.connections.items → n ≡ length w.connections
+connected_many h w n st is = is ∙ sym (length-map h.connections.items seen) ∙ ap length st.connections

@@ -1,0 +1,223 @@
+//! Control requests: a subscription is added or ended, or a session is (TLCP 2.1, control).
+ghost use Rattle.std.specs.Prelude.{◌≡◌, ◌<◌, ◌++◌, length, map, None, IfOk, IfSome, OnOk, IsErrOf, true, false};
+ghost use Rattle.ls_line.specs.Lines.{text_of_line};
+ghost use Rattle.ls_request.specs.Ranges.{OpFits, AddFits};
+ghost use Rattle.ls_request.specs.declared.request.Request.TheVariants as request;
+ghost use Rattle.ls_step.specs.Notes.{text_of_out};
+ghost use Rattle.ls_step.specs.declared.out.Out.TheVariants as out;
+ghost use Rattle.ls_world.specs.World.{World, Session as ASession, on_board, removed, ended};
+ghost use Rattle.ls_world.specs.Acting.{add_code, subscribed, delete_code, destroyed};
+ghost use Rattle.ls_world.specs.Steps.{acts, operates, session_named};
+ghost use Rattle.ls_world.specs.Built.{is_built_request, is_built_op};
+ghost use Rattle.ls_hub.specs.Hub.{StandsHub, Prints, name_at, seen};
+ghost use Rattle.ls_hub.specs.Requests.{living_place, place_of_number, IsLiving, DidOperate, answer_line};
+
+use crate::answers::answer;
+use crate::hub::{Hub, StepRefused};
+use crate::requests::lacks;
+use crate::slots::{join_all, leave_all};
+use ls_form::Params;
+use ls_request::{Add, Control, Op};
+use ls_session::DESTROYED;
+use ls_subs::Refusal;
+use ls_value::{NoMemory, Text};
+
+/// The code of a session that isn't there, or has ended.
+const UNKNOWN_SESSION: u16 = 20;
+
+impl Hub {
+    /// A control request on the session that it names, or else on the connection's.
+    pub(crate) fn control(
+        &mut self,
+        connection: u32,
+        params: &Params,
+        control: Control,
+        text: &mut Vec<u8>,
+    ) -> Result<(), StepRefused>
+        requires { OpFits control.op }
+        ensures ok { OnOk result ((w : World) → StandsHub self.old w
+            → (is_built_request params.now (request.Control control) ≡ true)
+            × Prints (acts w connection (request.Control control)) text.old.items text.new.items self.new) }
+        ensures refused { IsErrOf result StepRefused.NotBuilt
+            → is_built_request params.now (request.Control control) ≡ false }
+    {
+        let Control { req, session, op } = control;
+        if is_built(params, &op) {
+            self.control_named(connection as usize, req, session, op, text)?;
+            Ok(())
+        } else {
+            Err(StepRefused::NotBuilt)
+        }
+    }
+
+    /// An operation on the session of a number from 1, or else on the connection's: REQERR where it isn't there or has
+    /// ended.
+    fn control_named(
+        &mut self,
+        connection: usize,
+        req: Text,
+        session: Option<u64>,
+        op: Op,
+        text: &mut Vec<u8>,
+    ) -> Result<(), NoMemory>
+        requires { OpFits op }
+        ensures { OnOk result ((w : World) → StandsHub self.old w
+            → Prints (acts w connection (request.Control (record { req = req; session = session; op = op })))
+            text.old.items text.new.items self.new) }
+    {
+        match self.living(self.named(connection, session)) {
+            None => self.answer(connection, req, Some(UNKNOWN_SESSION), text),
+            Some(place) => self.operate(connection, req, place, op, text),
+        }
+    }
+
+    /// The place of the session of a number from 1, or else of the connection's.
+    fn named(&self, connection: usize, session: Option<u64>) -> Option<usize>
+        ensures { (w : World) → map seen self.now.connections.items ≡ w.connections
+            → result ≡ session_named w connection session }
+    {
+        match session {
+            None => self.session_of(connection),
+            Some(number) => place_of(number),
+        }
+    }
+
+    /// The session of a place, if there is one that hasn't ended.
+    fn living(&self, place: Option<usize>) -> Option<usize>
+        ensures within { IfSome result (λ n. n < length self.now.sessions.items) }
+        ensures living { (w : World) → StandsHub self.now w → result ≡ living_place w.sessions place }
+    {
+        let place = place?;
+        let session = self.sessions.get(place)?;
+        if session.is_alive() {
+            Some(place)
+        } else {
+            None
+        }
+    }
+
+    /// An operation on the session of a place, which hasn't ended, and its answer. What isn't built does nothing.
+    fn operate(
+        &mut self,
+        connection: usize,
+        req: Text,
+        place: usize,
+        op: Op,
+        text: &mut Vec<u8>,
+    ) -> Result<(), NoMemory>
+        requires place { place < length self.old.sessions.items }
+        requires fits { OpFits op }
+        ensures { OnOk result ((w : World) (s : ASession) → StandsHub self.old w → IsLiving w place s
+            → Prints (operates w connection req op place s) text.old.items text.new.items self.new) }
+    {
+        match op {
+            Op::Add(add) => {
+                let code = self.subscribe(place, &add)?;
+                self.answer(connection, req, code, text)
+            }
+            Op::Delete { sub } => {
+                let code = self.unsubscribe(place, sub)?;
+                self.answer(connection, req, code, text)
+            }
+            Op::Destroy => {
+                self.destroy(place);
+                self.answer(connection, req, None, text)
+            }
+            Op::Reconf {
+                sub: _,
+                frequency: _,
+            }
+            | Op::Constrain { bandwidth: _ }
+            | Op::ForceRebind => Ok(()),
+        }
+    }
+
+    /// A new subscription of the session of a place, which hasn't ended, or the code that it is refused for. Where its
+    /// items can't join, those that did leave again, and the session is as before.
+    fn subscribe(&mut self, place: usize, add: &Add) -> Result<Option<u16>, NoMemory>
+        requires place { place < length self.old.sessions.items }
+        requires fits { AddFits add.now }
+        ensures connections { self.new.connections ≡ self.old.connections }
+        ensures did { IfOk result (λ code. (w : World) (s : ASession) → StandsHub self.old w → IsLiving w place s
+            → DidOperate w place (add_code w s add.now) (subscribed w add.now) code self.new) }
+    {
+        let free = self.cells.free();
+        match self.sessions[place].prepare_add(add, &self.config, free) {
+            Err(Refusal::Code(code)) => Ok(Some(code)),
+            Err(Refusal::NoMemory) => Err(NoMemory),
+            Ok(plan) => {
+                let numbers = join_all(self.alloc, &mut self.cells, &plan.items)?;
+                self.sessions[place].finish_add(plan, &numbers);
+                Ok(None)
+            }
+        }
+    }
+
+    /// The end of a subscription of the session of a place, which hasn't ended, or the code that it is refused for.
+    fn unsubscribe(&mut self, place: usize, sub: u32) -> Result<Option<u16>, NoMemory>
+        requires { place < length self.old.sessions.items }
+        ensures connections { self.new.connections ≡ self.old.connections }
+        ensures did { IfOk result (λ code. (w : World) (s : ASession) → StandsHub self.old w → IsLiving w place s
+            → DidOperate w place (delete_code s sub) (on_board (removed sub)) code self.new) }
+    {
+        match self.sessions[place].delete(sub) {
+            Err(Refusal::Code(code)) => Ok(Some(code)),
+            Err(Refusal::NoMemory) => Err(NoMemory),
+            Ok(slots) => {
+                leave_all(&mut self.cells, &slots);
+                Ok(None)
+            }
+        }
+    }
+
+    /// The end of the session of a place, which hasn't ended: its slots leave.
+    fn destroy(&mut self, place: usize)
+        requires { place < length self.old.sessions.items }
+        ensures connections { self.new.connections ≡ self.old.connections }
+        ensures did { (w : World) (s : ASession) → StandsHub self.old w → IsLiving w place s
+            → DidOperate w place None (ended destroyed) None self.new }
+    {
+        let slots = self.sessions[place].finish(DESTROYED);
+        leave_all(&mut self.cells, &slots);
+        self.alive = self.alive.saturating_sub(1);
+    }
+
+    /// The answer to a control request on a connection.
+    fn answer(
+        &self,
+        connection: usize,
+        req: Text,
+        code: Option<u16>,
+        text: &mut Vec<u8>,
+    ) -> Result<(), NoMemory>
+        ensures { OnOk result (text.new.items ≡ text.old.items ++ text_of_out
+            (out.Line (name_at self.now.connections.items connection) (text_of_line (answer_line req code)))) }
+    {
+        let line = answer(self.alloc, req, code)?;
+        self.line(connection, &line, text)
+    }
+}
+
+/// Whether an operation is built: not yet frequencies, bandwidths, and the end of a stream.
+fn is_built(params: &Params, op: &Op) -> bool
+    ensures { result ≡ is_built_op params.now op.now }
+{
+    match op {
+        Op::Add(_) => lacks(params, b"LS_requested_max_frequency"),
+        Op::Delete { sub: _ } | Op::Destroy => true,
+        Op::Reconf {
+            sub: _,
+            frequency: _,
+        }
+        | Op::Constrain { bandwidth: _ }
+        | Op::ForceRebind => false,
+    }
+}
+
+/// The place, from 0, of the session of a number; 0 is no session's.
+fn place_of(number: u64) -> Option<usize>
+    ensures { result ≡ place_of_number number }
+{
+    let place = number.checked_sub(1)?;
+    Some(place as usize)
+}

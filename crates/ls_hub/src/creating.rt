@@ -1,0 +1,114 @@
+//! Sessions that begin (TLCP 2.1, create_session).
+ghost use Rattle.std.specs.Prelude.{◌≡◌, ◌<◌, length, map, Some, None, Option, ℕ, IfOk, OnOk, IsErrOf, true, false};
+ghost use Rattle.ls_value.specs.declared.limits.TheConstants.{GREATEST_NUMBER};
+ghost use Rattle.ls_request.specs.declared.request.Request.TheVariants as request;
+ghost use Rattle.ls_world.specs.World.{World, change};
+ghost use Rattle.ls_world.specs.Acting.{is_set_of, create_code};
+ghost use Rattle.ls_world.specs.Steps.{creates, created};
+ghost use Rattle.ls_world.specs.Built.{is_built_request};
+ghost use Rattle.ls_world.specs.declared.TheConstants.{MOST_SESSIONS};
+ghost use Rattle.ls_hub.specs.Hub.{StandsHub, Prints, seen};
+
+use crate::answers::session_refused;
+use crate::hub::{Connection, Hub, StepRefused};
+use crate::requests::lacks;
+use ls_form::Params;
+use ls_request::Create;
+use ls_session::Session;
+use ls_value::{GREATEST_NUMBER, NoMemory, Text, same_bytes};
+use ls_world::MOST_SESSIONS;
+
+impl Hub {
+    /// A create_session; a bandwidth isn't built yet.
+    pub(crate) fn create(
+        &mut self,
+        connection: u32,
+        params: &Params,
+        create: &Create,
+        text: &mut Vec<u8>,
+    ) -> Result<(), StepRefused>
+        ensures ok { OnOk result ((w : World) → StandsHub self.old w
+            → (is_built_request params.now (request.Create create.now) ≡ true)
+            × Prints (creates w connection create.now) text.old.items text.new.items self.new) }
+        ensures refused { IsErrOf result StepRefused.NotBuilt
+            → is_built_request params.now (request.Create create.now) ≡ false }
+    {
+        if lacks(params, b"LS_requested_max_bandwidth") {
+            self.open(connection as usize, create, text)?;
+            Ok(())
+        } else {
+            Err(StepRefused::NotBuilt)
+        }
+    }
+
+    /// A create_session: a new session, which is the connection's, or CONERR on the connection.
+    pub(crate) fn open(
+        &mut self,
+        connection: usize,
+        create: &Create,
+        text: &mut Vec<u8>,
+    ) -> Result<(), NoMemory>
+        ensures { OnOk result ((w : World) → StandsHub self.old w
+            → Prints (creates w connection create.now) text.old.items text.new.items self.new) }
+    {
+        match self.create_code(create) {
+            Some(code) => {
+                let line = session_refused(self.alloc, code)?;
+                self.line(connection, &line, text)
+            }
+            None => self.begin(connection, create),
+        }
+    }
+
+    /// What a create_session is refused for: another adapter set, too many sessions, or that no number is left for one.
+    fn create_code(&self, create: &Create) -> Option<u16>
+        ensures code { (w : World) → StandsHub self.now w → result ≡ create_code w create.now }
+        ensures room { result ≡ None → (self.now.alive < MOST_SESSIONS)
+            × (length self.now.sessions.items < GREATEST_NUMBER) }
+    {
+        if !self.has_set(&create.set) {
+            Some(2)
+        } else if self.alive >= MOST_SESSIONS {
+            Some(8)
+        } else if self.sessions.len() as u64 >= GREATEST_NUMBER {
+            Some(74)
+        } else {
+            None
+        }
+    }
+
+    /// Whether the adapter set is the one that is named, where one is.
+    fn has_set(&self, name: &Option<Text>) -> bool
+        ensures { (w : World) → self.now.config.set ≡ w.set → result ≡ is_set_of w name.now }
+    {
+        match name {
+            None => true,
+            Some(name) => same_bytes(name.as_bytes(), self.config.set.as_bytes()),
+        }
+    }
+
+    /// A new session, which is the connection's. After `NoMemory` all is as before.
+    fn begin(&mut self, connection: usize, create: &Create) -> Result<(), NoMemory>
+        requires alive { self.old.alive < MOST_SESSIONS }
+        requires number { length self.old.sessions.items < GREATEST_NUMBER }
+        ensures ok { OnOk result ((w : World) → StandsHub self.old w
+            → StandsHub self.new (created w connection create.now.keepalive)) }
+    {
+        let place = self.sessions.len();
+        let session = Session::new(self.alloc, place as u64 + 1, create)?;
+        self.sessions.push(session)?;
+        self.alive += 1;
+        give_session(&mut self.connections, connection, place);
+        Ok(())
+    }
+}
+
+/// Gives a connection the session of a place.
+fn give_session(connections: &mut Vec<Connection>, connection: usize, place: usize)
+    ensures { map seen connections.new.items ≡ change connection (λ c. record c { session = Some place })
+        (map seen connections.old.items) }
+{
+    if let Some(connection) = connections.get_mut(connection) {
+        connection.session = Some(place);
+    }
+}

@@ -1,0 +1,136 @@
+//! Publishes and enqueues.
+ghost use Rattle.std.specs.Prelude.{◌≡◌, ◌≤◌, ◌++◌, IfOk, OnOk, Err, option_map};
+ghost use Rattle.ls_event.specs.declared.limits.TheConstants.{MOST_ADAPTERS};
+ghost use Rattle.ls_world.specs.World.{World};
+ghost use Rattle.ls_world.specs.Steps.{enqueue_once as one_enqueue, repeated, publishes};
+ghost use Rattle.ls_world.specs.Script.{text_of_outs};
+ghost use Rattle.ls_subs.specs.Standing.{ref_of};
+ghost use Rattle.ls_hub.specs.Hub.{StandsHub, Prints, DidOnce, slot_in, outs_published, out_enqueued, has_moved};
+
+use crate::hub::Hub;
+use ls_cell::Enqueued;
+use ls_event::{Event, PublishRefused};
+use ls_step::{Out, append};
+use ls_subs::SlotRef;
+use ls_value::NoMemory;
+
+impl Hub {
+    /// A publish on the item of a place. An update of another number of fields than the item's is none.
+    pub(crate) fn publish(
+        &mut self,
+        item: u32,
+        adapter: u8,
+        seq: u64,
+        event: Event,
+        text: &mut Vec<u8>,
+    ) -> Result<(), NoMemory>
+        requires { adapter ≤ MOST_ADAPTERS }
+        ensures { OnOk result ((w : World) → StandsHub self.old w
+            → Prints (publishes w item (record { adapter = adapter; seq = seq; event = event })) text.old.items
+            text.new.items self.new) }
+    {
+        if !self.cells.takes(item, &event) {
+            return Ok(());
+        }
+        let answer = self.cells.publish(item, adapter, seq, event);
+        append_published(text, answer)?;
+        Ok(())
+    }
+
+    /// Enqueues into the slot of a rank in a subscription of a connection's session: at most so many, up to the first
+    /// that doesn't move.
+    pub(crate) fn enqueue(
+        &mut self,
+        connection: u32,
+        sub: u64,
+        rank: u64,
+        times: u32,
+        text: &mut Vec<u8>,
+    ) -> Result<(), NoMemory>
+        ensures { OnOk result ((w : World) → StandsHub self.old w
+            → Prints (repeated (one_enqueue connection sub rank) times w) text.old.items text.new.items self.new) }
+    {
+        for _ in 0..times {
+            let more = self.enqueue_once(connection as usize, sub, rank, text)?;
+            if !more {
+                return Ok(());
+            }
+        }
+        Ok(())
+    }
+
+    /// An enqueue; whether another one follows.
+    fn enqueue_once(
+        &mut self,
+        connection: usize,
+        sub: u64,
+        rank: u64,
+        text: &mut Vec<u8>,
+    ) -> Result<bool, NoMemory>
+        ensures { IfOk result (λ more. (w : World) → StandsHub self.old w
+            → DidOnce (one_enqueue connection sub rank w) more text.old.items text.new.items self.new) }
+    {
+        let Some(slot) = self.slot_of(connection, sub, rank) else {
+            append(text, &Out::NoSlot)?;
+            return Ok(false);
+        };
+        let answer = self.cells.enqueue(slot.item, slot.slot)?;
+        append(text, &out_enqueued(answer))?;
+        Ok(has_moved(answer))
+    }
+
+    /// The slot of a rank in a subscription of a connection's session, if there is one.
+    fn slot_of(&self, connection: usize, sub: u64, rank: u64) -> Option<SlotRef>
+        ensures { (w : World) → StandsHub self.now w → result ≡ option_map ref_of (slot_in w connection sub rank) }
+    {
+        let Some(place) = self.session_of(connection) else {
+            return None;
+        };
+        match self.sessions.get(place) {
+            None => None,
+            Some(session) => session.find(sub, rank),
+        }
+    }
+}
+
+/// What an enqueue prints.
+fn out_enqueued(answer: Option<Enqueued>) -> Out
+    ensures { result ≡ out_enqueued answer }
+{
+    match answer {
+        Some(Enqueued::Moved { no }) => Out::Moved { no },
+        Some(Enqueued::UpToDate) => Out::UpToDate,
+        None => Out::NoSlot,
+    }
+}
+
+/// Whether the slot took an event.
+fn has_moved(answer: Option<Enqueued>) -> bool
+    ensures { result ≡ has_moved answer }
+{
+    match answer {
+        Some(Enqueued::Moved { no: _ }) => true,
+        Some(Enqueued::UpToDate) => false,
+        None => false,
+    }
+}
+
+/// Appends what a publish prints; want of memory is handed on.
+fn append_published(text: &mut Vec<u8>, answer: Result<u64, PublishRefused>) -> Result<(), NoMemory>
+    ensures some { OnOk result (answer ≡ Err PublishRefused.NoMemory → ⊥) }
+    ensures text { OnOk result (text.new.items ≡ text.old.items ++ text_of_outs (outs_published answer)) }
+{
+    let out = match answer {
+        Ok(no) => Out::Published { no },
+        Err(PublishRefused::Repeated { last }) => Out::Repeated { last },
+        Err(PublishRefused::NoKey) => Out::NoKey,
+        Err(PublishRefused::BadCommand) => Out::BadCommand,
+        Err(PublishRefused::TooLong { bytes }) => Out::TooLong { bytes },
+        Err(PublishRefused::TooManyKeys) => Out::TooManyKeys,
+        Err(PublishRefused::Backlog { slot }) => Out::Backlog { slot },
+        Err(PublishRefused::Spent) => Out::Spent,
+        Err(PublishRefused::NoMemory) => return Err(NoMemory),
+    };
+    append(text, &out)?;
+    Ok(())
+}

@@ -1,0 +1,183 @@
+-- The numbers of slots tell nothing: each change of a session goes with a session without them.
+use Rattle.std.proofs.Common.{◌≡◌, ◌==◌, ℕ, ◌+◌, List, [], ◌∷◌, ◌++◌, length, map, refl, sym, ◌∙◌, ap, cond, Bool, true, false, ◌||◌, Option, None, Some}
+use Rattle.std.proofs.Common.{nat_lt, nat_le, option_map}
+use Rattle.std.specs.Prelude.{not}
+use Rattle.std.proofs.lemmas.List.{map-append}
+use Rattle.std.proofs.lemmas.List.Sums.{sum_by-cons}
+use Rattle.ls_event.specs.Slots.{enqueued}
+use Rattle.ls_event.specs.declared.item.ItemDef.{ItemDef}
+use Rattle.ls_request.specs.declared.request.Add.{Add}
+use Rattle.ls_world.specs.Came.{Came}
+use Rattle.ls_world.specs.Cutting.{Ask}
+use Rattle.ls_world.specs.Lines.{Line}
+use Rattle.ls_value.specs.declared.limits.TheConstants.{GREATEST_NUMBER}
+use Rattle.ls_world.specs.declared.TheConstants.{MOST_SUBSCRIPTIONS}
+use Rattle.ls_world.specs.World.{Item, Live, Board, Life, Alive, Ending, Ended, Session, RoundLine, Round, history_of, is_at, is_of, is_used, live_at}
+use Rattle.ls_world.specs.World.{joined_slot, joined_all, added, without, removed, enqueue_slot, enqueue_at, enqueued_in, live_turn, round_of, taken_in}
+use Rattle.ls_world.specs.World.{on_board, is_unsent, given_next}
+use Rattle.ls_world.specs.Acting.{is_group, group_of, is_allowed, is_schema, subscriptions, are_too_many, are_spent, add_refusals, delete_code}
+use Rattle.ls_world.specs.Steps.{SessionTurn, Spent, next_given, round_turn, turn_owing, turn_living, session_turn}
+use Rattle.ls_world.proofs.Parts.{met_by, given_by, round_given, round_taken}
+use Rattle.ls_laws.specs.Alone.{unnumbered_slot, unnumbered_board, unnumbered}
+
+-- a function of both parts of a test
+pushed : {A B : Type 0} (f : A → B) (b : Bool) (x y : A) → cond b (f x) (f y) ≡ f (cond b x y)
+pushed f true x y = refl
+pushed f false x y = refl
+
+-- slots without their numbers
+abbrev slots : List Live → List Live
+slots vs = map unnumbered_slot vs
+
+-- what is asked of a round
+used_same : (sub : ℕ) (vs : List Live) → is_used sub (slots vs) ≡ is_used sub vs
+used_same sub [] = refl
+used_same sub (v ∷ vs) = ap (λ b. is_of sub v || b) (used_same sub vs)
+
+pub live_same : (sub rank : ℕ) (vs : List Live) → live_at sub rank (slots vs) ≡ option_map unnumbered_slot (live_at sub rank vs)
+live_same sub rank [] = refl
+live_same sub rank (v ∷ vs) =
+    ap (λ o. cond (is_at sub rank v) (Some (unnumbered_slot v)) o) (live_same sub rank vs)
+    ∙ pushed (option_map unnumbered_slot) (is_at sub rank v) (Some v) (live_at sub rank vs)
+
+subscriptions_same : (vs : List Live) → subscriptions (slots vs) ≡ subscriptions vs
+subscriptions_same [] = refl
+subscriptions_same (v ∷ vs) =
+    sum_by-cons (λ (u : Live). cond (u.rank == 1) 1 0) (unnumbered_slot v) (slots vs)
+    ∙ ap (λ n. cond (v.rank == 1) 1 0 + n) (subscriptions_same vs)
+    ∙ sym (sum_by-cons (λ (u : Live). cond (u.rank == 1) 1 0) v vs)
+
+-- an add is refused by whether it lacks slots
+abbrev pub refusals_by : List ItemDef → Bool → Session → Add → List (ℕ × Bool)
+refusals_by defs lacks s a =
+    (72, is_used a.sub s.board.round)
+    ∷ (70, are_too_many s 2)
+    ∷ (21, not (is_group defs a.group))
+    ∷ (24, not (is_allowed defs a.mode (group_of defs a.group)))
+    ∷ (23, not (is_schema defs a.mode (group_of defs a.group) a.schema))
+    ∷ (71, nat_le MOST_SUBSCRIPTIONS (subscriptions s.board.round) || lacks)
+    ∷ (74, are_spent s 2)
+    ∷ []
+
+pub refusals_same : (defs : List ItemDef) (free : ℕ) (s : Session) (a : Add) → refusals_by defs (nat_lt free (length a.group)) (unnumbered s) a
+    ≡ add_refusals defs free s a
+refusals_same defs free s a = rw (used_same a.sub s.board.round, subscriptions_same s.board.round) refl
+
+pub delete_same : (s : Session) (sub : ℕ) → delete_code (unnumbered s) sub ≡ delete_code s sub
+delete_same s sub = rw (used_same sub s.board.round) refl
+
+-- a subscription begins, and ends
+joined_same : (items : List Item) (free : ℕ → ℕ) (sub rank : ℕ) (asks : List Ask) → slots (joined_all items free sub rank asks)
+    ≡ joined_all items (λ item. 0) sub rank asks
+joined_same items free sub rank [] = refl
+joined_same items free sub rank (a ∷ asks) =
+    ap (λ vs. unnumbered_slot (record {
+      sub = sub;
+      rank = rank;
+      item = a.item;
+      number = 0;
+      wanted = a.wanted;
+      slot = joined_slot items a;
+    }) ∷ vs) (joined_same items free sub (rank + 1) asks)
+
+pub added_same : (items : List Item) (free : ℕ → ℕ) (sub fields : ℕ) (asks : List Ask) (b : Board) → unnumbered_board (added items free sub fields asks b)
+    ≡ added items (λ item. 0) sub fields asks (unnumbered_board b)
+added_same items free sub fields asks b =
+    ap (λ vs. record (added items free sub fields asks b) { round = vs })
+    (map-append unnumbered_slot b.round (joined_all items free sub 1 asks) ∙ ap (λ vs. slots b.round ++ vs) (joined_same items free sub 1 asks))
+
+without_same : (sub : ℕ) (vs : List Live) → without sub (slots vs) ≡ slots (without sub vs)
+without_same sub [] = refl
+without_same sub (v ∷ vs) =
+    ap (λ us. cond (is_of sub v) us (unnumbered_slot v ∷ us)) (without_same sub vs) ∙ pushed slots (is_of sub v) (without sub vs) (v ∷ without sub vs)
+
+pub removed_same : (sub : ℕ) (b : Board) → removed sub (unnumbered_board b) ≡ unnumbered_board (removed sub b)
+removed_same sub b = ap (λ vs. record (removed sub b) { round = vs }) (without_same sub b.round)
+
+-- an enqueue
+enqueue_same : (items : List Item) (sub rank : ℕ) (v : Live) → enqueue_at items sub rank (unnumbered_slot v) ≡ unnumbered_slot (enqueue_at items sub rank v)
+enqueue_same items sub rank v =
+    ap (λ u. cond (is_at sub rank v) u (unnumbered_slot v))
+    (pushed unnumbered_slot (nat_lt v.slot.last (length (history_of items v.item))) (record v { slot = enqueued v.slot }) v)
+    ∙ pushed unnumbered_slot (is_at sub rank v) (enqueue_slot (history_of items v.item) v) v
+
+enqueues_same : (items : List Item) (sub rank : ℕ) (vs : List Live) → map (enqueue_at items sub rank) (slots vs) ≡ slots (map (enqueue_at items sub rank) vs)
+enqueues_same items sub rank [] = refl
+enqueues_same items sub rank (v ∷ vs) = λ i. enqueue_same items sub rank v i ∷ enqueues_same items sub rank vs i
+
+pub enqueued_same : (items : List Item) (sub rank : ℕ) (b : Board) → enqueued_in items sub rank (unnumbered_board b)
+    ≡ unnumbered_board (enqueued_in items sub rank b)
+enqueued_same items sub rank b = ap (λ vs. record b { round = vs }) (enqueues_same items sub rank b.round)
+
+-- a round's turns
+abbrev line_of : RoundLine → RoundLine
+line_of t = record t { live = unnumbered_slot t.live }
+
+abbrev round_without : Round → Round
+round_without r = record { kept = slots r.kept; came = option_map line_of r.came }
+
+met_same : (v : Live) (o : Option Came) (vs : List Live) (r : Round) → met_by (unnumbered_slot v) o (slots vs) (round_without r)
+    ≡ round_without (met_by v o vs r)
+met_same v None vs r = refl
+met_same v (Some c) vs r = refl
+
+round_same : (items : List Item) (lines : List Line) (vs : List Live) → round_of (λ v. true) items lines (slots vs)
+    ≡ round_without (round_of (λ v. true) items lines vs)
+round_same items lines [] = refl
+round_same items lines (v ∷ vs) =
+    let t = live_turn (λ u. true) items lines v in
+    ap (λ r. met_by (unnumbered_slot (record v { slot = t.slot })) t.came (slots vs) r) (round_same items lines vs)
+    ∙ met_same (record v { slot = t.slot }) t.came vs (round_of (λ u. true) items lines vs)
+
+given_same : (b : Board) (kept : List Live) (o : Option RoundLine) → given_by (unnumbered_board b) (slots kept) (option_map line_of o)
+    ≡ unnumbered_board (given_by b kept o)
+given_same b kept None = refl
+given_same b kept (Some t) = ap (λ vs. record (given_by b kept (Some t)) { round = vs }) (sym (map-append unnumbered_slot kept (t.live ∷ [])))
+
+taken_same : (items : List Item) (b : Board) → taken_in (λ v. true) items (unnumbered_board b) ≡ unnumbered_board (taken_in (λ v. true) items b)
+taken_same items b =
+    let r = round_of (λ v. true) items b.lines b.round in
+    ap (λ (x : Round). given_by (unnumbered_board b) x.kept x.came) (round_same items b.lines b.round) ∙ given_same b r.kept r.came
+
+-- a session's turn
+abbrev pub turn_without : SessionTurn → SessionTurn
+turn_without t = record t { session = unnumbered t.session }
+
+given_next_same : (s : Session) → given_next (unnumbered s) ≡ unnumbered (given_next s)
+given_next_same s = pushed unnumbered (is_unsent s) _ s
+
+next_same : (s : Session) → next_given (unnumbered s) ≡ turn_without (next_given s)
+next_same s = ap (λ t. record (next_given s) { session = t }) (given_next_same s)
+
+round_given_same : (s : Session) (o : Option RoundLine) → round_given (unnumbered s) (option_map line_of o) ≡ turn_without (round_given s o)
+round_given_same s None = refl
+round_given_same s (Some t) = next_same s
+
+round_taken_same : (items : List Item) (s : Session) → round_taken items (unnumbered s) ≡ turn_without (round_taken items s)
+round_taken_same items s =
+    let r = round_of (λ v. true) items s.board.lines s.board.round in
+    ap (λ (b : Board). round_given (record s { board = b }) (round_of (λ v. true) items s.board.lines (slots s.board.round)).came) (taken_same items s.board)
+    ∙ ap (λ (x : Round). round_given (unnumbered (on_board (taken_in (λ v. true) items) s)) x.came) (round_same items s.board.lines s.board.round)
+    ∙ round_given_same (on_board (taken_in (λ v. true) items) s) r.came
+
+round_turn_same : (items : List Item) (s : Session) (vs : List Live) → round_turn items (unnumbered s) (slots vs) ≡ turn_without (round_turn items s vs)
+round_turn_same items s [] = refl
+round_turn_same items s (v ∷ vs) =
+    ap (λ (t : SessionTurn). cond (nat_le GREATEST_NUMBER (length s.board.lines)) (record { session = unnumbered s; gives = Spent }) t)
+    (round_taken_same items s)
+    ∙ pushed turn_without (nat_le GREATEST_NUMBER (length s.board.lines)) _ (round_taken items s)
+
+owing_same : (items : List Item) (s : Session) (owed : List (List ℕ)) → turn_owing items (unnumbered s) owed ≡ turn_without (turn_owing items s owed)
+owing_same items s (text ∷ owed) = refl
+owing_same items s [] =
+    ap (λ (t : SessionTurn). cond (is_unsent s) t (round_turn items (unnumbered s) (slots s.board.round))) (next_same s)
+    ∙ ap (λ (t : SessionTurn). cond (is_unsent s) (turn_without (next_given s)) t) (round_turn_same items s s.board.round)
+    ∙ pushed turn_without (is_unsent s) (next_given s) (round_turn items s s.board.round)
+
+living_same : (items : List Item) (s : Session) (life : Life) → turn_living items (unnumbered s) life ≡ turn_without (turn_living items s life)
+living_same items s Alive = owing_same items s s.owed
+living_same items s (Ending code) = refl
+living_same items s (Ended code) = refl
+
+pub turn_same : (items : List Item) (s : Session) → session_turn items (unnumbered s) ≡ turn_without (session_turn items s)
+turn_same items s = living_same items s s.life

@@ -1,0 +1,8 @@
+use Rattle.ls_laws.proofs.Others.{session_left, items_left}
+use Rattle.ls_laws.proofs.law.a_step_changes_its_session_alone.Goals as goal
+
+pub returns-clause-sessions : goal.returns-clause-sessions
+returns-clause-sessions c = session_left
+
+pub returns-clause-items : goal.returns-clause-items
+returns-clause-items c = items_left

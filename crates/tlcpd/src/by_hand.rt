@@ -1,0 +1,276 @@
+//! The calls of sessions, made by hand on items of one's own, as another front end makes them: of a turn `turn`,
+//! `look`, `answer` and `pass`, until it asks no more.
+ghost use Rattle.std.specs.Prelude.{IfSome};
+ghost use Rattle.ls_request.specs.Ranges.{AddFits, OpFits};
+
+use ls_cell::Enqueued;
+use ls_cells::Cells;
+use ls_config::{Config, read as read_config};
+use ls_event::{ItemDef, Kind, MOST_FIELDS, read_event};
+use ls_request::{Add, Control, Create, LinkKind, Op, Request, read as read_request};
+use ls_session::{Ask, Reply, Session, Turn};
+use ls_subs::PlanItem;
+use ls_value::NoMemory;
+use std::alloc::Global;
+use std::test::Fail;
+
+/// Two items.
+const ITEMS: &[u8] = b"a MERGE x\nb DISTINCT y\n";
+
+/// Requests for subscriptions: of the first item, of the second, and of the second with a snapshot.
+const ONE: &[u8] = b"LS_reqId=1&LS_op=add&LS_subId=1&LS_mode=MERGE&LS_group=a&LS_schema=x";
+
+const TWO: &[u8] = b"LS_reqId=1&LS_op=add&LS_subId=2&LS_mode=DISTINCT&LS_group=b&LS_schema=y";
+
+const SNAPSHOT: &[u8] =
+    b"LS_reqId=1&LS_op=add&LS_subId=1&LS_mode=DISTINCT&LS_group=b&LS_schema=y&LS_snapshot=true";
+
+/// What the first session is told, and what the second is.
+const FIRST: &[u8] = b"CONOK,S1,50000,5000,*
+SERVNAME,tlcpd
+CONS,unlimited
+SUBOK,1,1,1
+CONF,1,unlimited,filtered
+SUBOK,2,1,1
+CONF,2,unlimited,filtered
+U,1,1,1
+U,2,1,1
+U,2,1,2
+";
+
+const SECOND: &[u8] = b"CONOK,S2,50000,5000,*
+SERVNAME,tlcpd
+CONS,unlimited
+SUBOK,1,1,1
+CONF,1,unlimited,filtered
+U,1,1,1
+EOS,1,1
+U,1,1,2
+";
+
+/// Items, and two sessions that are to be told of them.
+#[derive(Drop)]
+struct Served {
+    cells: Cells,
+    one: Session,
+    two: Session,
+}
+
+/// The new subscription of an operation, if it is one.
+fn added(op: Op) -> Option<Add>
+    requires { OpFits op }
+    ensures { IfSome result AddFits }
+{
+    match op {
+        Op::Add(add) => Some(add),
+        _ => None,
+    }
+}
+
+/// The subscription that a request asks for, if it asks for one.
+fn add_of(alloc: Global, params: &[u8]) -> Option<Add>
+    ensures { IfSome result AddFits }
+{
+    match read_request(alloc, LinkKind::Ws, b"control", params) {
+        Ok(Request::Control(control)) => {
+            let Control {
+                req: _,
+                session: _,
+                op,
+            } = control;
+            added(op)
+        }
+        _ => None,
+    }
+}
+
+/// One more item, without events, if its fields are sound.
+fn declares(cells: &mut Cells, definition: &ItemDef) -> Result<(), NoMemory> {
+    let many = definition.fields.len();
+    let key = definition.fields.find(b"key").unwrap_or(0);
+    let command = definition.fields.find(b"command").unwrap_or(0);
+    if many == 0 || many > MOST_FIELDS || key >= many || command >= many {
+        return Ok(());
+    }
+    if definition.kind == Kind::Command && key == command {
+        return Ok(());
+    }
+    cells.declare(definition)
+}
+
+/// These items, without events.
+fn cells_of(alloc: Global, definitions: &[ItemDef]) -> Result<Cells, NoMemory> {
+    let mut cells = Cells::new(alloc);
+    for definition in definitions {
+        declares(&mut cells, definition)?;
+    }
+    Ok(cells)
+}
+
+/// The slots of these items join; those that may.
+fn joined(alloc: Global, cells: &mut Cells, items: &[PlanItem]) -> Result<Vec<u32>, NoMemory> {
+    let mut slots = Vec::new(alloc);
+    for item in items {
+        if let Some(slot) = cells.join(item.item, item.mode, item.n, item.snapshot)? {
+            slots.push(slot)?;
+        }
+    }
+    Ok(slots)
+}
+
+/// A session is given the subscription that a request asks for. Whether nothing stood against it.
+fn subscribes(
+    alloc: Global,
+    session: &mut Session,
+    cells: &mut Cells,
+    config: &Config,
+    params: &[u8],
+) -> Result<bool, NoMemory> {
+    let Some(add) = add_of(alloc, params) else {
+        return Ok(false);
+    };
+    let Ok(plan) = session.prepare_add(&add, config, cells.free()) else {
+        return Ok(false);
+    };
+    let slots = joined(alloc, cells, &plan.items)?;
+    if slots.len() != plan.items.len() {
+        return Ok(false);
+    }
+    session.finish_add(plan, &slots);
+    Ok(true)
+}
+
+/// An update of an item. Whether it was published.
+fn publishes(
+    alloc: Global,
+    cells: &mut Cells,
+    config: &Config,
+    item: u32,
+    seq: u64,
+    text: &[u8],
+) -> bool {
+    let Some(definition) = config.items.as_slice().get(item as usize) else {
+        return false;
+    };
+    let Ok(event) = read_event(alloc, text, &definition.fields) else {
+        return false;
+    };
+    cells.takes(item, &event) && cells.publish(item, 1, seq, event).is_ok()
+}
+
+/// What a session asks of a slot is answered, and the slot moves past what was taken.
+fn tell(session: &mut Session, cells: &mut Cells, ask: Ask) -> Result<(), NoMemory> {
+    match cells.look(ask.slot.item, ask.slot.slot)? {
+        None => {
+            session.answer(ask, Reply::Nothing)?;
+        }
+        Some(taken) => {
+            session.answer(ask, Reply::Taken(taken))?;
+            cells.pass(ask.slot.item, ask.slot.slot);
+        }
+    }
+    Ok(())
+}
+
+/// A session's turn. Whether it gives a line.
+fn gives(session: &mut Session, cells: &mut Cells) -> Result<bool, NoMemory> {
+    for _ in 0..100 {
+        match session.turn() {
+            Turn::Send => return Ok(true),
+            Turn::Ask(ask) => tell(session, cells, ask)?,
+            _ => return Ok(false),
+        }
+    }
+    Ok(false)
+}
+
+/// The lines that a session's next turns give, each ended by LF.
+fn lines(alloc: Global, session: &mut Session, cells: &mut Cells) -> Result<Vec<u8>, NoMemory> {
+    let mut text = Vec::new(alloc);
+    for _ in 0..100 {
+        if !gives(session, cells)? {
+            return Ok(text);
+        }
+        text.extend_from_slice(session.current())?;
+        text.push(b'\n')?;
+    }
+    Ok(text)
+}
+
+/// A session's slot takes its item's next event. Whether there was one.
+fn enqueues(session: &Session, cells: &mut Cells, sub: u64, place: u64) -> Result<bool, NoMemory> {
+    let Some(slot) = session.find(sub, place) else {
+        return Ok(false);
+    };
+    match cells.enqueue(slot.item, slot.slot)? {
+        Some(Enqueued::Moved { no: _ }) => Ok(true),
+        _ => Ok(false),
+    }
+}
+
+/// A session of a number, without a subscription.
+fn session_of(alloc: Global, number: u64) -> Result<Session, NoMemory> {
+    let create = Create {
+        set: None,
+        keepalive: 5000,
+        bandwidth: None,
+        length: None,
+    };
+    Session::new(alloc, number, &create)
+}
+
+/// A config's items and two sessions.
+fn begun(alloc: Global, config: &Config) -> Result<Served, NoMemory> {
+    Ok(Served {
+        cells: cells_of(alloc, config.items.as_slice())?,
+        one: session_of(alloc, 1)?,
+        two: session_of(alloc, 2)?,
+    })
+}
+
+/// The first session subscribes to both items, and then, behind an update, the second one to the second item.
+fn all_subscribe(alloc: Global, served: &mut Served, config: &Config) -> Result<bool, NoMemory> {
+    let first = subscribes(alloc, &mut served.one, &mut served.cells, config, ONE)?;
+    let second = subscribes(alloc, &mut served.one, &mut served.cells, config, TWO)?;
+    let published = publishes(alloc, &mut served.cells, config, 1, 1, b"y=1");
+    let third = subscribes(alloc, &mut served.two, &mut served.cells, config, SNAPSHOT)?;
+    Ok(first && second && published && third)
+}
+
+/// Further updates, of both items.
+fn all_published(alloc: Global, served: &mut Served, config: &Config) -> bool {
+    publishes(alloc, &mut served.cells, config, 0, 1, b"x=1")
+        && publishes(alloc, &mut served.cells, config, 1, 2, b"y=2")
+}
+
+/// Each slot takes all events that it hasn't.
+fn all_enqueue(served: &mut Served) -> Result<bool, NoMemory> {
+    let first = enqueues(&served.one, &mut served.cells, 1, 1)?;
+    let second = enqueues(&served.one, &mut served.cells, 2, 1)?;
+    let again = enqueues(&served.one, &mut served.cells, 2, 1)?;
+    let third = enqueues(&served.two, &mut served.cells, 1, 1)?;
+    let behind = enqueues(&served.two, &mut served.cells, 1, 1)?;
+    Ok(first && second && again && third && !behind)
+}
+
+/// Whether both sessions take their turns as they must: the first one's two slots by turns, the second one's with a
+/// snapshot.
+fn are_told(alloc: Global) -> Result<bool, NoMemory> {
+    let Ok(config) = read_config(alloc, ITEMS) else {
+        return Ok(false);
+    };
+    let mut served = begun(alloc, &config)?;
+    let began = all_subscribe(alloc, &mut served, &config)?;
+    let published = all_published(alloc, &mut served, &config);
+    let enqueued = all_enqueue(&mut served)?;
+    let first = lines(alloc, &mut served.one, &mut served.cells)?;
+    let second = lines(alloc, &mut served.two, &mut served.cells)?;
+    let told = first.as_slice() == FIRST && second.as_slice() == SECOND;
+    Ok(began && published && enqueued && told)
+}
+
+#[test]
+fn two_sessions_on_two_items(rt: HostRuntime) -> Result<(), Fail> {
+    assert!(rt; are_told(rt.alloc())?);
+    Ok(())
+}
