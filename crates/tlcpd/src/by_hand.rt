@@ -7,10 +7,11 @@ use ls_cell::Enqueued;
 use ls_cells::Cells;
 use ls_config::{Config, read as read_config};
 use ls_event::{ItemDef, Kind, MOST_FIELDS, read_event};
+use ls_line::Line;
 use ls_request::{Add, Control, Create, LinkKind, Op, Request, read as read_request};
 use ls_session::{Ask, Reply, Session, Turn};
 use ls_subs::PlanItem;
-use ls_value::NoMemory;
+use ls_value::{NoMemory, Text};
 use std::alloc::Global;
 use std::test::Fail;
 
@@ -46,6 +47,15 @@ CONF,1,unlimited,filtered
 U,1,1,1
 EOS,1,1
 U,1,1,2
+";
+
+/// The line of a client's message, alone and behind the lines that open a session.
+const MESSAGE: &[u8] = b"MSGDONE,chat,1";
+
+const MESSAGE_BEHIND: &[u8] = b"CONOK,S1,50000,5000,*
+SERVNAME,tlcpd
+CONS,unlimited
+MSGDONE,chat,1
 ";
 
 /// Items, and two sessions that are to be told of them.
@@ -267,6 +277,34 @@ fn are_told(alloc: Global) -> Result<bool, NoMemory> {
     let second = lines(alloc, &mut served.two, &mut served.cells)?;
     let told = first.as_slice() == FIRST && second.as_slice() == SECOND;
     Ok(began && published && enqueued && told)
+}
+
+/// The line that tells of a client's message.
+fn message(alloc: Global) -> Result<Line, NoMemory> {
+    Ok(Line::MsgDone {
+        sequence: Text::from_str(alloc, "chat")?,
+        number: 1,
+    })
+}
+
+/// Whether a line of a client's message is numbered behind the lines of a session, and then given as they are.
+fn is_numbered(alloc: Global) -> Result<bool, NoMemory> {
+    let mut cells = Cells::new(alloc);
+    let mut session = session_of(alloc, 1)?;
+    let line = message(alloc)?;
+    let Ok(text) = session.prepare_line(&line) else {
+        return Ok(false);
+    };
+    let number = session.finish_line(text);
+    let kept = session.line(1) == Some(MESSAGE) && session.last() == 1 && session.sent() == 0;
+    let given = lines(alloc, &mut session, &mut cells)?;
+    Ok(number == 1 && kept && given.as_slice() == MESSAGE_BEHIND && session.sent() == 1)
+}
+
+#[test]
+fn a_message_is_a_numbered_line(rt: HostRuntime) -> Result<(), Fail> {
+    assert!(rt; is_numbered(rt.alloc())?);
+    Ok(())
 }
 
 #[test]
