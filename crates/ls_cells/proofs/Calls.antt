@@ -6,7 +6,7 @@ use Rattle.ls_event.specs.declared.event.Mode.{Mode}
 use Rattle.ls_event.specs.declared.event.Snap.{Snap}
 use Rattle.ls_event.specs.declared.event.Taken.{Taken}
 use Rattle.ls_event.specs.declared.limits.TheConstants.{MOST_SLOTS, MOST_BUFFER_SIZE}
-use Rattle.ls_event.specs.Cuts.{cut}
+use Rattle.ls_event.specs.Cuts.{cut, is_pending}
 use Rattle.ls_event.specs.Joining.{plan_of, rows_asked, joined, is_mode_of}
 use Rattle.ls_event.specs.Shapes.{Shape, shape_of}
 use Rattle.ls_event.specs.Slots.{Slot, enqueued, passed}
@@ -68,6 +68,14 @@ module _ (cells : List Held) (j : ℕ) (c : Held) (low : j < length cells) (is :
   look_did live number t cuts items a b v st on numbered =
       let x : SlotThere c (history_of items v.item) number v.slot = slot_there cells j c low is live number items a b v on numbered st in
       cuts x.slots (history_of items v.item) v.slot x.cell x.here
+
+  pub pending_did : (live number : ℕ) (pends : Bool)
+      → ((ss : List (Option Slot)) (h : List Entry) (s : Slot) → StandsCell c ss h → slot_at ss number ≡ Some s → pends ≡ is_pending h s)
+      → (items : List Item) (a b : List Live) (v : Live) → StandsCells (record { cells = cells; live = live }) items (a ++ v ∷ b)
+      → v.item ≡ j → v.number ≡ number → pends ≡ is_pending (history_of items v.item) v.slot
+  pending_did live number pends says items a b v st on numbered =
+      let x : SlotThere c (history_of items v.item) number v.slot = slot_there cells j c low is live number items a b v on numbered st in
+      says x.slots (history_of items v.item) v.slot x.cell x.here
 
   pub pass_did : (c' : Held) (live number : ℕ) → c'.item.shape ≡ c.item.shape
       → ((ss : List (Option Slot)) (h : List Entry) (s : Slot) (t : Taken) → StandsCell c ss h → slot_at ss number ≡ Some s → cut h s ≡ Some t

@@ -4,6 +4,8 @@ pub mod Counted
 pub mod Items
 pub mod Least
 pub mod OneSlot
+pub mod Frequencies
+pub mod Histories
 pub mod OneItem
 pub mod Lives
 pub mod Calls

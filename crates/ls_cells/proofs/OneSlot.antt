@@ -42,7 +42,7 @@ pub record SlotThere (c : Held) (h : List Entry) (number : ℕ) (s : Slot) : Typ
   pub cell : StandsCell c slots h
   pub here : slot_at slots number ≡ Some s
 
-mine : (a b : List Live) (v : Live) (k : ℕ) (c : Held) (i : Item) → k ≡ v.item → IsUnlike v (a ++ b) → (st : StandsItem (a ++ v ∷ b) k c i)
+pub mine : (a b : List Live) (v : Live) (k : ℕ) (c : Held) (i : Item) → k ≡ v.item → IsUnlike v (a ++ b) → (st : StandsItem (a ++ v ∷ b) k c i)
     → slot_at st.slots v.number ≡ Some v.slot
 mine a b v k c i at u st =
     let is : is_numbered k v.number v ≡ true = is_numbered_at k v.number v at refl in

@@ -9,7 +9,7 @@ use Rattle.ls_event.specs.declared.limits.TheConstants.{MOST_BUFFER_SIZE, MOST_S
 use Rattle.ls_event.specs.Joining.{is_mode_of}
 use Rattle.ls_event.specs.Shapes.{shape_of}
 use Rattle.ls_event.specs.Slots.{Slot}
-use Rattle.ls_cell.specs.Cell.{Held, StandsCell, cut_at}
+use Rattle.ls_cell.specs.Cell.{Held, StandsCell, cut_at, pending_at}
 use Rattle.ls_cell.specs.Numbered.{slot_at, live_slots}
 use Rattle.ls_world.specs.Lawful.{Each}
 use Rattle.ls_world.specs.Steps.{is_whole}
@@ -88,3 +88,7 @@ fields_of k item = option_map_or (λ c. c.item.shape.fields) (slice_get k.cells 
 -- the next cut of a slot on an item, where there is one
 abbrev pub cut_of_slot : AllCells → ℕ → ℕ → Option Taken
 cut_of_slot k item slot = option_and_then (λ c. cut_at c slot) (slice_get k.cells item)
+
+-- whether something is pending of a slot on an item
+abbrev pub pending_of_slot : AllCells → ℕ → ℕ → Bool
+pending_of_slot k item slot = option_map_or (λ c. pending_at c slot) (slice_get k.cells item) false

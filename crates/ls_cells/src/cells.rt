@@ -5,17 +5,17 @@ ghost use Rattle.std.specs.Option.{option_map_or};
 ghost use Rattle.ls_event.specs.declared.event.Entry.{Entry};
 ghost use Rattle.ls_event.specs.declared.event.Taken.{Taken as ATaken};
 ghost use Rattle.ls_event.specs.declared.limits.TheConstants.{MOST_BUFFER_SIZE, MOST_SLOTS};
-ghost use Rattle.ls_event.specs.Cuts.{Fits, cut};
+ghost use Rattle.ls_event.specs.Cuts.{Fits, cut, is_pending};
 ghost use Rattle.ls_event.specs.Joining.{plan_of, rows_asked, joined, is_mode_of};
 ghost use Rattle.ls_event.specs.Publishes.{refusal};
 ghost use Rattle.ls_event.specs.Shapes.{IsShape, shape_of};
 ghost use Rattle.ls_event.specs.Slots.{Slot, passed};
-ghost use Rattle.ls_cell.specs.Cell.{StandsCell, AnswersFirst, enqueue_answer, enqueued_at, cut_at};
+ghost use Rattle.ls_cell.specs.Cell.{StandsCell, AnswersFirst, enqueue_answer, enqueued_at, cut_at, pending_at};
 ghost use Rattle.ls_cell.specs.Numbered.{slot_at, set_slot, put_slot, free_number, live_slots};
 ghost use Rattle.ls_world.specs.Steps.{grown, is_whole};
 ghost use Rattle.ls_world.specs.World.{Item, Live, history_of, shape_at, change, enqueue_slot};
 ghost use Rattle.ls_cells.specs.Cells.{StandsCells, MayJoin, slot_numbered, free_in, far_in, takes_of, fields_of};
-ghost use Rattle.ls_cells.specs.Cells.{cut_of_slot};
+ghost use Rattle.ls_cells.specs.Cells.{cut_of_slot, pending_of_slot};
 
 use ls_cell::{Enqueued, ItemCell};
 use ls_event::{
@@ -146,6 +146,22 @@ impl Cells {
         Ok(taken)
     }
 
+    /// Whether something is pending of a slot on an item: enqueued, and in no cut that was taken. `false` where there
+    /// is no such slot. It takes no memory.
+    pub fn pending(&self, item: u32, slot: u32) -> bool
+        ensures own { result ≡ pending_of_slot self.now item slot }
+        ensures known { (items : List Item) (a b : List Live) (v : Live) → StandsCells self.now items (a ++ v ∷ b)
+            → v.item ≡ item → v.number ≡ slot → result ≡ is_pending (history_of items v.item) v.slot }
+        ensures none { (items : List Item) (lives : List Live) → StandsCells self.now items lives
+            → slot_numbered item slot lives ≡ None → result ≡ false }
+    {
+        let index = item as usize;
+        if index >= self.cells.len() {
+            return false;
+        }
+        pending_on(&self.cells[index], slot)
+    }
+
     /// Moves a slot on an item past its next cut, of which there is one. It takes no memory.
     pub fn pass(&mut self, item: u32, slot: u32)
         requires { IsSome (cut_of_slot self.old item slot) }
@@ -256,6 +272,21 @@ fn look_on(cell: &ItemCell, slot: u32) -> Result<Option<Taken>, NoMemory>
     }
     let taken = cell.look(slot)?;
     Ok(taken)
+}
+
+/// Whether something is pending of an item's slot, if it is live.
+fn pending_on(cell: &ItemCell, slot: u32) -> bool
+    ensures own { result ≡ pending_at cell.now slot }
+    ensures pending { (ss : List (Option Slot)) (h : List Entry) (s : Slot) → StandsCell cell.now ss h
+        → slot_at ss slot ≡ Some s → result ≡ is_pending h s }
+    ensures none { (ss : List (Option Slot)) (h : List Entry) → StandsCell cell.now ss h
+        → slot_at ss slot ≡ None → result ≡ false }
+{
+    if cell.has(slot) {
+        cell.pending(slot)
+    } else {
+        false
+    }
 }
 
 /// Enqueues an item's next event into a slot, if it is live.

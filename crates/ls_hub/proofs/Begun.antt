@@ -23,7 +23,7 @@ use Rattle.ls_hub.specs.Hub.{StandsHub, Prints, seen, name_at}
 use Rattle.ls_hub.specs.declared.hub.Hub.{Hub}
 use Rattle.ls_hub.proofs.Alive.{alive_more}
 use Rattle.ls_hub.proofs.Connected.{line_printed}
-use Rattle.ls_hub.proofs.Sessions.{as_many, kept_more}
+use Rattle.ls_hub.proofs.Sessions.{as_many, kept_more, anew_is}
 
 pub few : (m n : ℕ) → n < m → nat_le m n ≡ false
 few m n low = grind (arith, nat_tests)
@@ -47,30 +47,34 @@ pub refused_printed : (h : Hub) (w : World) (n : ℕ) (c : Create) (code : ℕ) 
     → Prints (creates w n c) before after h
 refused_printed h w n c code before after st some is =
     subst (λ (s : Stepped). Prints s before after h)
-    (sym (ap (λ o. with_found o (stays (created w n c.keepalive) []) (λ k. stays w (on w n (text_of_line (line.ConErr k (message_of k)))))) some))
+    (sym (ap (λ o. with_found o (stays (created w n c) []) (λ k. stays w (on w n (text_of_line (line.ConErr k (message_of k)))))) some))
     (line_printed h h w w n (text_of_line (line.ConErr code (message_of code))) before after st st is)
 
 -- a hub with a session more
-pub begun : (h h' : Hub) (w : World) (n keepalive place : ℕ) (k : Kept) → StandsHub h w → h'.config ≡ h.config → h'.cells ≡ h.cells
+pub begun : (h h' : Hub) (w : World) (n : ℕ) (c : Create) (place : ℕ) (k : Kept) → StandsHub h w → h'.config ≡ h.config → h'.tick ≡ h.tick
+    → h'.cells ≡ h.cells
     → h'.alive ≡ h.alive + 1 → place ≡ length h.sessions.items → h'.sessions.items ≡ h.sessions.items ++ k ∷ []
-    → StandsSession k (begun_anew (opened (place + 1) keepalive))
-    → map seen h'.connections.items ≡ change n (λ (c : Connection). record c { session = Some place }) (map seen h.connections.items)
-    → StandsHub h' (created w n keepalive)
-begun h h' w n keepalive place k st config cells living last more stands given =
+    → StandsSession k (begun_anew h.tick (opened (place + 1) c.keepalive c.bandwidth))
+    → map seen h'.connections.items ≡ change n (λ (x : Connection). record x { session = Some place }) (map seen h.connections.items)
+    → StandsHub h' (created w n c)
+begun h h' w n c place k st config tick cells living last more stands given =
     subst (λ (m : ℕ). StandsHub h' (record w {
-      sessions = w.sessions ++ opened (m + 1) keepalive ∷ [];
-      connections = change n (λ (c : Connection). record c { session = Some m }) w.connections;
-    })) (last ∙ as_many h.sessions.items w.sessions st.sessions)
+      sessions = w.sessions ++ opened (m + 1) c.keepalive c.bandwidth ∷ [];
+      connections = change n (λ (x : Connection). record x { session = Some m }) w.connections;
+    })) (last ∙ as_many w.tick h.sessions.items w.sessions st.sessions)
     (record {
       set = ap (λ x. x.set) config ∙ st.set;
+      tick = tick ∙ st.tick;
+      in_range = st.in_range;
       definitions = ap (λ x. x.items) config ∙ st.definitions;
-      cells = subst (λ x. StandsCells x w.items (all_live (w.sessions ++ opened (place + 1) keepalive ∷ []))) (sym cells)
-          (subst (λ (vs : List Live). StandsCells h.cells w.items vs) (sym (all_live_more w.sessions (opened (place + 1) keepalive) refl)) st.cells);
+      cells = subst (λ x. StandsCells x w.items (all_live (w.sessions ++ opened (place + 1) c.keepalive c.bandwidth ∷ []))) (sym cells)
+          (subst (λ (vs : List Live). StandsCells h.cells w.items vs)
+          (sym (all_live_more w.sessions (opened (place + 1) c.keepalive c.bandwidth) refl)) st.cells);
       sessions = rw more
-          (kept_more h.sessions.items w.sessions k (opened (place + 1) keepalive) st.sessions
-          (record { asking = begun_anew (opened (place + 1) keepalive); session = refl; first = refl; stands = stands }));
-      alive = living ∙ ap (λ x. x + 1) st.alive ∙ sym (alive_more w.sessions (opened (place + 1) keepalive) refl);
-      connections = given ∙ ap (change n (λ (c : Connection). record c { session = Some place })) st.connections;
+          (kept_more w.tick h.sessions.items w.sessions k (opened (place + 1) c.keepalive c.bandwidth) st.sessions
+          (anew_is w.tick h.tick k (opened (place + 1) c.keepalive c.bandwidth) (omega (arith, st.tick)) stands));
+      alive = living ∙ ap (λ x. x + 1) st.alive ∙ sym (alive_more w.sessions (opened (place + 1) c.keepalive c.bandwidth) refl);
+      connections = given ∙ ap (change n (λ (x : Connection). record x { session = Some place })) st.connections;
     })
 
 -- the place of a new connection

@@ -1,11 +1,7 @@
 -- What a hub knows of its connections is what the world has, and a line on one of them.
-use Rattle.std.proofs.Common.{◌≡◌, ℕ, zero, suc, ◌<◌, ◌≤◌, List, [], ◌∷◌, ◌++◌, length, map, refl, sym, ◌∙◌, ap, arith, subst, cond, Bool, true, false, not}
-use Rattle.std.proofs.Common.{Option, Some, None, slice_get, slice_set, slice_index_or, option_map, option_and_then, ◌||◌, Bor}
-use Rattle.std.specs.Prelude.{is_some, is_none, option_copied}
+use Rattle.std.proofs.Common.{◌≡◌, ℕ, zero, suc, ◌<◌, ◌≤◌, List, [], ◌∷◌, ◌++◌, length, map, refl, sym, ◌∙◌, ap, arith, subst, cond, Bool, true, false}
+use Rattle.std.proofs.Common.{Option, Some, None, slice_get, slice_set, slice_index_or, option_map, option_and_then}
 use Rattle.std.specs.Option.{option_map_or}
-use Rattle.std.specs.Str.{bytes_eq}
-use Rattle.ls_form.specs.declared.form.Pair.{Pair}
-use Rattle.ls_form.specs.Forms.{has_name, text_under}
 use Rattle.ls_line.specs.declared.line.Line.TheVariants as line
 use Rattle.ls_line.specs.Lines.{text_of_line}
 use Rattle.ls_request.specs.declared.request.LinkKind.TheVariants as link
@@ -13,7 +9,6 @@ use Rattle.ls_step.specs.Notes.{text_of_out}
 use Rattle.ls_step.specs.declared.out.Out.TheVariants as out
 use Rattle.ls_world.specs.World.{World, Connection, change}
 use Rattle.ls_world.specs.Acting.{message_of}
-use Rattle.ls_world.specs.Built.{lacks}
 use Rattle.ls_world.specs.Cases.{with_found}
 use Rattle.ls_world.specs.Steps.{Stepped, stays, on, session_of, name_of, link_of, is_opening, malformed, refuses}
 use Rattle.ls_hub.specs.Hub.{StandsHub, Prints, seen, session_at, name_at, link_at}
@@ -60,26 +55,6 @@ pub given_none : (cs : List Linked) (n place : ℕ) → length cs ≤ n → map 
 given_none [] n place high = refl
 given_none (x ∷ cs) zero place high = absurd (omega (arith, high))
 given_none (x ∷ cs) (suc n) place high = ap (λ t. seen x ∷ t) (given_none cs n place (omega (arith, high)))
-
--- what isn't something is nothing
-pub is_nothing : {A : Type 0} (o : Option A) (r : Bool) → is_some o ≡ not r → r ≡ is_none o
-is_nothing None true e = refl
-is_nothing None false e = absurd (let x : false ≡ true = e in cc)
-is_nothing (Some a) true e = absurd (let x : true ≡ false = e in cc)
-is_nothing (Some a) false e = refl
-
--- a parameter isn't there where no pair has its name
-pub copied_none : {A : Type 0} (o : Option (Bor A)) → is_none o ≡ is_none (option_copied o)
-copied_none None = refl
-copied_none (Some a) = refl
-
-pub lacks_is : (ps : List Pair) (name : List ℕ) → is_none (text_under ps name) ≡ lacks ps name
-lacks_is [] name = refl
-lacks_is (p ∷ ps) name = by_name (bytes_eq p.name name) (lacks_is ps name)
-  where
-    by_name : (b : Bool) → is_none (text_under ps name) ≡ lacks ps name → is_none (cond b (Some p.text) (text_under ps name)) ≡ not (b || has_name ps name)
-    by_name true rest = refl
-    by_name false rest = rest
 
 -- a line on a connection was appended
 pub line_printed : (h h' : Hub) (w w' : World) (n : ℕ) (t before after : List ℕ) → StandsHub h w → StandsHub h' w'

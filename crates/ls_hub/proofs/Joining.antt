@@ -8,13 +8,14 @@ use Rattle.ls_event.specs.declared.event.Entry.{Entry}
 use Rattle.ls_event.specs.declared.event.Mode.{Mode}
 use Rattle.ls_event.specs.declared.event.Mode.TheVariants as mode
 use Rattle.ls_event.specs.declared.limits.TheConstants.{MOST_SLOTS}
-use Rattle.ls_event.specs.Joining.{plan_of, joined, rows_asked}
+use Rattle.ls_event.specs.Joining.{plan_of, joined, rows_asked, is_mode_of}
 use Rattle.ls_event.specs.Shapes.{Shape}
 use Rattle.ls_event.specs.Slots.{Plan}
 use Rattle.ls_mirror.specs.declared.command.KeyPlaces.{KeyPlaces}
 use Rattle.ls_request.specs.declared.request.Add.{Add}
 use Rattle.ls_world.specs.Cutting.{Ask, schema_of}
 use Rattle.ls_world.specs.Lawful.{Each}
+use Rattle.ls_world.specs.Light.{IsNarrow}
 use Rattle.ls_world.specs.World.{World, Item, Live, Session, definitions, shape_at, history_of, joined_slot, joined_all, keys_in, free_number, is_of, without}
 use Rattle.ls_world.specs.World.{on_board}
 use Rattle.ls_world.specs.World.{all_live}
@@ -34,7 +35,7 @@ use Rattle.ls_hub.proofs.Asking.{AsksApart, CanJoin}
 -- the slot that joins by what is asked of an item
 abbrev live_of : List Item → (ℕ → ℕ) → ℕ → ℕ → Ask → Live
 live_of items f sub rank q =
-    record { sub = sub; rank = rank; item = q.item; number = f q.item; wanted = q.wanted; slot = joined_slot items q }
+    record { sub = sub; rank = rank; item = q.item; number = f q.item; frequency = q.frequency; wanted = q.wanted; slot = joined_slot items q }
 
 slot_is : (items : List Item) (q : Ask) (p : PlanItem) → p.item ≡ q.item → p.mode ≡ q.mode → p.n ≡ q.size
     → rows_asked p.snapshot ≡ q.wanted.snapshot
@@ -105,25 +106,35 @@ followed_stands items sub rank q =
       keys = ap (λ (p : Plan). keys_in p.mode (schema_of q.wanted p))
           (sym (plan_same q.mode (shape_at items q.item) (history_of items q.item) q.size q.wanted.snapshot));
       row = refl;
+      wide = tt;
       has_started = started_none q.mode (shape_at items q.item) (history_of items q.item) q.size q.wanted.snapshot;
       table = holds_none (keys_of_ask (definitions items) q);
     }
 
 pub join_all : (items : List Item) (f : ℕ → ℕ) (sub rank : ℕ) (asks : List Ask) (ps : List PlanItem) → ArePlanItems (definitions items) sub rank asks ps
+    → Each (MayJoin (definitions items)) ps
     → JoinAll ps (map (λ v. v.number) (joined_all items f sub rank asks)) (joined_all items f sub rank asks)
-join_all items f sub rank [] [] are = tt
-join_all items f sub rank [] (p ∷ ps) are = absurd are
-join_all items f sub rank (q ∷ asks) [] are = absurd are
-join_all items f sub rank (q ∷ asks) (p ∷ ps) are =
-    let i = are.0 in (
+join_all items f sub rank [] [] are may = tt
+join_all items f sub rank [] (p ∷ ps) are may = absurd are
+join_all items f sub rank (q ∷ asks) [] are may = absurd are
+join_all items f sub rank (q ∷ asks) (p ∷ ps) are may =
+    let i = are.0 in
+    let plan : (joined_slot items q).plan ≡ plan_of (shape_at items q.item) (history_of items q.item) q.mode q.size =
+    plan_same q.mode (shape_at items q.item) (history_of items q.item) q.size q.wanted.snapshot in (
       record {
         sub = ap (λ (u : Subscribed). u.sub) (sym i.followed);
         rank = ap (λ (u : Subscribed). u.rank) (sym i.followed);
         item = sym i.item;
         number = refl;
+        mode = i.mode ∙ ap (λ (x : Plan). x.mode) (sym plan);
+        allowed = ap (λ (x : Plan). is_mode_of x.mode x.shape.kind) plan
+            ∙ ap (λ m. is_mode_of m (shape_at items q.item).kind) (sym i.mode)
+            ∙ ap (λ n. is_mode_of p.mode (shape_at items n).kind) (sym i.item) ∙ may.0.allowed;
+        frequency = i.frequency;
+        narrow = subst (λ (u : Subscribed). IsNarrow u.places) i.followed may.0.narrow;
         client = subst (λ (u : Subscribed). StandsSubscribed u q.wanted (joined_slot items q) []) (sym i.followed) (followed_stands items sub rank q);
       },
-      join_all items f sub (rank + 1) asks ps are.1,
+      join_all items f sub (rank + 1) asks ps are.1 may.1,
     )
 
 -- the slots that an accepted add asks for, behind a round

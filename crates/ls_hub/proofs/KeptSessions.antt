@@ -9,14 +9,14 @@ use Rattle.ls_session.specs.declared.session.Session.{Session as Kept}
 use Rattle.ls_hub.specs.Hub.{IsSession, AreSessions}
 
 -- one of the world changes, for which the kept one stands as it is
-pub are_same : (kept : List Kept) (sessions : List Session) (n : ℕ) (s : Session) (f : Session → Session) → slice_get sessions n ≡ Some s
-    → ((k : Kept) → IsSession k s → IsSession k (f s)) → AreSessions kept sessions → AreSessions kept (change n f sessions)
-are_same [] [] n s f found keeps are = tt
-are_same [] (x ∷ sessions) n s f found keeps are = absurd are
-are_same (y ∷ kept) [] n s f found keeps are = absurd are
-are_same (y ∷ kept) (x ∷ sessions) zero s f found keeps are =
-    let same : x ≡ s = cc in (subst (λ (z : Session). IsSession y z → IsSession y (f z)) (sym same) (keeps y) are.0, are.1)
-are_same (y ∷ kept) (x ∷ sessions) (suc n) s f found keeps are = (are.0, are_same kept sessions n s f found keeps are.1)
+pub are_same : (now : ℕ) (kept : List Kept) (sessions : List Session) (n : ℕ) (s : Session) (f : Session → Session) → slice_get sessions n ≡ Some s
+    → ((k : Kept) → IsSession now k s → IsSession now k (f s)) → AreSessions now kept sessions → AreSessions now kept (change n f sessions)
+are_same now [] [] n s f found keeps are = tt
+are_same now [] (x ∷ sessions) n s f found keeps are = absurd are
+are_same now (y ∷ kept) [] n s f found keeps are = absurd are
+are_same now (y ∷ kept) (x ∷ sessions) zero s f found keeps are =
+    let same : x ≡ s = cc in (subst (λ (z : Session). IsSession now y z → IsSession now y (f z)) (sym same) (keeps y) are.0, are.1)
+are_same now (y ∷ kept) (x ∷ sessions) (suc n) s f found keeps are = (are.0, are_same now kept sessions n s f found keeps are.1)
 
 -- a change of the n-th to what it is
 pub change_same : {A : Type 0} (n : ℕ) (xs : List A) (x : A) → slice_get xs n ≡ Some x → change n (λ y. x) xs ≡ xs
@@ -72,12 +72,12 @@ live_found (u ∷ vs) sub rank v apart found = by_test (is_at sub rank u) refl f
         }
 
 -- the slots of a session stand apart
-pub apart_at : (kept : List Kept) (sessions : List Session) (n : ℕ) (s : Session) → slice_get sessions n ≡ Some s → AreSessions kept sessions
+pub apart_at : (now : ℕ) (kept : List Kept) (sessions : List Session) (n : ℕ) (s : Session) → slice_get sessions n ≡ Some s → AreSessions now kept sessions
     → Apart s.board.round
-apart_at [] [] n s found are = absurd (let x : None ≡ Some s = found in cc)
-apart_at [] (x ∷ sessions) n s found are = absurd are
-apart_at (k ∷ kept) [] n s found are = absurd are
-apart_at (k ∷ kept) (x ∷ sessions) zero s found are =
+apart_at now [] [] n s found are = absurd (let x : None ≡ Some s = found in cc)
+apart_at now [] (x ∷ sessions) n s found are = absurd are
+apart_at now (k ∷ kept) [] n s found are = absurd are
+apart_at now (k ∷ kept) (x ∷ sessions) zero s found are =
     let same : x ≡ s = cc in
     subst (λ (y : Session). Apart y.board.round) (are.0.session ∙ same) are.0.stands.subs.apart
-apart_at (k ∷ kept) (x ∷ sessions) (suc n) s found are = apart_at kept sessions n s found are.1
+apart_at now (k ∷ kept) (x ∷ sessions) (suc n) s found are = apart_at now kept sessions n s found are.1

@@ -4,7 +4,7 @@ use Rattle.std.proofs.lemmas.List.{length-map}
 use Rattle.ls_world.specs.World.{Item, Live}
 use Rattle.ls_cells.specs.Cells.{AllCells, StandsCells}
 use Rattle.ls_subs.specs.Standing.{ref_of}
-use Rattle.ls_subs.specs.declared.slot_ref.SlotRef.{SlotRef}
+use Rattle.ls_turns.specs.declared.slot_ref.SlotRef.{SlotRef}
 use Rattle.ls_hub.specs.Requests.{Leave, LeftSoFar}
 
 -- the slot that is named at a place, and those behind it

@@ -9,8 +9,10 @@ pub mod Begun
 pub mod Requested
 pub mod Operated
 pub mod Repeats
+pub mod Quieted
 pub mod RoundTurns
 pub mod Telling
+pub mod Lights
 pub mod KeptSessions
 pub mod Hubs
 pub mod Publishing

@@ -19,7 +19,7 @@ use Rattle.ls_world.specs.Cases.{with_found}
 use Rattle.ls_world.specs.Lawful.{Apart}
 use Rattle.ls_world.specs.Script.{text_of_outs}
 use Rattle.ls_world.specs.World.{World, Item, Live, Session, change, definitions, all_live, live_at, on_board, enqueued_in, history_of, enqueue_slot}
-use Rattle.ls_subs.specs.declared.slot_ref.SlotRef.{SlotRef}
+use Rattle.ls_turns.specs.declared.slot_ref.SlotRef.{SlotRef}
 use Rattle.ls_subs.specs.Standing.{ref_of}
 use Rattle.ls_world.specs.Steps.{session_of, with_session}
 use Rattle.ls_world.specs.Steps.{Once, Stepped, stays, ends, goes_on, grown, is_whole, cause_to_refuse, publishes, enqueue_once}
@@ -40,6 +40,7 @@ use Rattle.ls_session.proofs.Enqueuing.{session_enqueued}
 -- a hub of which nothing changed but the cells
 pub record ChangedCells (h h' : Hub) : Type 0 where
   pub config : h'.config ≡ h.config
+  pub tick : h'.tick ≡ h.tick
   pub connections : h'.connections ≡ h.connections
   pub alive : h'.alive ≡ h.alive
   pub sessions : h'.sessions ≡ h.sessions
@@ -54,9 +55,11 @@ with_cells : (h h' : Hub) (w : World) → ChangedCells h h' → StandsHub h w �
 with_cells h h' w same st cells =
     record {
       set = ap (λ c. c.set) same.config ∙ st.set;
+      tick = same.tick ∙ st.tick;
+      in_range = st.in_range;
       definitions = ap (λ c. c.items) same.config ∙ st.definitions;
       cells = cells;
-      sessions = subst (λ ks. AreSessions ks.items w.sessions) (sym same.sessions) st.sessions;
+      sessions = subst (λ ks. AreSessions w.tick ks.items w.sessions) (sym same.sessions) st.sessions;
       alive = same.alive ∙ st.alive;
       connections = ap (λ cs. map seen cs.items) same.connections ∙ st.connections;
     }
@@ -66,9 +69,11 @@ with_event : (h h' : Hub) (w : World) (n : ℕ) (e : Entry) → ChangedCells h h
 with_event h h' w n e same st cells =
     record {
       set = ap (λ c. c.set) same.config ∙ st.set;
+      tick = same.tick ∙ st.tick;
+      in_range = st.in_range;
       definitions = ap (λ c. c.items) same.config ∙ st.definitions ∙ sym (grown_definitions w.items n e);
       cells = cells;
-      sessions = subst (λ ks. AreSessions ks.items w.sessions) (sym same.sessions) st.sessions;
+      sessions = subst (λ ks. AreSessions w.tick ks.items w.sessions) (sym same.sessions) st.sessions;
       alive = same.alive ∙ st.alive;
       connections = ap (λ cs. map seen cs.items) same.connections ∙ st.connections;
     }
@@ -217,7 +222,7 @@ pub slot_there : (h : Hub) (w : World) (connection place sub rank : ℕ) (k : Ke
     → ((r : Record) → StandsSession k r → o ≡ option_map ref_of (live_at sub rank r.session.board.round))
     → o ≡ option_map ref_of (slot_in w connection sub rank)
 slot_there h w connection place sub rank k o st linked low is finds =
-    let at = kept_read h.sessions.items w.sessions place k st.sessions low is in
+    let at = kept_read w.tick h.sessions.items w.sessions place k st.sessions low is in
     finds at.stands.asking at.stands.stands
     ∙ ap (λ (s : Session). option_map ref_of (live_at sub rank s.board.round)) at.stands.session
     ∙ sym (ap (option_map ref_of) (some_at h w connection place at.session None (λ n s. live_at sub rank s.board.round) st linked at.found))
@@ -229,11 +234,13 @@ EnqueueDid c c' item slot answer = (items : List Item) (a b : List Live) (v : Li
     × StandsCells c' items (a ++ enqueue_slot (history_of items v.item) v ∷ b)
 
 -- what is kept of a session stands for it, whatever its slots took
-keeps_enqueued : (items : List Item) (sub rank : ℕ) (s : Session) (k : Kept) → IsSession k s → IsSession k (on_board (enqueued_in items sub rank) s)
-keeps_enqueued items sub rank s k is =
+keeps_enqueued : (now : ℕ) (items : List Item) (sub rank : ℕ) (s : Session) (k : Kept) → IsSession now k s
+    → IsSession now k (on_board (enqueued_in items sub rank) s)
+keeps_enqueued now items sub rank s k is =
     record {
       asking = record is.asking { session = on_board (enqueued_in items sub rank) is.asking.session };
       session = ap (on_board (enqueued_in items sub rank)) is.session;
+      early = is.early;
       first = is.first;
       stands = session_enqueued k is.asking items sub rank is.stands;
     }
@@ -274,10 +281,13 @@ enqueue_at_place h h' w connection place sub rank s v answer text last st same l
     goes : StandsHub h' (record w { sessions = change place (on_board (enqueued_in w.items sub rank)) w.sessions })
     goes = record {
       set = ap (λ c. c.set) same.config ∙ st.set;
+      tick = same.tick ∙ st.tick;
+      in_range = st.in_range;
       definitions = ap (λ c. c.items) same.config ∙ st.definitions;
       cells = subst (StandsCells h'.cells w.items) (sym moved) done.1;
-      sessions = subst (λ ks. AreSessions ks.items (change place (on_board (enqueued_in w.items sub rank)) w.sessions)) (sym same.sessions)
-          (are_same h.sessions.items w.sessions place s (on_board (enqueued_in w.items sub rank)) found (keeps_enqueued w.items sub rank s) st.sessions);
+      sessions = subst (λ ks. AreSessions w.tick ks.items (change place (on_board (enqueued_in w.items sub rank)) w.sessions)) (sym same.sessions)
+          (are_same w.tick h.sessions.items w.sessions place s (on_board (enqueued_in w.items sub rank)) found
+          (keeps_enqueued w.tick w.items sub rank s) st.sessions);
       alive = same.alive ∙ st.alive ∙ sym (alive_changed w.sessions place s (on_board (enqueued_in w.items sub rank)) found refl);
       connections = ap (λ cs. map seen cs.items) same.connections ∙ st.connections;
     }
@@ -310,5 +320,5 @@ pub enqueue_did : (h h' : Hub) (w : World) (connection sub rank : ℕ) (slot : S
 enqueue_did h h' w connection sub rank slot answer text last st same named did said =
     let there = named.there in
     enqueue_at_place h h' w connection there.place sub rank there.session named.live answer text last st same there.linked there.found
-    (apart_at h.sessions.items w.sessions there.place there.session there.found st.sessions) there.at
+    (apart_at w.tick h.sessions.items w.sessions there.place there.session there.found st.sessions) there.at
     (subst (λ (x : SlotRef). EnqueueDid h.cells h'.cells x.item x.slot answer) named.is did) said

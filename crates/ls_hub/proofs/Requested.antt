@@ -1,6 +1,7 @@
 -- Requests by the cases of their definitions: which session one names, and what it does.
 use Rattle.std.proofs.Common.{◌≡◌, ◌⊎◌, ℕ, ◌<◌, ◌≤◌, List, ◌++◌, length, refl, sym, ◌∙◌, ap, subst, cond, inl, inr}
 use Rattle.std.proofs.Common.{Bool, true, false, Option, Some, None, slice_get, slice_index_or}
+use Rattle.std.specs.Option.{option_map_or}
 use Rattle.ls_form.specs.declared.form.Pair.{Pair}
 use Rattle.ls_line.specs.Lines.{text_of_line}
 use Rattle.ls_request.specs.declared.request.LinkKind.{LinkKind}
@@ -18,7 +19,7 @@ use Rattle.ls_session.specs.Session.{StandsSession}
 use Rattle.ls_session.specs.declared.session.Session.{Session as Kept}
 use Rattle.ls_hub.proofs.Sessions.{KeptAt, kept_read, none_kept}
 use Rattle.ls_world.specs.Cases.{with_found}
-use Rattle.ls_world.specs.Built.{are_built, is_built_if_read, is_built_request}
+use Rattle.ls_world.specs.Built.{are_built, is_built_request}
 use Rattle.ls_world.specs.Steps.{Stepped, with_living, session_named, refuses, operates, operated, acts, malformed, request_on, requests}
 use Rattle.ls_world.proofs.Rules.{found_none}
 use Rattle.ls_hub.specs.Hub.{StandsHub, Prints, link_at, name_at}
@@ -44,13 +45,13 @@ living_none sessions (Some n) none f is = by_found (slice_get sessions n) is
 -- as it is kept
 pub living_missing : (h : Hub) (w : World) (n : ℕ) → StandsHub h w → length h.sessions.items ≤ n → None ≡ living_place w.sessions (Some n)
 living_missing h w n st high =
-    sym (ap (λ o. with_found o None (λ (s : Session). cond (is_alive s.life) (Some n) None)) (none_kept h.sessions.items w.sessions n st.sessions high))
+    sym (ap (λ o. with_found o None (λ (s : Session). cond (is_alive s.life) (Some n) None)) (none_kept w.tick h.sessions.items w.sessions n st.sessions high))
 
 pub living_there : (h : Hub) (w : World) (n : ℕ) (k : Kept) (b : Bool) → StandsHub h w → n < length h.sessions.items
     → k ≡ slice_index_or h.sessions.items n k → ((r : Record) → StandsSession k r → b ≡ is_alive r.session.life)
     → cond b (Some n) None ≡ living_place w.sessions (Some n)
 living_there h w n k b st low at is =
-    let r : KeptAt k w.sessions n = kept_read h.sessions.items w.sessions n k st.sessions low at in
+    let r : KeptAt w.tick k w.sessions n = kept_read w.tick h.sessions.items w.sessions n k st.sessions low at in
     ap (λ x. cond x (Some n) None) (is r.stands.asking r.stands.stands ∙ ap (λ (s : Session). is_alive s.life) r.stands.session)
     ∙ sym (ap (λ o. with_found o None (λ (s : Session). cond (is_alive s.life) (Some n) None)) r.found)
 
@@ -127,22 +128,22 @@ unread_printed h w n l name ps e req before after st at (inr x) is did =
     let named : unread.Malformed (req_behind name ps) ≡ unread.Malformed req = sym x.1 ∙ is in
     let same : req_behind name ps ≡ req = cc in
     let unread_on : request_on w n name (Some ps) ≡ None = ap (λ k. request_of k name ps) (sym (at ∙ link_is h.connections.items w n st.connections)) ∙ x.0 in (
-      ap (is_built_if_read ps) unread_on,
+      ap (λ o. option_map_or is_built_request o true) unread_on,
       subst (λ (s : Stepped). Prints s before after h) (sym (found_none (request_on w n name (Some ps)) _ _ unread_on ∙ ap (malformed w n name) same)) did,
     )
 
 -- one that was read
 pub read_printed : (h h' : Hub) (w : World) (n : ℕ) (l : LinkKind) (name : List ℕ) (ps : List Pair) (r : Request) (before after : List ℕ) → StandsHub h w
     → l ≡ link_at h.connections.items n → request_of l name ps ≡ Some r
-    → (is_built_request ps r ≡ true) × Prints (acts w n r) before after h'
+    → (is_built_request r ≡ true) × Prints (acts w n r) before after h'
     → (are_built w n name (Some ps) ≡ true) × Prints (requests w n name (Some ps)) before after h'
 read_printed h h' w n l name ps r before after st at is did =
     let read_on : request_on w n name (Some ps) ≡ Some r = ap (λ k. request_of k name ps) (sym (at ∙ link_is h.connections.items w n st.connections)) ∙ is in (
-      ap (is_built_if_read ps) read_on ∙ did.0,
+      ap (λ o. option_map_or is_built_request o true) read_on ∙ did.0,
       subst (λ (s : Stepped). Prints s before after h') (sym (ap (λ o. with_found o (malformed w n name (req_behind name ps)) (acts w n)) read_on)) did.1,
     )
 
 pub read_unbuilt : (h : Hub) (w : World) (n : ℕ) (l : LinkKind) (name : List ℕ) (ps : List Pair) (r : Request) → StandsHub h w
-    → l ≡ link_at h.connections.items n → request_of l name ps ≡ Some r → is_built_request ps r ≡ false → are_built w n name (Some ps) ≡ false
+    → l ≡ link_at h.connections.items n → request_of l name ps ≡ Some r → is_built_request r ≡ false → are_built w n name (Some ps) ≡ false
 read_unbuilt h w n l name ps r st at is unbuilt =
-    ap (is_built_if_read ps) (ap (λ k. request_of k name ps) (sym (at ∙ link_is h.connections.items w n st.connections)) ∙ is) ∙ unbuilt
+    ap (λ o. option_map_or is_built_request o true) (ap (λ k. request_of k name ps) (sym (at ∙ link_is h.connections.items w n st.connections)) ∙ is) ∙ unbuilt

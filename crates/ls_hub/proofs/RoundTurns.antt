@@ -1,21 +1,25 @@
--- A session's turn in steps: a slot has nothing, its cut makes no line, or its cut makes one.
-use Rattle.std.proofs.Common.{◌≡◌, ℕ, zero, suc, ◌+◌, ◌≤◌, List, [], ◌∷◌, ◌++◌, length, take, drop, refl, sym, ◌∙◌, ap, arith, subst, cond, true, false}
-use Rattle.std.proofs.Common.{append_assoc, append-nil, nat_le, slice_get, Option, Some, None}
+-- A session's turn in steps: a slot has nothing or waits, its cut makes no line, or its cut makes one.
+use Rattle.std.proofs.Common.{◌≡◌, ℕ, zero, suc, ◌+◌, ◌≤◌, List, [], ◌∷◌, ◌++◌, length, take, drop, refl, sym, ◌∙◌, ap, arith, subst, cond, Bool, true, false}
+use Rattle.std.proofs.Common.{append_assoc, append-nil, nat_le, slice_get, Option, Some, None, not, ◌&&◌, ◌||◌, min}
+use Rattle.std.specs.List.{list_any}
+use Rattle.std.specs.Option.{option_map_or}
 use Rattle.ls_event.specs.declared.event.Entry.{Entry}
 use Rattle.ls_event.specs.declared.event.Taken.{Taken}
 use Rattle.ls_event.specs.Slots.{Slot, passed}
-use Rattle.ls_event.specs.Cuts.{cut}
+use Rattle.ls_event.specs.Cuts.{cut, is_pending}
 use Rattle.ls_mirror.specs.Client.{What}
 use Rattle.ls_value.specs.declared.limits.TheConstants.{GREATEST_NUMBER}
 use Rattle.ls_world.specs.Came.{Came, came_by}
 use Rattle.ls_world.specs.Cases.{with_found}
 use Rattle.ls_world.specs.Cutting.{Wanted, Turn, what_of_cut, turn_within, turn}
-use Rattle.ls_world.specs.Lines.{Line, Tells, came}
-use Rattle.ls_world.specs.World.{Item, Live, Session, Life, Alive, Ending, Ended, RoundLine, Round, history_of, change, round_of, on_board, is_unsent}
-use Rattle.ls_world.specs.Steps.{SessionTurn, Idle, Spent, next_given, round_turn, turn_owing, turn_living, session_turn}
+use Rattle.ls_world.specs.Lines.{Tells, came}
+use Rattle.ls_world.specs.World.{Item, Live, Session, Life, Alive, Ending, Ended, RoundLine, Round, history_of, change, live_turn, round_of}
+use Rattle.ls_world.specs.World.{on_board, is_unsent}
+use Rattle.ls_world.specs.World.{is_due, due_at, is_waiting, waits_of, least_of, least_wait}
+use Rattle.ls_world.specs.Steps.{SessionTurn, Spent, waits_until, next_given, round_turn, turn_owing, turn_living, session_turn}
 use Rattle.ls_world.proofs.Parts.{turn_or, turn_by, given_by}
 use Rattle.ls_world.proofs.Turns.{turn_ends}
-use Rattle.ls_hub.specs.Turning.{given_behind, rest_of_round, round_from, owing_from, living_from}
+use Rattle.ls_hub.specs.Turning.{before_ticks, given_behind, round_behind, rest_of_round, owing_from, living_from}
 
 -- the place of an element in a list
 pub drop_at : {A : Type 0} (xs : List A) (n : ℕ) (x : A) → slice_get xs n ≡ Some x → drop n xs ≡ x ∷ drop (suc n) xs
@@ -119,101 +123,230 @@ met v vs rest t =
     with_found t.came (record rest { kept = record v { slot = t.slot } ∷ rest.kept })
     (λ c. record { kept = vs; came = Some (record { live = record v { slot = t.slot }; came = c }) })
 
-abbrev all_due : List Item → List Line → List Live → Round
-all_due items lines vs = round_of (λ v. true) items lines vs
+abbrev nothing : Live → Turn
+nothing v = record { slot = v.slot; came = None }
+
+-- whether no number is left
+abbrev pub is_full : Session → Bool
+is_full s = nat_le GREATEST_NUMBER (length s.board.lines)
+
+none_left : (a b full : Bool) → full ≡ false → (a && full) ≡ (b && full)
+none_left true true full is = refl
+none_left true false full is = is
+none_left false true full is = sym is
+none_left false false full is = refl
 
 -- a slot that has nothing stands before the others
-nothing_kept : (s : Session) (first : List Live) (v : Live) (kept : List Live) (o : Option RoundLine)
-    → given_behind s first (record { kept = v ∷ kept; came = o }) ≡ given_behind s (first ++ v ∷ []) (record { kept = kept; came = o })
-nothing_kept s first v kept None = ap (λ (vs : List Live). given_behind s [] (record { kept = vs; came = None })) (sym (append_assoc first (v ∷ []) kept))
-nothing_kept s first v kept (Some t) =
-    ap (λ (vs : List Live). given_behind s [] (record { kept = vs; came = Some t })) (sym (append_assoc first (v ∷ []) kept))
+nothing_kept : (now : ℕ) (s : Session) (first : List Live) (wait : Option ℕ) (v : Live) (kept : List Live) (o : Option RoundLine)
+    → given_behind now s first wait (record { kept = v ∷ kept; came = o }) ≡ given_behind now s (first ++ v ∷ []) wait (record { kept = kept; came = o })
+nothing_kept now s first wait v kept None =
+    ap (λ (vs : List Live). given_behind now s [] wait (record { kept = vs; came = None })) (sym (append_assoc first (v ∷ []) kept))
+nothing_kept now s first wait v kept (Some t) =
+    ap (λ (vs : List Live). given_behind now s [] wait (record { kept = vs; came = Some t })) (sym (append_assoc first (v ∷ []) kept))
 
--- a slot has nothing: the next one is asked
-nothing_at : (items : List Item) (s : Session) (n : ℕ) (v : Live) → slice_get s.board.round n ≡ Some v → cut (history_of items v.item) v.slot ≡ None
-    → rest_of_round items s n ≡ rest_of_round items s (suc n)
-nothing_at items s n v at none =
-    let rest : List Live = drop (suc n) s.board.round in
-    ap (λ (vs : List Live). given_behind s (take n s.board.round) (all_due items s.board.lines vs)) (drop_at s.board.round n v at)
-    ∙ ap (λ (t : Turn). given_behind s (take n s.board.round) (met v rest (all_due items s.board.lines rest) t))
-    (turn_none (history_of items v.item) v.wanted v.slot (came v.sub v.rank s.board.lines) none)
-    ∙ nothing_kept s (take n s.board.round) v (all_due items s.board.lines rest).kept (all_due items s.board.lines rest).came
-    ∙ ap (λ (vs : List Live). given_behind s vs (all_due items s.board.lines rest)) (sym (take_at s.board.round n v at))
-
--- behind the last slot there is nothing
-at_end : (items : List Item) (s : Session) (n : ℕ) → slice_get s.board.round n ≡ None → rest_of_round items s n ≡ record { session = s; gives = Idle }
-at_end items s n none =
-    ap (λ (vs : List Live). given_behind s (take n s.board.round) (all_due items s.board.lines vs)) (none_behind s.board.round n none)
-    ∙ ap (λ (vs : List Live). given_behind s [] (record { kept = vs; came = None })) (append-nil (take n s.board.round) ∙ past_end s.board.round n none)
-
-pub nothing_told : (items : List Item) (s : Session) (n : ℕ) (v : Live) → nat_le GREATEST_NUMBER (length s.board.lines) ≡ false
-    → slice_get s.board.round n ≡ Some v → cut (history_of items v.item) v.slot ≡ None
-    → rest_of_round items s n ≡ round_from items s (n + 1) (slice_get s.board.round (n + 1))
-nothing_told items s n v left at none =
-    nothing_at items s n v at none ∙ ap (λ m. rest_of_round items s m) {x = suc n} {y = n + 1} (omega arith)
-    ∙ by_next (slice_get s.board.round (n + 1)) refl
+-- the least of ticks, one of which was met
+least_met : (wait : Option ℕ) (tick : ℕ) (ticks : List ℕ)
+    → least_of (before_ticks wait (tick ∷ ticks)) ≡ least_of (before_ticks (Some (option_map_or (min tick) wait tick)) ticks)
+least_met None tick ticks = refl
+least_met (Some a) tick ticks = by_rest (least_of ticks)
   where
-    by_next : (o : Option Live) → slice_get s.board.round (n + 1) ≡ o → rest_of_round items s (n + 1) ≡ round_from items s (n + 1) o
-    by_next None is = at_end items s (n + 1) is
-    by_next (Some u) is = ap (λ b. cond b (record { session = s; gives = Spent }) (rest_of_round items s (n + 1))) (sym left)
+    by_rest : (o : Option ℕ) → Some (min a (option_map_or (min tick) o tick)) ≡ Some (option_map_or (min (min tick a)) o (min tick a))
+    by_rest None = ap (λ n. Some n) (let e : min a tick ≡ min tick a = omega arith in e)
+    by_rest (Some b) = ap (λ n. Some n) (let e : min a (min tick b) ≡ min (min tick a) b = omega arith in e)
 
--- a slot's cut makes no line: the slot is past it, and is asked again
+least_one : (wait : Option ℕ) → least_of (before_ticks wait []) ≡ wait
+least_one None = refl
+least_one (Some tick) = refl
+
+module _ (now : ℕ) (items : List Item) (s : Session) where
+  -- the first slot behind has nothing to give: it is before the next one
+  slot_passed : (first : List Live) (wait next : Option ℕ) (v : Live) (rest : List Live)
+      → (list_any (is_due now s) (v ∷ rest) && is_full s) ≡ (list_any (is_due now s) rest && is_full s)
+      → live_turn (is_due now s) items s.board.lines v ≡ nothing v
+      → least_of (before_ticks wait (waits_of now items s (v ∷ rest))) ≡ least_of (before_ticks next (waits_of now items s rest))
+      → round_behind now items s first wait (v ∷ rest) ≡ round_behind now items s (first ++ v ∷ []) next rest
+  slot_passed first wait next v rest left none least =
+      ap (λ b. cond b (record { session = s; gives = Spent })
+      (given_behind now s first (least_of (before_ticks wait (waits_of now items s (v ∷ rest)))) (round_of (is_due now s) items s.board.lines (v ∷ rest)))) left
+      ∙ ap (cond (list_any (is_due now s) rest && is_full s) (record { session = s; gives = Spent }))
+      (ap (λ w. given_behind now s first w (round_of (is_due now s) items s.board.lines (v ∷ rest))) least
+      ∙ ap (λ (t : Turn). given_behind now s first (least_of (before_ticks next (waits_of now items s rest)))
+      (met v rest (round_of (is_due now s) items s.board.lines rest) t)) none
+      ∙ nothing_kept now s first (least_of (before_ticks next (waits_of now items s rest))) v (round_of (is_due now s) items s.board.lines rest).kept
+      (round_of (is_due now s) items s.board.lines rest).came)
+
+  -- a number is left for what the slots behind give
+  left_for : (first : List Live) (wait : Option ℕ) (vs : List Live) → is_full s ≡ false
+      → round_behind now items s first wait vs
+      ≡ given_behind now s first (least_of (before_ticks wait (waits_of now items s vs))) (round_of (is_due now s) items s.board.lines vs)
+  left_for first wait vs left =
+      ap (λ b. cond b (record { session = s; gives = Spent })
+      (given_behind now s first (least_of (before_ticks wait (waits_of now items s vs))) (round_of (is_due now s) items s.board.lines vs)))
+      (none_left (list_any (is_due now s) vs) false (is_full s) left)
+
+  -- a slot that doesn't wait
+  unwaited : (v : Live) (rest : List Live) → is_waiting now items s v ≡ false → waits_of now items s (v ∷ rest) ≡ waits_of now items s rest
+  unwaited v rest is = ap (λ b. cond b (due_at now s v ∷ waits_of now items s rest) (waits_of now items s rest)) is
+
+  due_unwaited : (v : Live) → is_due now s v ≡ true → is_waiting now items s v ≡ false
+  due_unwaited v due = ap (λ b. not b && is_pending (history_of items v.item) v.slot) due
+
+  -- a due slot has nothing
+  due_passed : (first : List Live) (wait : Option ℕ) (v : Live) (rest : List Live) → is_due now s v ≡ true → is_full s ≡ false
+      → cut (history_of items v.item) v.slot ≡ None
+      → round_behind now items s first wait (v ∷ rest) ≡ round_behind now items s (first ++ v ∷ []) wait rest
+  due_passed first wait v rest due left none =
+      slot_passed first wait wait v rest (none_left (list_any (is_due now s) (v ∷ rest)) (list_any (is_due now s) rest) (is_full s) left)
+      (ap (λ b. cond b (turn (history_of items v.item) v.wanted v.slot (came v.sub v.rank s.board.lines)) (nothing v)) due
+      ∙ turn_none (history_of items v.item) v.wanted v.slot (came v.sub v.rank s.board.lines) none)
+      (ap (λ ticks. least_of (before_ticks wait ticks)) (unwaited v rest (due_unwaited v due)))
+
+  -- a slot that isn't due has nothing, or waits
+  undue_passed : (first : List Live) (wait next : Option ℕ) (v : Live) (rest : List Live) → is_due now s v ≡ false
+      → least_of (before_ticks wait (waits_of now items s (v ∷ rest))) ≡ least_of (before_ticks next (waits_of now items s rest))
+      → round_behind now items s first wait (v ∷ rest) ≡ round_behind now items s (first ++ v ∷ []) next rest
+  undue_passed first wait next v rest undue least =
+      slot_passed first wait next v rest (ap (λ b. (b || list_any (is_due now s) rest) && is_full s) undue)
+      (ap (λ b. cond b (turn (history_of items v.item) v.wanted v.slot (came v.sub v.rank s.board.lines)) (nothing v)) undue) least
+
+  quiet_passed : (first : List Live) (wait : Option ℕ) (v : Live) (rest : List Live) → is_due now s v ≡ false
+      → is_pending (history_of items v.item) v.slot ≡ false
+      → round_behind now items s first wait (v ∷ rest) ≡ round_behind now items s (first ++ v ∷ []) wait rest
+  quiet_passed first wait v rest undue quiet =
+      undue_passed first wait wait v rest undue
+      (ap (λ ticks. least_of (before_ticks wait ticks))
+      (unwaited v rest (ap (λ b. not b && is_pending (history_of items v.item) v.slot) undue ∙ quiet)))
+
+  waiting_passed : (first : List Live) (wait : Option ℕ) (v : Live) (rest : List Live) → is_due now s v ≡ false
+      → is_pending (history_of items v.item) v.slot ≡ true
+      → round_behind now items s first wait (v ∷ rest)
+      ≡ round_behind now items s (first ++ v ∷ []) (Some (option_map_or (min (due_at now s v)) wait (due_at now s v))) rest
+  waiting_passed first wait v rest undue pends =
+      undue_passed first wait (Some (option_map_or (min (due_at now s v)) wait (due_at now s v))) v rest undue
+      (ap (λ b. least_of (before_ticks wait (cond b (due_at now s v ∷ waits_of now items s rest) (waits_of now items s rest))))
+      (ap (λ b. not b && is_pending (history_of items v.item) v.slot) undue ∙ pends)
+      ∙ least_met wait (due_at now s v) (waits_of now items s rest))
+
+  -- behind the last slot there is nothing, before the least tick at which one that waits is due
+  pub at_end : (n : ℕ) (wait : Option ℕ) → slice_get s.board.round n ≡ None
+      → rest_of_round now items s n wait ≡ record { session = s; gives = waits_until wait }
+  at_end n wait none =
+      ap (λ (vs : List Live). round_behind now items s (take n s.board.round) wait vs) (none_behind s.board.round n none)
+      ∙ ap (λ (vs : List Live). round_behind now items s vs wait []) (past_end s.board.round n none)
+      ∙ ap (λ w. given_behind now s s.board.round w (record { kept = []; came = None })) (least_one wait)
+      ∙ ap (λ (vs : List Live). given_behind now s [] wait (record { kept = vs; came = None })) (append-nil s.board.round)
+
+  -- the slot of a place
+  slot_at : (n : ℕ) (wait : Option ℕ) (v : Live) → slice_get s.board.round n ≡ Some v
+      → rest_of_round now items s n wait ≡ round_behind now items s (take n s.board.round) wait (v ∷ drop (suc n) s.board.round)
+  slot_at n wait v at = ap (λ (vs : List Live). round_behind now items s (take n s.board.round) wait vs) (drop_at s.board.round n v at)
+
+  next_at : (n : ℕ) (wait : Option ℕ) (v : Live) → slice_get s.board.round n ≡ Some v
+      → round_behind now items s (take n s.board.round ++ v ∷ []) wait (drop (suc n) s.board.round) ≡ rest_of_round now items s (n + 1) wait
+  next_at n wait v at =
+      ap (λ (vs : List Live). round_behind now items s vs wait (drop (suc n) s.board.round)) (sym (take_at s.board.round n v at))
+      ∙ ap (λ m. rest_of_round now items s m wait) {x = suc n} {y = n + 1} (omega arith)
+
+  pub nothing_told : (n : ℕ) (wait : Option ℕ) (v : Live) → is_due now s v ≡ true → is_full s ≡ false → slice_get s.board.round n ≡ Some v
+      → cut (history_of items v.item) v.slot ≡ None → rest_of_round now items s n wait ≡ rest_of_round now items s (n + 1) wait
+  nothing_told n wait v due left at none =
+      slot_at n wait v at ∙ due_passed (take n s.board.round) wait v (drop (suc n) s.board.round) due left none ∙ next_at n wait v at
+
+  pub quiet_told : (n : ℕ) (wait : Option ℕ) (v : Live) → is_due now s v ≡ false → slice_get s.board.round n ≡ Some v
+      → is_pending (history_of items v.item) v.slot ≡ false → rest_of_round now items s n wait ≡ rest_of_round now items s (n + 1) wait
+  quiet_told n wait v undue at quiet =
+      slot_at n wait v at ∙ quiet_passed (take n s.board.round) wait v (drop (suc n) s.board.round) undue quiet ∙ next_at n wait v at
+
+  pub waiting_told : (n : ℕ) (wait : Option ℕ) (v : Live) → is_due now s v ≡ false → slice_get s.board.round n ≡ Some v
+      → is_pending (history_of items v.item) v.slot ≡ true
+      → rest_of_round now items s n wait ≡ rest_of_round now items s (n + 1) (Some (option_map_or (min (due_at now s v)) wait (due_at now s v)))
+  waiting_told n wait v undue at pends =
+      slot_at n wait v at ∙ waiting_passed (take n s.board.round) wait v (drop (suc n) s.board.round) undue pends
+      ∙ next_at n (Some (option_map_or (min (due_at now s v)) wait (due_at now s v))) v at
+
+  -- a due slot, where no number is left
+  pub spent_told : (n : ℕ) (wait : Option ℕ) (v : Live) → is_due now s v ≡ true → is_full s ≡ true → slice_get s.board.round n ≡ Some v
+      → rest_of_round now items s n wait ≡ record { session = s; gives = Spent }
+  spent_told n wait v due full at =
+      slot_at n wait v at
+      ∙ ap (λ b. cond ((b || list_any (is_due now s) (drop (suc n) s.board.round)) && is_full s) (record { session = s; gives = Spent })
+      (given_behind now s (take n s.board.round) (least_of (before_ticks wait (waits_of now items s (v ∷ drop (suc n) s.board.round))))
+      (round_of (is_due now s) items s.board.lines (v ∷ drop (suc n) s.board.round)))) due
+      ∙ ap (λ b. cond b (record { session = s; gives = Spent })
+      (given_behind now s (take n s.board.round) (least_of (before_ticks wait (waits_of now items s (v ∷ drop (suc n) s.board.round))))
+      (round_of (is_due now s) items s.board.lines (v ∷ drop (suc n) s.board.round)))) full
+
+-- a due slot's cut makes no line: the slot is past it, and is asked again
 abbrev moved : Taken → Live → Live
 moved t v = record v { slot = passed v.slot t }
 
-pub silent_told : (items : List Item) (s : Session) (n : ℕ) (v : Live) (t : Taken) → slice_get s.board.round n ≡ Some v
-    → cut (history_of items v.item) v.slot ≡ Some t → what_of_cut v.wanted v.slot (came v.sub v.rank s.board.lines) t ≡ None
-    → rest_of_round items s n ≡ rest_of_round items (on_board (λ b. record b { round = change n (moved t) b.round }) s) n
-silent_told items s n v t at is none =
-    let rest : List Live = drop (suc n) s.board.round in
-    ap (λ (vs : List Live). given_behind s (take n s.board.round) (all_due items s.board.lines vs)) (drop_at s.board.round n v at)
-    ∙ ap (λ (u : Turn). given_behind s (take n s.board.round) (met v rest (all_due items s.board.lines rest) u))
-    (turn_silent (history_of items v.item) v.wanted v.slot (came v.sub v.rank s.board.lines) t is none)
-    ∙ ap (λ (vs : List Live). given_behind s (take n s.board.round) (all_due items s.board.lines vs)) (sym (drop_changed (moved t) s.board.round n v at))
-    ∙ ap (λ (vs : List Live). given_behind s vs (all_due items s.board.lines (drop n (change n (moved t) s.board.round))))
-    (sym (take_changed (moved t) s.board.round n))
+module _ (now : ℕ) (items : List Item) (s : Session) (n : ℕ) (wait : Option ℕ) (v : Live) (t : Taken) (due : is_due now s v ≡ true)
+    (left : is_full s ≡ false) (at : slice_get s.board.round n ≡ Some v) (is : cut (history_of items v.item) v.slot ≡ Some t) where
+  abbrev first : List Live
+  first = take n s.board.round
 
--- a slot's cut makes a line: it is given, and the slot goes to the back
-pub line_told : (items : List Item) (s : Session) (n : ℕ) (v : Live) (t : Taken) (what : What) → slice_get s.board.round n ≡ Some v
-    → cut (history_of items v.item) v.slot ≡ Some t → what_of_cut v.wanted v.slot (came v.sub v.rank s.board.lines) t ≡ Some what
-    → rest_of_round items s n ≡ next_given (on_board (λ b. record {
-      lines = Tells v.sub v.rank (came_by v.slot t what) ∷ b.lines;
-      round = (take n b.round ++ drop (n + 1) b.round) ++ moved t v ∷ [];
-    }) s)
-line_told items s n v t what at is some =
-    let rest : List Live = drop (suc n) s.board.round in
-    ap (λ (vs : List Live). given_behind s (take n s.board.round) (all_due items s.board.lines vs)) (drop_at s.board.round n v at)
-    ∙ ap (λ (u : Turn). given_behind s (take n s.board.round) (met v rest (all_due items s.board.lines rest) u))
-    (turn_told (history_of items v.item) v.wanted v.slot (came v.sub v.rank s.board.lines) t what is some)
-    ∙ ap (λ (m : ℕ). next_given (on_board (λ b. record {
-      lines = Tells v.sub v.rank (came_by v.slot t what) ∷ b.lines;
-      round = (take n b.round ++ drop m b.round) ++ moved t v ∷ [];
-    }) s)) {x = suc n} {y = n + 1} (omega arith)
+  abbrev rest : List Live
+  rest = drop (suc n) s.board.round
+
+  pub silent_told : what_of_cut v.wanted v.slot (came v.sub v.rank s.board.lines) t ≡ None
+      → rest_of_round now items s n wait ≡ rest_of_round now items (on_board (λ b. record b { round = change n (moved t) b.round }) s) n wait
+  silent_told none =
+      slot_at now items s n wait v at ∙ left_for now items s first wait (v ∷ rest) left
+      ∙ ap (λ ticks. given_behind now s first (least_of (before_ticks wait ticks)) (round_of (is_due now s) items s.board.lines (v ∷ rest)))
+      (unwaited now items s v rest (due_unwaited now items s v due) ∙ sym (unwaited now items s (moved t v) rest (due_unwaited now items s (moved t v) due)))
+      ∙ ap (λ (u : Turn). given_behind now s first (least_of (before_ticks wait (waits_of now items s (moved t v ∷ rest))))
+      (met v rest (round_of (is_due now s) items s.board.lines rest) u))
+      (ap (λ b. cond b (turn (history_of items v.item) v.wanted v.slot (came v.sub v.rank s.board.lines)) (nothing v)) due
+      ∙ turn_silent (history_of items v.item) v.wanted v.slot (came v.sub v.rank s.board.lines) t is none
+      ∙ sym (ap (λ b. cond b (turn (history_of items v.item) v.wanted (passed v.slot t) (came v.sub v.rank s.board.lines)) (nothing (moved t v))) due))
+      ∙ ap (λ (vs : List Live). given_behind now s first (least_of (before_ticks wait (waits_of now items s vs)))
+      (round_of (is_due now s) items s.board.lines vs)) (sym (drop_changed (moved t) s.board.round n v at))
+      ∙ ap (λ (vs : List Live). given_behind now s vs (least_of (before_ticks wait (waits_of now items s (drop n (change n (moved t) s.board.round)))))
+      (round_of (is_due now s) items s.board.lines (drop n (change n (moved t) s.board.round)))) (sym (take_changed (moved t) s.board.round n))
+      ∙ sym (left_for now items (on_board (λ b. record b { round = change n (moved t) b.round }) s) (take n (change n (moved t) s.board.round)) wait
+      (drop n (change n (moved t) s.board.round)) left)
+
+  -- a due slot's cut makes a line: it is given, and the slot goes to the back
+  pub line_told : (what : What) → what_of_cut v.wanted v.slot (came v.sub v.rank s.board.lines) t ≡ Some what
+      → rest_of_round now items s n wait ≡ next_given (on_board (λ b. record {
+        lines = Tells v.sub v.rank now (came_by v.slot t what) ∷ b.lines;
+        round = (take n b.round ++ drop (n + 1) b.round) ++ moved t v ∷ [];
+      }) s)
+  line_told what some =
+      slot_at now items s n wait v at ∙ left_for now items s first wait (v ∷ rest) left
+      ∙ ap (λ (u : Turn). given_behind now s first (least_of (before_ticks wait (waits_of now items s (v ∷ rest))))
+      (met v rest (round_of (is_due now s) items s.board.lines rest) u))
+      (ap (λ b. cond b (turn (history_of items v.item) v.wanted v.slot (came v.sub v.rank s.board.lines)) (nothing v)) due
+      ∙ turn_told (history_of items v.item) v.wanted v.slot (came v.sub v.rank s.board.lines) t what is some)
+      ∙ ap (λ (m : ℕ). next_given (on_board (λ b. record {
+        lines = Tells v.sub v.rank now (came_by v.slot t what) ∷ b.lines;
+        round = (take n b.round ++ drop m b.round) ++ moved t v ∷ [];
+      }) s)) {x = suc n} {y = n + 1} (omega arith)
 
 -- a turn from the first slot is the session's turn
-whole_round : (s : Session) (kept : List Live) (o : Option RoundLine) → given_behind s [] (record { kept = kept; came = o })
-    ≡ with_found o (record { session = record s { board = given_by s.board kept o }; gives = Idle })
-    (λ t. next_given (record s { board = given_by s.board kept o }))
-whole_round s kept None = refl
-whole_round s kept (Some t) = refl
+whole_round : (now : ℕ) (s : Session) (wait : Option ℕ) (kept : List Live) (o : Option RoundLine)
+    → given_behind now s [] wait (record { kept = kept; came = o })
+    ≡ with_found o (record { session = record s { board = given_by now s.board kept o }; gives = waits_until wait })
+    (λ t. next_given (record s { board = given_by now s.board kept o }))
+whole_round now s wait kept None = refl
+whole_round now s wait kept (Some t) = refl
 
-pub from_first : (items : List Item) (s : Session) → living_from items s 0 s.life ≡ session_turn items s
-from_first items s = by_life s.life refl
+pub from_first : (now : ℕ) (items : List Item) (s : Session) → living_from now items s 0 None s.life ≡ session_turn now items s
+from_first now items s = by_life s.life refl
   where
     met_all : Round
-    met_all = all_due items s.board.lines s.board.round
+    met_all = round_of (is_due now s) items s.board.lines s.board.round
 
-    by_slots : (vs : List Live) → round_from items s 0 (slice_get vs 0) ≡ round_turn items s vs
-    by_slots [] = refl
-    by_slots (v ∷ vs) =
-        ap (λ (t : SessionTurn). cond (nat_le GREATEST_NUMBER (length s.board.lines)) (record { session = s; gives = Spent }) t)
-        (whole_round s met_all.kept met_all.came)
+    by_round : rest_of_round now items s 0 None ≡ round_turn now items s
+    by_round =
+        ap (λ (t : SessionTurn). cond (list_any (is_due now s) s.board.round && is_full s) (record { session = s; gives = Spent }) t)
+        (whole_round now s (least_wait now items s) met_all.kept met_all.came)
 
-    by_owed : (owed : List (List ℕ)) → owing_from items s 0 owed ≡ turn_owing items s owed
+    by_owed : (owed : List (List ℕ)) → owing_from now items s 0 None owed ≡ turn_owing now items s owed
     by_owed (text ∷ owed) = refl
-    by_owed [] = ap (λ (t : SessionTurn). cond (is_unsent s) (next_given s) t) (by_slots s.board.round)
+    by_owed [] = ap (λ (t : SessionTurn). cond (is_unsent s) (next_given s) t) by_round
 
-    by_life : (l : Life) → s.life ≡ l → living_from items s 0 l ≡ turn_living items s l
+    by_life : (l : Life) → s.life ≡ l → living_from now items s 0 None l ≡ turn_living now items s l
     by_life Alive is = by_owed s.owed
-    by_life (Ending code) is = ap (λ (l : Life). turn_living items s l) is
-    by_life (Ended code) is = ap (λ (l : Life). turn_living items s l) is
+    by_life (Ending code) is = ap (λ (l : Life). turn_living now items s l) is
+    by_life (Ended code) is = ap (λ (l : Life). turn_living now items s l) is

@@ -2,6 +2,7 @@
 use Rattle.std.specs.Prelude.{◌≡◌, ◌≤◌, ℕ, List, [], ◌∷◌, ◌++◌, map, Bool, true, false, Option, None, Some}
 use Rattle.std.specs.Prelude.{Result, Ok, Err, slice_get, option_and_then}
 use Rattle.std.specs.Option.{option_map_or}
+use Rattle.ls_budget.specs.declared.limits.TheConstants.{GREATEST_TICK}
 use Rattle.ls_cell.specs.declared.cell.Enqueued.{Enqueued}
 use Rattle.ls_cell.specs.declared.cell.Enqueued.TheVariants as enqueued
 use Rattle.ls_event.specs.declared.event.PublishRefused.{PublishRefused}
@@ -21,32 +22,39 @@ use Rattle.ls_hub.specs.declared.hub.Connection.{Connection as Linked}
 use Rattle.ls_hub.specs.declared.hub.Hub.{Hub}
 use Rattle.ls_cells.specs.Cells.{StandsCells}
 use Rattle.ls_session.specs.Session.{StandsSession}
-use Rattle.ls_session.specs.Record.{Record, from_place}
+use Rattle.ls_session.specs.Record.{Record, from_place, wait_from}
 
 -- a connection as it is kept
 abbrev pub seen : Linked → Connection
 seen c = record { name = c.name; link = c.link; session = c.session }
 
--- a kept session stands for one of the world, whose next turn begins at its round's first slot
-pub record IsSession (k : Kept) (s : Session) : Type 0 where
+-- the next turn begins at the round's first slot, at whatever tick
+abbrev pub BeginsAnew : Record → Type 0
+BeginsAnew r = (later : ℕ) → (from_place later r ≡ 0) × (wait_from later r ≡ None)
+
+-- a kept session stands for one of the world, was told a tick that isn't to come, and begins anew
+pub record IsSession (now : ℕ) (k : Kept) (s : Session) : Type 0 where
   pub asking : Record
   pub session : asking.session ≡ s
-  pub first : from_place asking ≡ 0
+  pub early : asking.tick ≤ now
+  pub first : BeginsAnew asking
   pub stands : StandsSession k asking
 
 -- each does
-abbrev pub AreSessions : List Kept → List Session → Type 0
-AreSessions [] [] = Unit {0}
-AreSessions [] (s ∷ sessions) = ⊥
-AreSessions (k ∷ kept) [] = ⊥
-AreSessions (k ∷ kept) (s ∷ sessions) = IsSession k s × AreSessions kept sessions
+abbrev pub AreSessions : ℕ → List Kept → List Session → Type 0
+AreSessions now [] [] = Unit {0}
+AreSessions now [] (s ∷ sessions) = ⊥
+AreSessions now (k ∷ kept) [] = ⊥
+AreSessions now (k ∷ kept) (s ∷ sessions) = IsSession now k s × AreSessions now kept sessions
 
 -- a hub stands for a world
 pub record StandsHub (h : Hub) (w : World) : Type 0 where
   pub set : h.config.set ≡ w.set
+  pub tick : h.tick ≡ w.tick
+  pub in_range : w.tick ≤ GREATEST_TICK
   pub definitions : h.config.items ≡ definitions w.items
   pub cells : StandsCells h.cells w.items (all_live w.sessions)
-  pub sessions : AreSessions h.sessions.items w.sessions
+  pub sessions : AreSessions w.tick h.sessions.items w.sessions
   pub alive : h.alive ≡ alive w.sessions
   pub connections : map seen h.connections.items ≡ w.connections
 

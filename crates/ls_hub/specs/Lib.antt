@@ -1,4 +1,5 @@
 pub mod Hub
+pub mod Quiet
 pub mod Turning
 pub mod Repeats
 pub mod Requests

@@ -1,12 +1,14 @@
-//! Control requests: a subscription is added or ended, or a session is (TLCP 2.1, control).
+//! Control requests: a subscription is added, ended or gets another frequency, and a session gets another bandwidth or
+//! is ended (TLCP 2.1, control).
 ghost use Rattle.std.specs.Prelude.{◌≡◌, ◌<◌, ◌++◌, length, map, None, IfOk, IfSome, OnOk, IsErrOf, true, false};
+ghost use Rattle.std.specs.Option.{ForSome};
 ghost use Rattle.ls_line.specs.Lines.{text_of_line};
 ghost use Rattle.ls_request.specs.Ranges.{OpFits, AddFits};
 ghost use Rattle.ls_request.specs.declared.request.Request.TheVariants as request;
 ghost use Rattle.ls_step.specs.Notes.{text_of_out};
 ghost use Rattle.ls_step.specs.declared.out.Out.TheVariants as out;
-ghost use Rattle.ls_world.specs.World.{World, Session as ASession, on_board, removed, ended};
-ghost use Rattle.ls_world.specs.Acting.{add_code, subscribed, delete_code, destroyed};
+ghost use Rattle.ls_world.specs.World.{World, Session as ASession, on_board, removed, reconfigured, constrained, ended};
+ghost use Rattle.ls_world.specs.Acting.{add_code, subscribed, change_code, constrain_code, destroyed};
 ghost use Rattle.ls_world.specs.Steps.{acts, operates, session_named};
 ghost use Rattle.ls_world.specs.Built.{is_built_request, is_built_op};
 ghost use Rattle.ls_hub.specs.Hub.{StandsHub, Prints, name_at, seen};
@@ -14,9 +16,7 @@ ghost use Rattle.ls_hub.specs.Requests.{living_place, place_of_number, IsLiving,
 
 use crate::answers::answer;
 use crate::hub::{Hub, StepRefused};
-use crate::requests::lacks;
 use crate::slots::{join_all, leave_all};
-use ls_form::Params;
 use ls_request::{Add, Control, Op};
 use ls_session::DESTROYED;
 use ls_subs::Refusal;
@@ -30,19 +30,17 @@ impl Hub {
     pub(crate) fn control(
         &mut self,
         connection: u32,
-        params: &Params,
         control: Control,
         text: &mut Vec<u8>,
     ) -> Result<(), StepRefused>
         requires { OpFits control.op }
         ensures ok { OnOk result ((w : World) → StandsHub self.old w
-            → (is_built_request params.now (request.Control control) ≡ true)
+            → (is_built_request (request.Control control) ≡ true)
             × Prints (acts w connection (request.Control control)) text.old.items text.new.items self.new) }
-        ensures refused { IsErrOf result StepRefused.NotBuilt
-            → is_built_request params.now (request.Control control) ≡ false }
+        ensures refused { IsErrOf result StepRefused.NotBuilt → is_built_request (request.Control control) ≡ false }
     {
         let Control { req, session, op } = control;
-        if is_built(params, &op) {
+        if is_built(&op) {
             self.control_named(connection as usize, req, session, op, text)?;
             Ok(())
         } else {
@@ -119,16 +117,19 @@ impl Hub {
                 let code = self.unsubscribe(place, sub)?;
                 self.answer(connection, req, code, text)
             }
+            Op::Reconf { sub, frequency } => {
+                let code = self.reconf(place, sub, frequency)?;
+                self.answer(connection, req, code, text)
+            }
+            Op::Constrain { bandwidth } => {
+                let code = self.constrain(place, bandwidth)?;
+                self.answer(connection, req, code, text)
+            }
             Op::Destroy => {
                 self.destroy(place);
                 self.answer(connection, req, None, text)
             }
-            Op::Reconf {
-                sub: _,
-                frequency: _,
-            }
-            | Op::Constrain { bandwidth: _ }
-            | Op::ForceRebind => Ok(()),
+            Op::ForceRebind => Ok(()),
         }
     }
 
@@ -158,7 +159,7 @@ impl Hub {
         requires { place < length self.old.sessions.items }
         ensures connections { self.new.connections ≡ self.old.connections }
         ensures did { IfOk result (λ code. (w : World) (s : ASession) → StandsHub self.old w → IsLiving w place s
-            → DidOperate w place (delete_code s sub) (on_board (removed sub)) code self.new) }
+            → DidOperate w place (change_code s sub) (on_board (removed sub)) code self.new) }
     {
         match self.sessions[place].delete(sub) {
             Err(Refusal::Code(code)) => Ok(Some(code)),
@@ -167,6 +168,44 @@ impl Hub {
                 leave_all(&mut self.cells, &slots);
                 Ok(None)
             }
+        }
+    }
+
+    /// Another greatest frequency, in thousandths of an update per second and above 0, or none, for a subscription of
+    /// the session of a place, which hasn't ended; or the code that it is refused for.
+    fn reconf(
+        &mut self,
+        place: usize,
+        sub: u32,
+        frequency: Option<u64>,
+    ) -> Result<Option<u16>, NoMemory>
+        requires place { place < length self.old.sessions.items }
+        requires some { ForSome frequency (λ f. 0 < f) }
+        ensures connections { self.new.connections ≡ self.old.connections }
+        ensures did { IfOk result (λ code. (w : World) (s : ASession) → StandsHub self.old w → IsLiving w place s
+            → DidOperate w place (change_code s sub) (on_board (reconfigured sub frequency)) code self.new) }
+    {
+        match self.sessions[place].reconf(sub, frequency) {
+            Err(Refusal::Code(code)) => Ok(Some(code)),
+            Err(Refusal::NoMemory) => Err(NoMemory),
+            Ok(()) => Ok(None),
+        }
+    }
+
+    /// Another bandwidth, in thousandths of a kbit per second and above 0, or none, of the session of a place, which
+    /// hasn't ended; or the code that it is refused for.
+    fn constrain(&mut self, place: usize, bandwidth: Option<u64>) -> Result<Option<u16>, NoMemory>
+        requires place { place < length self.old.sessions.items }
+        requires some { ForSome bandwidth (λ limit. 0 < limit) }
+        ensures connections { self.new.connections ≡ self.old.connections }
+        ensures did { IfOk result (λ code. (w : World) (s : ASession) → StandsHub self.old w → IsLiving w place s
+            → DidOperate w place (constrain_code s) (constrained bandwidth) code self.new) }
+    {
+        let now = self.tick;
+        match self.sessions[place].constrain(bandwidth, now) {
+            Err(Refusal::Code(code)) => Ok(Some(code)),
+            Err(Refusal::NoMemory) => Err(NoMemory),
+            Ok(()) => Ok(None),
         }
     }
 
@@ -198,19 +237,13 @@ impl Hub {
     }
 }
 
-/// Whether an operation is built: not yet frequencies, bandwidths, and the end of a stream.
-fn is_built(params: &Params, op: &Op) -> bool
-    ensures { result ≡ is_built_op params.now op.now }
+/// Whether an operation is built: not yet the end of a stream.
+fn is_built(op: &Op) -> bool
+    ensures { result ≡ is_built_op op.now }
 {
     match op {
-        Op::Add(_) => lacks(params, b"LS_requested_max_frequency"),
-        Op::Delete { sub: _ } | Op::Destroy => true,
-        Op::Reconf {
-            sub: _,
-            frequency: _,
-        }
-        | Op::Constrain { bandwidth: _ }
-        | Op::ForceRebind => false,
+        Op::ForceRebind => false,
+        _ => true,
     }
 }
 

@@ -1,53 +1,29 @@
 //! Sessions that begin (TLCP 2.1, create_session).
-ghost use Rattle.std.specs.Prelude.{◌≡◌, ◌<◌, length, map, Some, None, Option, ℕ, IfOk, OnOk, IsErrOf, true, false};
+ghost use Rattle.std.specs.Prelude.{◌≡◌, ◌<◌, length, map, Some, None, Option, ℕ, OnOk};
+ghost use Rattle.std.specs.Option.{ForSome};
 ghost use Rattle.ls_value.specs.declared.limits.TheConstants.{GREATEST_NUMBER};
-ghost use Rattle.ls_request.specs.declared.request.Request.TheVariants as request;
 ghost use Rattle.ls_world.specs.World.{World, change};
 ghost use Rattle.ls_world.specs.Acting.{is_set_of, create_code};
 ghost use Rattle.ls_world.specs.Steps.{creates, created};
-ghost use Rattle.ls_world.specs.Built.{is_built_request};
 ghost use Rattle.ls_world.specs.declared.TheConstants.{MOST_SESSIONS};
 ghost use Rattle.ls_hub.specs.Hub.{StandsHub, Prints, seen};
 
 use crate::answers::session_refused;
-use crate::hub::{Connection, Hub, StepRefused};
-use crate::requests::lacks;
-use ls_form::Params;
+use crate::hub::{Connection, Hub};
 use ls_request::Create;
 use ls_session::Session;
 use ls_value::{GREATEST_NUMBER, NoMemory, Text, same_bytes};
 use ls_world::MOST_SESSIONS;
 
 impl Hub {
-    /// A create_session; a bandwidth isn't built yet.
-    pub(crate) fn create(
-        &mut self,
-        connection: u32,
-        params: &Params,
-        create: &Create,
-        text: &mut Vec<u8>,
-    ) -> Result<(), StepRefused>
-        ensures ok { OnOk result ((w : World) → StandsHub self.old w
-            → (is_built_request params.now (request.Create create.now) ≡ true)
-            × Prints (creates w connection create.now) text.old.items text.new.items self.new) }
-        ensures refused { IsErrOf result StepRefused.NotBuilt
-            → is_built_request params.now (request.Create create.now) ≡ false }
-    {
-        if lacks(params, b"LS_requested_max_bandwidth") {
-            self.open(connection as usize, create, text)?;
-            Ok(())
-        } else {
-            Err(StepRefused::NotBuilt)
-        }
-    }
-
-    /// A create_session: a new session, which is the connection's, or CONERR on the connection.
+    /// A create_session: a new session, which is the connection's, or CONERR on the connection. A bandwidth is above 0.
     pub(crate) fn open(
         &mut self,
         connection: usize,
         create: &Create,
         text: &mut Vec<u8>,
     ) -> Result<(), NoMemory>
+        requires { ForSome create.now.bandwidth (λ limit. 0 < limit) }
         ensures { OnOk result ((w : World) → StandsHub self.old w
             → Prints (creates w connection create.now) text.old.items text.new.items self.new) }
     {
@@ -91,11 +67,12 @@ impl Hub {
     fn begin(&mut self, connection: usize, create: &Create) -> Result<(), NoMemory>
         requires alive { self.old.alive < MOST_SESSIONS }
         requires number { length self.old.sessions.items < GREATEST_NUMBER }
+        requires bandwidth { ForSome create.now.bandwidth (λ limit. 0 < limit) }
         ensures ok { OnOk result ((w : World) → StandsHub self.old w
-            → StandsHub self.new (created w connection create.now.keepalive)) }
+            → StandsHub self.new (created w connection create.now)) }
     {
         let place = self.sessions.len();
-        let session = Session::new(self.alloc, place as u64 + 1, create)?;
+        let session = Session::new(self.alloc, place as u64 + 1, create, self.tick)?;
         self.sessions.push(session)?;
         self.alive += 1;
         give_session(&mut self.connections, connection, place);

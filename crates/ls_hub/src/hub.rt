@@ -1,16 +1,18 @@
 //! The hub, and its steps.
-ghost use Rattle.std.specs.Prelude.{◌≡◌, ◌<◌, ◌++◌, [], ◌∷◌, IfOk, OnOk, IsErrOf, true, false, codes};
+ghost use Rattle.std.specs.Prelude.{◌≡◌, ◌<◌, ◌++◌, ℕ, [], ◌∷◌, IfOk, OnOk, IsErrOf, true, false, codes};
 ghost use Rattle.ls_form.specs.Forms.{form_of};
 ghost use Rattle.ls_step.specs.Adding.{add_pairs};
 ghost use Rattle.ls_step.specs.Ranges.{Fits};
+ghost use Rattle.ls_step.specs.declared.step.Step.TheVariants as steps;
 ghost use Rattle.ls_config.specs.Items.{may_follow};
 ghost use Rattle.ls_event.specs.Shapes.{IsShape, shape_of};
 ghost use Rattle.ls_world.specs.World.{World, empty, definitions};
-ghost use Rattle.ls_world.specs.Steps.{does, stays, connects};
+ghost use Rattle.ls_world.specs.Steps.{does, stays, connects, take_once};
 ghost use Rattle.ls_world.specs.Script.{known_of};
 ghost use Rattle.ls_world.specs.Built.{is_built, is_ws};
 ghost use Rattle.ls_world.specs.Ranges.{StepInRange};
 ghost use Rattle.ls_hub.specs.Hub.{StandsHub, Prints, HasAdapter, session_at, name_at, link_at};
+ghost use Rattle.ls_hub.specs.Quiet.{FailedBehind};
 
 use ls_cells::Cells;
 use ls_config::{Config, Items};
@@ -49,12 +51,14 @@ pub struct Connection {
     pub session: Option<usize>,
 }
 
-/// The adapter set's name and the items' definitions, the items, the connections and the sessions, each in the order in
-/// which they came, and how many sessions haven't ended. It keeps the allocator that its constructor took.
+/// The adapter set's name and the items' definitions, the last tick in ms, the items, the connections and the sessions,
+/// each in the order in which they came, and how many sessions haven't ended. It keeps the allocator that its
+/// constructor took.
 #[derive(Drop)]
 pub struct Hub {
     pub(crate) alloc: Global,
     pub(crate) config: Config,
+    pub(crate) tick: u64,
     pub(crate) cells: Cells,
     pub(crate) connections: Vec<Connection>,
     pub(crate) sessions: Vec<Session>,
@@ -62,7 +66,7 @@ pub struct Hub {
 }
 
 impl Hub {
-    /// Before any step: the adapter set is `DEFAULT`.
+    /// Before any step: the adapter set is `DEFAULT`, and the tick is 0.
     pub fn new(alloc: Global) -> Result<Hub, NoMemory>
         ensures { IfOk result (λ h. StandsHub h empty) }
     {
@@ -73,6 +77,7 @@ impl Hub {
                 set: Text::from_string(set),
                 items: Items::new(alloc),
             },
+            tick: 0,
             cells: Cells::new(alloc),
             connections: Vec::new(alloc),
             sessions: Vec::new(alloc),
@@ -80,8 +85,10 @@ impl Hub {
         })
     }
 
-    /// Does a step of the script's line of this number, at most so often, and appends what it prints. After an error
-    /// nothing is known of the hub and the text.
+    /// Does a step of the script's line of this number, at most so often, and appends what it prints. After `NoMemory`
+    /// in a take some of its turns were taken, and in the one behind these no line was numbered or given, while slots
+    /// may have moved past cuts that make none. After another error nothing is known of the hub, and after each nothing
+    /// of the text.
     pub fn step(
         &mut self,
         line: u64,
@@ -96,6 +103,8 @@ impl Hub {
             → (is_built w step ≡ true) × Prints (does w step times) text.old.items text.new.items self.new) }
         ensures refused { IsErrOf result StepRefused.NotBuilt → (w : World) → StandsHub self.old w → line ≡ w.line
             → is_built w step ≡ false }
+        ensures take { IsErrOf result StepRefused.NoMemory → (w : World) (connection : ℕ) → StandsHub self.old w
+            → step ≡ steps.Take connection → FailedBehind (take_once connection) w times self.new }
     {
         match step {
             Step::Set { name } => {
@@ -106,7 +115,11 @@ impl Hub {
                 self.declare(ItemDef { name, kind, fields })?;
                 Ok(())
             }
-            Step::Tick { ms: _ } | Step::Lose { connection: _ } => Err(StepRefused::NotBuilt),
+            Step::Tick { ms } => {
+                self.tick = ms;
+                Ok(())
+            }
+            Step::Lose { connection: _ } => Err(StepRefused::NotBuilt),
             Step::Conn { name, link } => self.connect_over(name, link),
             Step::Open { name } => {
                 self.connect_and_open(name, text)?;

@@ -6,15 +6,20 @@
 //! it doesn't touch.
 //!
 //! A session holds no items: its turn asks what a slot has to tell, the hub looks at the slot's cell, gives the session
-//! the answer, and moves the slot past what was taken.
+//! the answer, and moves the slot past what was taken. Of a slot whose frequency or whose session's bandwidth doesn't
+//! allow an update yet it only says whether something is pending. The tick is the last one of the script, in ms.
 //!
 //! ```text
 //! take c 9
-//!   Session::turn    Ask: what has this slot?
+//!   Session::turn    Ask: what has this slot, which is due?
 //!   Cells::look      its next cut
 //!   Session::answer  the cut's line is numbered, or it makes none
 //!   Cells::pass      the slot is past the cut
 //!   Session::turn    Send: the line
+//!   Session::turn    Ask: does this slot wait, which isn't due?
+//!   Cells::pending   something is pending
+//!   Session::answer  it waits
+//!   Session::turn    NotDue: nothing before this tick
 //! ```
 #![tactic(auto)]
 

@@ -8,7 +8,7 @@ ghost use Rattle.ls_step.specs.Notes.{text_of_out};
 ghost use Rattle.ls_step.specs.declared.out.Out.TheVariants as out;
 ghost use Rattle.ls_world.specs.World.{World};
 ghost use Rattle.ls_world.specs.Steps.{requests, malformed, acts, creates, connects, plain_create};
-ghost use Rattle.ls_world.specs.Built.{are_built, is_built_request, lacks};
+ghost use Rattle.ls_world.specs.Built.{are_built, is_built_request};
 ghost use Rattle.ls_hub.specs.Hub.{StandsHub, Prints, name_at};
 
 use crate::answers::malformed;
@@ -103,7 +103,7 @@ impl Hub {
             return Ok(());
         };
         match read_pairs(self.alloc, self.link_of(connection as usize), name, &params) {
-            Ok(request) => self.act(connection, &params, request, text),
+            Ok(request) => self.act(connection, request, text),
             Err(RequestRefused::Malformed { req }) => {
                 self.refuse(connection, name, req, text)?;
                 Ok(())
@@ -116,20 +116,22 @@ impl Hub {
     fn act(
         &mut self,
         connection: u32,
-        params: &Params,
         request: Request,
         text: &mut Vec<u8>,
     ) -> Result<(), StepRefused>
         requires { RequestFits request }
         ensures ok { OnOk result ((w : World) → StandsHub self.old w
-            → (is_built_request params.now request ≡ true)
+            → (is_built_request request ≡ true)
             × Prints (acts w connection request) text.old.items text.new.items self.new) }
-        ensures refused { IsErrOf result StepRefused.NotBuilt → is_built_request params.now request ≡ false }
+        ensures refused { IsErrOf result StepRefused.NotBuilt → is_built_request request ≡ false }
     {
         match request {
-            Request::Create(create) => self.create(connection, params, &create, text),
+            Request::Create(create) => {
+                self.open(connection as usize, &create, text)?;
+                Ok(())
+            }
             Request::Bind(_) => Err(StepRefused::NotBuilt),
-            Request::Control(control) => self.control(connection, params, control, text),
+            Request::Control(control) => self.control(connection, control, text),
             Request::Wsok => {
                 self.line(connection as usize, &Line::WsOk, text)?;
                 Ok(())
@@ -179,11 +181,4 @@ fn form(alloc: Global, text: &[u8]) -> Result<Option<Params>, NoMemory>
         Err(FormRefused::NoMemory) => Err(NoMemory),
         Err(_) => Ok(None),
     }
-}
-
-/// Whether a parameter isn't there.
-pub(crate) fn lacks(params: &Params, name: &[u8]) -> bool
-    ensures { result ≡ lacks params.now name.now }
-{
-    params.find(name).is_none()
 }

@@ -1,6 +1,9 @@
 //! Turns of sessions: a session asks what a slot has to tell, the hub looks, the session answers with a line or none,
-//! and the slot moves past what was taken.
-ghost use Rattle.std.specs.Prelude.{◌≡◌, ◌++◌, ◌∷◌, List, Some, IsSome, IfOk, OnOk};
+//! and the slot moves past what was taken. Of a slot that isn't due the hub only looks whether it waits.
+ghost use Rattle.std.specs.Prelude.{◌≡◌, ◌≤◌, ◌<◌, ◌+◌, ◌++◌, ◌∷◌, ℕ, length, List, Some, IsSome, IfOk, OnOk, OnErr};
+ghost use Rattle.std.specs.Prelude.{true, false};
+ghost use Rattle.std.specs.Vec.{vec_len, vec_capacity};
+ghost use Rattle.ls_budget.specs.declared.limits.TheConstants.{GREATEST_TICK};
 ghost use Rattle.ls_step.specs.declared.out.Out.TheVariants as out;
 ghost use Rattle.ls_step.specs.Notes.{text_of_out};
 ghost use Rattle.ls_event.specs.declared.event.Taken.{Taken as Cut};
@@ -9,27 +12,33 @@ ghost use Rattle.ls_world.specs.World.{World, Item, Live, history_of};
 ghost use Rattle.ls_world.specs.Steps.{take_once as one_turn, repeated};
 ghost use Rattle.ls_cells.specs.Cells.{StandsCells, cut_of_slot};
 ghost use Rattle.ls_subs.specs.Standing.{ref_of, passed_live};
-ghost use Rattle.ls_session.specs.Record.{Record};
+ghost use Rattle.ls_session.specs.Record.{Record, Question};
 ghost use Rattle.ls_session.specs.Session.{StandsSession};
+ghost use Rattle.ls_session.specs.declared.session.Turn.TheVariants as given;
 ghost use Rattle.ls_hub.specs.Hub.{StandsHub, Prints, DidOnce};
-ghost use Rattle.ls_hub.specs.Turning.{turn_from, HasAsked, GoesOn, TurnEnded, out_of_turn, gave_line};
+ghost use Rattle.ls_hub.specs.Quiet.{StandsQuiet, FailedBehind};
+ghost use Rattle.ls_hub.specs.Turning.{turn_from, HasAsked, GoesOn, TurnEnded, TurnFailed, out_of_turn, gave_line};
 
 use crate::hub::Hub;
 use ls_cells::Cells;
 use ls_session::{Ask, Reply, Session, Turn};
 use ls_step::{Out, append};
 use ls_value::NoMemory;
+use ls_world::MOST_LINE;
 
 impl Hub {
-    /// Turns on a connection: at most so many, up to the first that gives no line.
+    /// Turns on a connection: at most so many, up to the first that gives no line. After `NoMemory` some of them were
+    /// taken, and in the one behind these no line was numbered or given.
     pub(crate) fn take(
         &mut self,
         connection: u32,
         times: u32,
         text: &mut Vec<u8>,
     ) -> Result<(), NoMemory>
-        ensures { OnOk result ((w : World) → StandsHub self.old w
+        ensures ok { OnOk result ((w : World) → StandsHub self.old w
             → Prints (repeated (one_turn connection) times w) text.old.items text.new.items self.new) }
+        ensures err { OnErr result ((w : World) → StandsHub self.old w
+            → FailedBehind (one_turn connection) w times self.new) }
     {
         for _ in 0..times {
             let more = self.take_once(connection as usize, text)?;
@@ -40,10 +49,12 @@ impl Hub {
         Ok(())
     }
 
-    /// A turn on a connection; whether another one follows.
+    /// A turn on a connection; whether another one follows. After `NoMemory` no line was numbered or given; slots may
+    /// have moved past cuts that make none. Room for a line is taken before the turn.
     fn take_once(&mut self, connection: usize, text: &mut Vec<u8>) -> Result<bool, NoMemory>
-        ensures { IfOk result (λ more. (w : World) → StandsHub self.old w
+        ensures ok { IfOk result (λ more. (w : World) → StandsHub self.old w
             → DidOnce (one_turn connection w) more text.old.items text.new.items self.new) }
+        ensures err { OnErr result ((w : World) → StandsHub self.old w → StandsQuiet w self.new) }
     {
         let Some(place) = self.session_of(connection) else {
             append(text, &Out::NoSession)?;
@@ -53,7 +64,8 @@ impl Hub {
             append(text, &Out::NoSession)?;
             return Ok(false);
         }
-        let turn = turn_of(&mut self.cells, &mut self.sessions[place])?;
+        text.reserve(self.name_of(connection).len() + (MOST_LINE + 2))?;
+        let turn = turn_of(&mut self.cells, &mut self.sessions[place], self.tick)?;
         append_turn(
             text,
             self.name_of(connection),
@@ -64,26 +76,58 @@ impl Hub {
     }
 }
 
-/// A session's turn: its round is asked until it has an answer.
-fn turn_of(cells: &mut Cells, session: &mut Session) -> Result<Turn, NoMemory>
-    ensures { IfOk result (λ turn. (items : List Item) (before behind : List Live) (r : Record)
-        → StandsSession session.old r → StandsCells cells.old items (before ++ r.session.board.round ++ behind)
-        → TurnEnded items before behind (turn_from items r) turn session.new cells.new) }
+/// A session's turn at a tick, in ms: its round is asked until it has an answer. After `NoMemory` no line was numbered
+/// or given; slots may have moved past cuts that make none.
+fn turn_of(cells: &mut Cells, session: &mut Session, now: u64) -> Result<Turn, NoMemory>
+    ensures ok { IfOk result (λ turn. (items : List Item) (before behind : List Live) (r : Record)
+        → StandsSession session.old r → r.tick ≤ now → now ≤ GREATEST_TICK
+        → StandsCells cells.old items (before ++ r.session.board.round ++ behind)
+        → TurnEnded now items before behind r.session (turn_from now items r) turn session.new cells.new) }
+    ensures err { OnErr result ((items : List Item) (before behind : List Live) (r : Record)
+        → StandsSession session.old r → r.tick ≤ now → now ≤ GREATEST_TICK
+        → StandsCells cells.old items (before ++ r.session.board.round ++ behind)
+        → TurnFailed now items before behind r.session session.new cells.new) }
 {
     for _ in 0..u64::MAX {
-        match session.turn() {
+        match session.turn(now) {
             Turn::Ask(ask) => tell(cells, session, ask)?,
             turn => return Ok(turn),
         }
     }
-    Err(NoMemory)
+    match session.turn(now) {
+        Turn::Ask(_) => Err(NoMemory),
+        turn => Ok(turn),
+    }
 }
 
-/// Answers what a session asks of a slot.
+/// Answers what a session asks of a slot. After `NoMemory` the question stands, and all is as before.
 fn tell(cells: &mut Cells, session: &mut Session, ask: Ask) -> Result<(), NoMemory>
-    ensures { OnOk result ((items : List Item) (before behind : List Live) (r : Record) (v : Live)
-        → HasAsked items before behind r v session.old cells.old → ask ≡ record { slot = ref_of v }
-        → GoesOn items before behind (turn_from items r) session.new cells.new) }
+    ensures ok { OnOk result ((now : ℕ) (items : List Item) (before behind : List Live) (r : Record) (q : Question)
+        → HasAsked now items before behind r q session.old cells.old
+        → ask ≡ record { slot = ref_of q.live; due = q.due }
+        → GoesOn now items before behind r session.new cells.new) }
+    ensures err { OnErr result ((now : ℕ) (items : List Item) (before behind : List Live) (r : Record) (q : Question)
+        → HasAsked now items before behind r q session.old cells.old
+        → HasAsked now items before behind r q session.new cells.new) }
+{
+    if ask.due {
+        tell_cut(cells, session, ask)
+    } else {
+        tell_waiting(cells, session, ask)
+    }
+}
+
+/// Answers with the next cut of a slot that is due, if it has one, and moves it past that. After `NoMemory` the
+/// question stands, and all is as before.
+fn tell_cut(cells: &mut Cells, session: &mut Session, ask: Ask) -> Result<(), NoMemory>
+    requires { ask.due ≡ true }
+    ensures ok { OnOk result ((now : ℕ) (items : List Item) (before behind : List Live) (r : Record) (q : Question)
+        → HasAsked now items before behind r q session.old cells.old
+        → ask ≡ record { slot = ref_of q.live; due = q.due }
+        → GoesOn now items before behind r session.new cells.new) }
+    ensures err { OnErr result ((now : ℕ) (items : List Item) (before behind : List Live) (r : Record) (q : Question)
+        → HasAsked now items before behind r q session.old cells.old
+        → HasAsked now items before behind r q session.new cells.new) }
 {
     match cells.look(ask.slot.item, ask.slot.slot)? {
         None => {
@@ -98,6 +142,26 @@ fn tell(cells: &mut Cells, session: &mut Session, ask: Ask) -> Result<(), NoMemo
     }
 }
 
+/// Answers whether a slot that isn't due waits. After `NoMemory` the question stands, and all is as before.
+fn tell_waiting(cells: &Cells, session: &mut Session, ask: Ask) -> Result<(), NoMemory>
+    requires { ask.due ≡ false }
+    ensures ok { OnOk result ((now : ℕ) (items : List Item) (before behind : List Live) (r : Record) (q : Question)
+        → HasAsked now items before behind r q session.old cells.now
+        → ask ≡ record { slot = ref_of q.live; due = q.due }
+        → GoesOn now items before behind r session.new cells.now) }
+    ensures err { OnErr result ((now : ℕ) (items : List Item) (before behind : List Live) (r : Record) (q : Question)
+        → HasAsked now items before behind r q session.old cells.now
+        → HasAsked now items before behind r q session.new cells.now) }
+{
+    if cells.pending(ask.slot.item, ask.slot.slot) {
+        session.answer(ask, Reply::Waiting)?;
+        Ok(())
+    } else {
+        session.answer(ask, Reply::Nothing)?;
+        Ok(())
+    }
+}
+
 /// The slot moves past the cut that was taken.
 fn pass_taken(cells: &mut Cells, ask: Ask)
     requires { IsSome (cut_of_slot cells.old ask.slot.item ask.slot.slot) }
@@ -108,13 +172,17 @@ fn pass_taken(cells: &mut Cells, ask: Ask)
     cells.pass(ask.slot.item, ask.slot.slot);
 }
 
-/// Appends what a turn prints on a connection of this name, where this is the session's current line.
+/// Appends what a turn prints on a connection of this name, where this is the session's current line. A line is
+/// appended without memory, where there is room for it.
 fn append_turn(text: &mut Vec<u8>, name: &[u8], current: &[u8], turn: Turn) -> Result<(), NoMemory>
-    ensures { OnOk result (text.new.items
+    ensures text { OnOk result (text.new.items
         ≡ text.old.items ++ text_of_out (out_of_turn name.now current.now turn)) }
+    ensures room { OnErr result (turn ≡ given.Send
+        → vec_capacity text.old < vec_len text.old + (length name.now + (length current.now + 2))) }
 {
     match turn {
         Turn::Send => append_line(text, name, current),
+        Turn::NotDue { at } => append(text, &Out::NotDue { at }),
         Turn::Ended { code } => append(text, &Out::Ended { code }),
         Turn::Spent => append(text, &Out::Spent),
         Turn::Ask(_) => append(text, &Out::Idle),
@@ -122,9 +190,10 @@ fn append_turn(text: &mut Vec<u8>, name: &[u8], current: &[u8], turn: Turn) -> R
     }
 }
 
-/// Appends a line on a connection of this name, ended by LF.
+/// Appends a line on a connection of this name, ended by LF, without memory where there is room for it.
 fn append_line(text: &mut Vec<u8>, name: &[u8], line: &[u8]) -> Result<(), NoMemory>
-    ensures { OnOk result (text.new.items ≡ text.old.items ++ text_of_out (out.Line name.now line.now)) }
+    ensures text { OnOk result (text.new.items ≡ text.old.items ++ text_of_out (out.Line name.now line.now)) }
+    ensures room { OnErr result (vec_capacity text.old < vec_len text.old + (length name.now + (length line.now + 2))) }
 {
     text.extend_from_slice(name)?;
     text.push(b':')?;
@@ -141,6 +210,7 @@ fn gave_line(turn: Turn) -> bool
         Turn::Send => true,
         Turn::Ask(_) => false,
         Turn::Idle => false,
+        Turn::NotDue { at: _ } => false,
         Turn::Ended { code: _ } => false,
         Turn::Spent => false,
     }

@@ -21,15 +21,16 @@ use Rattle.ls_step.specs.declared.step.Step.TheVariants as step
 use Rattle.ls_step.specs.Adding.{add_pairs}
 use Rattle.ls_world.specs.Cases.{with_found, first_code}
 use Rattle.ls_world.specs.World.{World, Item, Live, Board, Session, Connection, definitions, history_of, change, live_at, added, removed, enqueued_in}
-use Rattle.ls_world.specs.World.{free_number, on_board, ended, is_alive}
-use Rattle.ls_world.specs.Acting.{message_of, asks_of, subscribed, free_slots, add_code, delete_code, destroyed}
+use Rattle.ls_world.specs.World.{free_number, on_board, ended, is_alive, reconfigured, constrained}
+use Rattle.ls_world.specs.Acting.{message_of, asks_of, subscribed, free_slots, add_code, change_code, constrain_code, destroyed}
 use Rattle.ls_world.specs.Steps.{Stepped, Once, behind, repeated, stays, ends, goes_on, with_session, session_of, name_of, on}
 use Rattle.ls_world.specs.Steps.{refuses, operated, operates, session_named, acts, is_opening, malformed, request_on, requests, enqueue_once, TurnGives, Gave}
-use Rattle.ls_world.specs.Steps.{Idle, Spent, Over, SessionTurn, session_turn, took, take_once, does}
+use Rattle.ls_world.specs.Steps.{Idle, NotDue, Spent, Over, SessionTurn, session_turn, took, take_once, does}
 use Rattle.ls_world.proofs.Parts.{enqueued_by}
 use Rattle.ls_laws.specs.Alone.{unnumbered_slot, unnumbered, Seen, seen, connection_of, session_asked, is_own}
 use Rattle.ls_laws.specs.Alone.{lacks_slots_for, lacks_slots_of, lacks_slots}
-use Rattle.ls_laws.proofs.Unnumbered.{live_same, refusals_by, refusals_same, delete_same, added_same, removed_same, enqueued_same, turn_without, turn_same}
+use Rattle.ls_laws.proofs.Unnumbered.{live_same, refusals_by, refusals_same, change_same, added_same, removed_same, reconfigured_same}
+use Rattle.ls_laws.proofs.Unnumbered.{enqueued_same, turn_without, turn_same}
 
 -- two worlds that a session sees alike
 abbrev pub Alike : ℕ → ℕ → World → World → Type 0
@@ -37,6 +38,9 @@ Alike n c w v = seen n c w ≡ seen n c v
 
 same_items : (n c : ℕ) (w v : World) → Alike n c w v → w.items ≡ v.items
 same_items n c w v e = ap (λ (z : Seen). z.items) e
+
+same_tick : (n c : ℕ) (w v : World) → Alike n c w v → w.tick ≡ v.tick
+same_tick n c w v e = ap (λ (z : Seen). z.tick) e
 
 pub same_line : (n c : ℕ) (w v : World) → Alike n c w v → w.line ≡ v.line
 same_line n c w v e = ap (λ (z : Seen). z.line) e
@@ -88,7 +92,7 @@ changed_alike n c w v s t f g e is same =
     let here : option_map unnumbered (slice_get (change n f w.sessions) n) ≡ option_map unnumbered (slice_get (change n g v.sessions) n) =
     ap (option_map unnumbered) (slice_changed n f w.sessions s is.0)
     ∙ (ap Some same ∙ sym (ap (option_map unnumbered) (slice_changed n g v.sessions t is.1))) in
-    λ i. record { items = (e i).items; line = (e i).line; connection = (e i).connection; session = here i }
+    λ i. record { items = (e i).items; tick = (e i).tick; line = (e i).line; connection = (e i).connection; session = here i }
 
 -- steps that print the same and lead to worlds that are related again
 pub record StepsAs (R : World → World → Type 0) (a b : Stepped) : Type 0 where
@@ -124,9 +128,9 @@ record Standing (n c : ℕ) (w v : World) : Type 0 where
   own : session_of w c ≡ Some n
 
 -- a take
-turn_alike : (items items' : List Item) (s t : Session) → items ≡ items' → unnumbered s ≡ unnumbered t
-    → turn_without (session_turn items s) ≡ turn_without (session_turn items' t)
-turn_alike items items' s t e same = sym (turn_same items s) ∙ (λ i. session_turn (e i) (same i)) ∙ turn_same items' t
+turn_alike : (now now' : ℕ) (items items' : List Item) (s t : Session) → now ≡ now' → items ≡ items' → unnumbered s ≡ unnumbered t
+    → turn_without (session_turn now items s) ≡ turn_without (session_turn now' items' t)
+turn_alike now now' items items' s t at e same = sym (turn_same now items s) ∙ (λ i. session_turn (at i) (e i) (same i)) ∙ turn_same now' items' t
 
 took_alike : (n c : ℕ) (w v : World) (s t s' t' : Session) (g h : TurnGives) → Standing n c w v → Sessions n w v s t → unnumbered s' ≡ unnumbered t' → g ≡ h
     → OnceAs (Standing n c) (took w c n s' g) (took v c n t' h)
@@ -138,6 +142,7 @@ took_alike n c w v s t s' t' g h r is same e = subst (λ x. OnceAs (Standing n c
     by_gives : (x : TurnGives) → OnceAs (Standing n c) (took w c n s' x) (took v c n t' x)
     by_gives (Gave text) = record { out = ap (λ name. out.Line name text) (same_name n c w v r.alike); more = refl; after = after }
     by_gives Idle = record { out = refl; more = refl; after = after }
+    by_gives (NotDue tick) = record { out = refl; more = refl; after = after }
     by_gives Spent = record { out = refl; more = refl; after = r }
     by_gives (Over code) = record { out = refl; more = refl; after = r }
 
@@ -146,8 +151,9 @@ take_alike n c w v r =
     both_rule (OnceAs (Standing n c)) n w v (session_of w c) (session_of v c) _ _ _ _ r.own (sym (same_place n c w v r.alike) ∙ r.own)
     (same_session n c w v r.alike) (record { out = refl; more = refl; after = r })
     (λ s t is.
-    let e = turn_alike w.items v.items s t (same_items n c w v r.alike) is.2 in
-    took_alike n c w v s t (session_turn w.items s).session (session_turn v.items t).session (session_turn w.items s).gives (session_turn v.items t).gives r is
+    let e = turn_alike w.tick v.tick w.items v.items s t (same_tick n c w v r.alike) (same_items n c w v r.alike) is.2 in
+    took_alike n c w v s t (session_turn w.tick w.items s).session (session_turn v.tick v.items t).session (session_turn w.tick w.items s).gives
+    (session_turn v.tick v.items t).gives r is
     (ap (λ (x : SessionTurn). x.session) e) (ap (λ (x : SessionTurn). x.gives) e))
 
 -- an enqueue
@@ -238,16 +244,27 @@ remove_alike sub s t same =
     ∙ ap (on_board (removed sub)) same
     ∙ ap (λ (b : Board). record t { board = b }) (removed_same sub t.board)
 
+reconf_alike : (sub : ℕ) (frequency : Option ℕ) (s t : Session) → unnumbered s ≡ unnumbered t
+    → unnumbered (on_board (reconfigured sub frequency) s) ≡ unnumbered (on_board (reconfigured sub frequency) t)
+reconf_alike sub frequency s t same =
+    ap (λ (b : Board). record s { board = b }) (sym (reconfigured_same sub frequency s.board))
+    ∙ ap (on_board (reconfigured sub frequency)) same
+    ∙ ap (λ (b : Board). record t { board = b }) (reconfigured_same sub frequency t.board)
+
 operates_alike : (n c : ℕ) (w v : World) (req : List ℕ) (o : Op) (s t : Session) → Alike n c w v → Sessions n w v s t
     → lacks_slots_for w o ≡ lacks_slots_for v o → AlikeAfter n c (operates w c req o n s) (operates v c req o n t)
 operates_alike n c w v req (op.Add a) s t e is room =
     operated_alike n c w v req s t (add_code w s a) (add_code v t a) (subscribed w a) (subscribed v a) e is (code_alike n c w v s t a e is.2 room)
     (add_alike n c w v s t a e is.2)
 operates_alike n c w v req (op.Delete sub) s t e is room =
-    operated_alike n c w v req s t (delete_code s sub) (delete_code t sub) (on_board (removed sub)) (on_board (removed sub)) e is
-    (sym (delete_same s sub) ∙ ap (λ x. delete_code x sub) is.2 ∙ delete_same t sub) (remove_alike sub s t is.2)
-operates_alike n c w v req (op.Reconf sub frequency) s t e is room = record { outs = refl; after = e }
-operates_alike n c w v req (op.Constrain bandwidth) s t e is room = record { outs = refl; after = e }
+    operated_alike n c w v req s t (change_code s sub) (change_code t sub) (on_board (removed sub)) (on_board (removed sub)) e is
+    (sym (change_same s sub) ∙ ap (λ x. change_code x sub) is.2 ∙ change_same t sub) (remove_alike sub s t is.2)
+operates_alike n c w v req (op.Reconf sub frequency) s t e is room =
+    operated_alike n c w v req s t (change_code s sub) (change_code t sub) (on_board (reconfigured sub frequency)) (on_board (reconfigured sub frequency)) e is
+    (sym (change_same s sub) ∙ ap (λ x. change_code x sub) is.2 ∙ change_same t sub) (reconf_alike sub frequency s t is.2)
+operates_alike n c w v req (op.Constrain limit) s t e is room =
+    operated_alike n c w v req s t (constrain_code s) (constrain_code t) (constrained limit) (constrained limit) e is
+    (ap (λ x. constrain_code x) is.2) (ap (constrained limit) is.2)
 operates_alike n c w v req op.ForceRebind s t e is room = record { outs = refl; after = e }
 operates_alike n c w v req op.Destroy s t e is room =
     operated_alike n c w v req s t None None (ended destroyed) (ended destroyed) e is refl (ap (ended destroyed) is.2)

@@ -313,6 +313,77 @@ pub ends : printed (item kind.Merge (codes "x" ∷ []) ∷ opens ∷ add mode.Me
 unfolding digits
 ends = refl
 
+-- frequencies and bandwidths
+
+-- `tick MS`, and an add line with a frequency
+abbrev tick : ℕ → World → Stepped
+tick ms w = does w (step.Tick ms) 1
+
+abbrev add_at : Mode → List ℕ → World → Stepped
+add_at m frequency w =
+    asks (record { sub = codes "1"; items = codes "q"; fields = codes "x"; mode = m; snapshot = None; buffer = None; frequency = Some frequency }) w
+
+-- two updates a second: the second one comes 500 ms behind the first
+pub by_frequency : printed (item kind.Merge (codes "x" ∷ []) ∷ opens ∷ add_at mode.Merge (codes "2.0") ∷ message 1 (codes "A") ∷ enqueue 1 ∷ take 9
+    ∷ tick 499 ∷ message 2 (codes "B") ∷ enqueue 1 ∷ take 9 ∷ tick 500 ∷ take 9 ∷ [])
+    ≡ codes "c:REQOK,3\n-no 1\n-moved 1\n" ++ opening ++ codes "c:SUBOK,1,1,1\nc:CONF,1,2.0,filtered\nc:U,1,1,A\n-idle\n"
+    ++ codes "-no 2\n-moved 2\n-notdue 500\nc:U,1,1,B\n-idle\n"
+unfolding digits
+by_frequency = refl
+
+-- between them each turn merges what came: the update of the later turn has both changes
+pub merged_meanwhile : printed (item kind.Merge (codes "x" ∷ []) ∷ opens ∷ add_at mode.Merge (codes "2.0") ∷ message 1 (codes "A") ∷ enqueue 1 ∷ take 9
+    ∷ message 2 (codes "B") ∷ enqueue 1 ∷ take 9 ∷ message 3 (codes "C") ∷ enqueue 1 ∷ tick 500 ∷ take 9 ∷ [])
+    ≡ codes "c:REQOK,3\n-no 1\n-moved 1\n" ++ opening ++ codes "c:SUBOK,1,1,1\nc:CONF,1,2.0,filtered\nc:U,1,1,A\n-idle\n"
+    ++ codes "-no 2\n-moved 2\n-notdue 500\n-no 3\n-moved 3\nc:U,1,1,C\n-idle\n"
+unfolding digits
+merged_meanwhile = refl
+
+-- 0.08 kbit per s, which is 80 bits: two updates of 9 bytes, with CR LF, leave a debt of 64 bits, which is gone at tick 800
+abbrev opens_at : List ℕ → World → Stepped
+opens_at bandwidth = create (says (codes "LS_requested_max_bandwidth") bandwidth ∷ [])
+
+abbrev three_values : List (World → Stepped)
+three_values = message 1 (codes "A") ∷ message 2 (codes "B") ∷ message 3 (codes "C") ∷ enqueue 3 ∷ []
+
+pub by_bandwidth : printed (item kind.Merge (codes "x" ∷ []) ∷ conn ∷ opens_at (codes "0.08") ∷ add mode.Raw (codes "x") None None
+    ∷ (three_values ++ take 9 ∷ tick 800 ∷ take 9 ∷ tick 801 ∷ take 9 ∷ []))
+    ≡ codes "c:REQOK,4\n-no 1\n-no 2\n-no 3\n-moved 1\n-moved 2\n-moved 3\nc:CONOK,S1,50000,5000,*\nc:SERVNAME,tlcpd\nc:CONS,0.08\n"
+    ++ codes "c:SUBOK,1,1,1\nc:CONF,1,unlimited,unfiltered\nc:U,1,1,A\nc:U,1,1,B\n-notdue 801\n-notdue 801\nc:U,1,1,C\n-idle\n"
+unfolding digits
+by_bandwidth = refl
+
+-- a constrain: CONS comes before the numbered lines, and the credit is the greatest one again
+abbrev constrain : List ℕ → World → Stepped
+constrain bandwidth = operates_on (codes "constrain") (says (codes "LS_requested_max_bandwidth") bandwidth ∷ [])
+
+pub constrained : printed (item kind.Merge (codes "x" ∷ []) ∷ opens ∷ add mode.Raw (codes "x") None None ∷ take 3 ∷ constrain (codes "0.08")
+    ∷ (three_values ++ take 9 ∷ constrain (codes "0.080") ∷ take 9 ∷ []))
+    ≡ codes "c:REQOK,3\n" ++ opening ++ codes "c:REQOK,r\n-no 1\n-no 2\n-no 3\n-moved 1\n-moved 2\n-moved 3\nc:CONS,0.08\nc:SUBOK,1,1,1\n"
+    ++ codes "c:CONF,1,unlimited,unfiltered\nc:U,1,1,A\nc:U,1,1,B\n-notdue 801\nc:REQOK,r\nc:CONS,0.08\nc:U,1,1,C\n-idle\n"
+unfolding digits
+constrained = refl
+
+-- a reconf numbers CONF, and the tick of the last update stays
+abbrev reconf : List ℕ → World → Stepped
+reconf frequency = operates_on (codes "reconf") (says (codes "LS_subId") (codes "1") ∷ says (codes "LS_requested_max_frequency") frequency ∷ [])
+
+pub reconfigured : printed (item kind.Merge (codes "x" ∷ []) ∷ opens ∷ reconf (codes "2") ∷ add mode.Merge (codes "x") None None ∷ message 1 (codes "A")
+    ∷ enqueue 1 ∷ take 9 ∷ reconf (codes "0.5") ∷ message 2 (codes "B") ∷ enqueue 1 ∷ take 9 ∷ reconf (codes "unlimited") ∷ take 9 ∷ [])
+    ≡ codes "c:REQERR,r,19,Unknown subscription\nc:REQOK,4\n-no 1\n-moved 1\n" ++ opening
+    ++ codes "c:SUBOK,1,1,1\nc:CONF,1,unlimited,filtered\nc:U,1,1,A\n-idle\nc:REQOK,r\n-no 2\n-moved 2\nc:CONF,1,0.5,filtered\n-notdue 2000\n"
+    ++ codes "c:REQOK,r\nc:CONF,1,unlimited,filtered\nc:U,1,1,B\n-idle\n"
+unfolding digits
+reconfigured = refl
+
+-- mode RAW has no frequency
+pub raw_reconfigured : printed (item kind.Merge (codes "x" ∷ []) ∷ opens ∷ add_at mode.Raw (codes "2.0") ∷ reconf (codes "0.5")
+    ∷ (three_values ++ take 10 ∷ []))
+    ≡ codes "c:REQOK,3\nc:REQOK,r\n-no 1\n-no 2\n-no 3\n-moved 1\n-moved 2\n-moved 3\n" ++ opening
+    ++ codes "c:SUBOK,1,1,1\nc:CONF,1,unlimited,unfiltered\nc:CONF,1,unlimited,unfiltered\nc:U,1,1,A\nc:U,1,1,B\nc:U,1,1,C\n-idle\n"
+unfolding digits
+raw_reconfigured = refl
+
 -- two sessions: in one run the second one takes two lines, in the other its slot moves; the first one is told the same
 abbrev step_once : Step → Repeat
 step_once s = record { step = s; times = 1 }
@@ -344,14 +415,14 @@ pub apart : DifferElsewhere 0 0 two_sessions two_sessions apart_steps
 unfolding digits
 apart = (
   record { session = refl; apart = differ 1 0 refl },
-  refl,
+  record { items = refl; tick = refl },
   (
     record { session = refl; apart = no_place 0 },
     record { session = refl; apart = no_place 0 },
-    refl,
+    record { items = refl; tick = refl },
     (
       record { session = refl; apart = differ 1 0 refl },
-      refl,
+      record { items = refl; tick = refl },
       (record { session = refl; on = refl; room = neither refl refl }, (record { session = refl; on = refl; room = neither refl refl }, tt)),
     ),
   ),
@@ -364,7 +435,7 @@ told_apart = refl
 
 -- too many lines wait
 abbrev with_session : (Session → Session) → World
-with_session f = let w = after empty (item kind.Merge (codes "x" ∷ []) ∷ opens ∷ []) in record w { sessions = f (opened 1 5000) ∷ [] }
+with_session f = let w = after empty (item kind.Merge (codes "x" ∷ []) ∷ opens ∷ []) in record w { sessions = f (opened 1 5000 None) ∷ [] }
 
 abbrev waiting : Session → Session
 waiting s = record s { board = record { lines = replicate 511 (Ends 9); round = [] } }
@@ -375,7 +446,7 @@ too_many_lines = refl
 
 -- and too many subscriptions
 abbrev slot_of : ℕ → Live
-slot_of sub = record { sub = sub; rank = 1; item = 0; number = 1; wanted = one_field; slot = raw_behind }
+slot_of sub = record { sub = sub; rank = 1; item = 0; number = 1; frequency = None; wanted = one_field; slot = raw_behind }
 
 abbrev subscribed : Session → Session
 subscribed s = record s { board = record { lines = []; round = replicate 256 (slot_of 9) } }
@@ -411,31 +482,28 @@ before_no_line = refl
 pub over_http : first_refused empty (lines_of true (codes "conn c http\n")) ≡ Some NotBuilt
 over_http = refl
 
-pub a_tick : first_refused empty (lines_of true (codes "tick 5\n")) ≡ Some NotBuilt
-a_tick = refl
-
 pub a_loss : first_refused empty (lines_of true (codes "open c\nlose c\n")) ≡ Some NotBuilt
 a_loss = refl
 
--- so are requests: an add with a frequency, and a create with a bandwidth
-abbrev is_built_add : Option (List ℕ) → Bool
-is_built_add frequency =
-    let w = after empty (item kind.Merge (codes "x" ∷ []) ∷ opens ∷ []) in
-    are_built w 0 (codes "control")
-    (Some (all_pairs w.line
-    (record { sub = codes "1"; items = codes "q"; fields = codes "x"; mode = mode.Merge; snapshot = None; buffer = None; frequency = frequency })))
+-- so are the requests for another stream
+abbrev is_built_request : List ℕ → List Pair → Bool
+is_built_request name ps = are_built (after empty (item kind.Merge (codes "x" ∷ []) ∷ opens ∷ [])) 0 name (Some ps)
 
-pub without_frequency : is_built_add None ≡ true
+pub a_bind : is_built_request (codes "bind_session") (says (codes "LS_session") (codes "S1") ∷ []) ≡ false
 unfolding digits
-without_frequency = refl
+a_bind = refl
 
-pub with_frequency : is_built_add (Some (codes "2")) ≡ false
+pub a_rebind : is_built_request (codes "control")
+    (says (codes "LS_reqId") (codes "r") ∷ says (codes "LS_session") (codes "S1") ∷ says (codes "LS_op") (codes "force_rebind") ∷ []) ≡ false
 unfolding digits
-with_frequency = refl
+a_rebind = refl
 
-pub a_bandwidth : are_built (after empty (conn ∷ [])) 0 (codes "create_session") (Some (says (codes "LS_requested_max_bandwidth") (codes "unlimited") ∷ []))
-    ≡ false
-a_bandwidth = refl
+-- and a tick is built
+pub a_tick : first_refused empty (lines_of true (codes "tick 5\ntick 5\n")) ≡ None
+a_tick = refl
+
+pub no_tick_back : first_refused empty (lines_of true (codes "tick 5\ntick 4\n")) ≡ Some BadScript
+no_tick_back = refl
 
 -- lines without a step of their own compute as bytes
 

@@ -4,6 +4,7 @@ use Rattle.std.proofs.Common.{◌&&◌, ◌||◌, Option, Some, None, nat_lt, ap
 use Rattle.std.proofs.lemmas.Bool.{ltb-true, eq-eqb, ne_eqb}
 use Rattle.std.proofs.lemmas.Bool.Decides.{nat_tests}
 use Rattle.ls_event.specs.declared.event.Entry.{Entry}
+use Rattle.ls_event.specs.declared.event.Mode.{Mode}
 use Rattle.ls_event.specs.declared.event.Mode.TheVariants as mode
 use Rattle.ls_event.specs.Slots.{Plan, Slot, enqueued}
 use Rattle.ls_mirror.specs.declared.command.KeyPlaces.{KeyPlaces}
@@ -13,7 +14,9 @@ use Rattle.ls_world.specs.CommandMode.{IsKeyed}
 use Rattle.ls_world.specs.Cutting.{Ask, Wanted, Turn, turn}
 use Rattle.ls_world.specs.Lines.{Line, Begins, Ends, Configures, Tells, came}
 use Rattle.ls_world.specs.World.{Item, Live, Board, RoundLine, Round, history_of, shape_at, joined_slot, keys_shown, are_filtered, change, is_at, is_of}
-use Rattle.ls_world.specs.World.{is_used, joined_all, added, without, removed, enqueue_slot, enqueue_at, enqueued_in, live_turn, round_of, taken_in}
+use Rattle.ls_world.specs.World.{frequency_of, is_used, joined_all, added, without, removed, enqueue_slot, enqueue_at}
+use Rattle.ls_world.specs.World.{enqueued_in, live_turn, round_of, taken_in}
+use Rattle.ls_world.specs.World.{frequency_in, is_filtered, mode_in, with_frequency, reconfigured}
 use Rattle.ls_world.proofs.Parts.{turn_if, met_by, given_by}
 use Rattle.ls_world.specs.Steps.{grown}
 use Rattle.ls_world.specs.Lawful.{Each, Apart, LawfulSlot, LawfulLive, LawfulBoard}
@@ -126,10 +129,10 @@ enqueue_keeps items sub rank s l =
     }
 
 -- a line of another slot brings nothing
-elsewhere : (lines : List Line) (items : List Item) (sub rank : ℕ) (c : Came) (v : Live) → is_at sub rank v ≡ false → LawfulLive items lines v
-    → LawfulLive items (Tells sub rank c ∷ lines) v
-elsewhere lines items sub rank c v other l =
-    let e : came v.sub v.rank (Tells sub rank c ∷ lines) ≡ came v.sub v.rank lines =
+elsewhere : (lines : List Line) (items : List Item) (sub rank tick : ℕ) (c : Came) (v : Live) → is_at sub rank v ≡ false → LawfulLive items lines v
+    → LawfulLive items (Tells sub rank tick c ∷ lines) v
+elsewhere lines items sub rank tick c v other l =
+    let e : came v.sub v.rank (Tells sub rank tick c ∷ lines) ≡ came v.sub v.rank lines =
     ap (λ (b : Bool). cond b (c ∷ came v.sub v.rank lines) (came v.sub v.rank lines)) other in
     record { declared = l.declared; shape = l.shape; came = subst (λ (cs : List Came). LawfulSlot (history_of items v.item) v.wanted v.slot cs) (sym e) l.came }
 
@@ -142,19 +145,19 @@ eqb_swap m n = grind (arith, nat_tests)
 is_at_swap : (v u : Live) → is_at v.sub v.rank u ≡ false → is_at u.sub u.rank v ≡ false
 is_at_swap v u h = rw (eqb_swap u.sub v.sub, eqb_swap u.rank v.rank) h
 
-here : (lines : List Line) (items : List Item) (c : Came) (v : Live) → v.item < length items → v.slot.plan.shape ≡ shape_at items v.item
+here : (lines : List Line) (items : List Item) (tick : ℕ) (c : Came) (v : Live) → v.item < length items → v.slot.plan.shape ≡ shape_at items v.item
     → LawfulSlot (history_of items v.item) v.wanted v.slot (c ∷ came v.sub v.rank lines)
-    → LawfulLive items (Tells v.sub v.rank c ∷ lines) v
-here lines items c v declared shape l =
+    → LawfulLive items (Tells v.sub v.rank tick c ∷ lines) v
+here lines items tick c v declared shape l =
     let e : ((v.sub == v.sub) && (v.rank == v.rank)) ≡ true = rw (eqb_self v.sub, eqb_self v.rank) in
-    let f : came v.sub v.rank (Tells v.sub v.rank c ∷ lines) ≡ c ∷ came v.sub v.rank lines =
+    let f : came v.sub v.rank (Tells v.sub v.rank tick c ∷ lines) ≡ c ∷ came v.sub v.rank lines =
     ap (λ (b : Bool). cond b (c ∷ came v.sub v.rank lines) (came v.sub v.rank lines)) e in
     record { declared = declared; shape = shape; came = subst (λ (cs : List Came). LawfulSlot (history_of items v.item) v.wanted v.slot cs) (sym f) l }
 
 -- the round after its turns
-abbrev CameBy : List Item → List Line → Option RoundLine → List Live → Type 0
-CameBy items lines None kept = Unit {0}
-CameBy items lines (Some t) kept = LawfulLive items (Tells t.live.sub t.live.rank t.came ∷ lines) t.live
+abbrev CameBy : ℕ → List Item → List Line → Option RoundLine → List Live → Type 0
+CameBy now items lines None kept = Unit {0}
+CameBy now items lines (Some t) kept = LawfulLive items (Tells t.live.sub t.live.rank now t.came ∷ lines) t.live
     × Each (λ u. is_at t.live.sub t.live.rank u ≡ false) kept
 
 -- a slot that stands apart from all of the round before
@@ -162,19 +165,19 @@ abbrev AwayFrom : Live → Option RoundLine → Type 0
 AwayFrom v None = Unit {0}
 AwayFrom v (Some t) = is_at v.sub v.rank t.live ≡ false
 
-record LawfulRound (items : List Item) (lines : List Line) (slots : List Live) (r : Round) : Type 0 where
+record LawfulRound (now : ℕ) (items : List Item) (lines : List Line) (slots : List Live) (r : Round) : Type 0 where
   kept : Each (LawfulLive items lines) r.kept
   apart : Apart r.kept
-  came : CameBy items lines r.came r.kept
+  came : CameBy now items lines r.came r.kept
   away : (v : Live) → Each (λ u. is_at v.sub v.rank u ≡ false) slots → Each (λ u. is_at v.sub v.rank u ≡ false) r.kept × AwayFrom v r.came
 
-met_keeps : (items : List Item) (lines : List Line) (v : Live) (s : Slot) (o : Option Came) (vs : List Live) (r : Round)
+met_keeps : (now : ℕ) (items : List Item) (lines : List Line) (v : Live) (s : Slot) (o : Option Came) (vs : List Live) (r : Round)
     → v.item < length items → s.plan.shape ≡ shape_at items v.item → AfterTurn (history_of items v.item) v.wanted (came v.sub v.rank lines) s o
-    → Each (LawfulLive items lines) vs → Each (λ u. is_at v.sub v.rank u ≡ false) vs → Apart vs → LawfulRound items lines vs r
-    → LawfulRound items lines (v ∷ vs) (met_by (record v { slot = s }) o vs r)
-met_keeps items lines v s (Some c) vs r declared shape l each away apart rest =
-    record { kept = each; apart = apart; came = (here lines items c (record v { slot = s }) declared shape l, away); away = λ x k. (k.1, k.0) }
-met_keeps items lines v s None vs r declared shape l each away apart rest =
+    → Each (LawfulLive items lines) vs → Each (λ u. is_at v.sub v.rank u ≡ false) vs → Apart vs → LawfulRound now items lines vs r
+    → LawfulRound now items lines (v ∷ vs) (met_by (record v { slot = s }) o vs r)
+met_keeps now items lines v s (Some c) vs r declared shape l each away apart rest =
+    record { kept = each; apart = apart; came = (here lines items now c (record v { slot = s }) declared shape l, away); away = λ x k. (k.1, k.0) }
+met_keeps now items lines v s None vs r declared shape l each away apart rest =
     record {
       kept = (record { declared = declared; shape = shape; came = l }, rest.kept);
       apart = ((rest.away v away).0, rest.apart);
@@ -182,7 +185,7 @@ met_keeps items lines v s None vs r declared shape l each away apart rest =
       away = λ x k. ((k.0, (rest.away x k.1).0), (rest.away x k.1).1);
     }
   where
-    came_more : (o : Option RoundLine) → CameBy items lines o r.kept → AwayFrom v o → CameBy items lines o (record v { slot = s } ∷ r.kept)
+    came_more : (o : Option RoundLine) → CameBy now items lines o r.kept → AwayFrom v o → CameBy now items lines o (record v { slot = s } ∷ r.kept)
     came_more None t a = tt
     came_more (Some x) t a = (t.0, (is_at_swap v x.live a, t.1))
 
@@ -195,40 +198,41 @@ if_plan : (b : Bool) (s : Slot) (t : Turn) → t.slot.plan ≡ s.plan → (turn_
 if_plan true s t e = e
 if_plan false s t e = refl
 
-round_keeps : (due : Live → Bool) (items : List Item) (lines : List Line) (vs : List Live) → Each (LawfulLive items lines) vs → Apart vs
-    → LawfulRound items lines vs (round_of due items lines vs)
-round_keeps due items lines [] e a = record { kept = tt; apart = tt; came = tt; away = λ v k. (tt, tt) }
-round_keeps due items lines (v ∷ vs) e a =
-    met_keeps items lines v (live_turn due items lines v).slot (live_turn due items lines v).came vs (round_of due items lines vs) e.0.declared
+round_keeps : (due : Live → Bool) (now : ℕ) (items : List Item) (lines : List Line) (vs : List Live) → Each (LawfulLive items lines) vs → Apart vs
+    → LawfulRound now items lines vs (round_of due items lines vs)
+round_keeps due now items lines [] e a = record { kept = tt; apart = tt; came = tt; away = λ v k. (tt, tt) }
+round_keeps due now items lines (v ∷ vs) e a =
+    met_keeps now items lines v (live_turn due items lines v).slot (live_turn due items lines v).came vs (round_of due items lines vs) e.0.declared
     (ap (λ (p : Plan). p.shape) (if_plan (due v) v.slot (turn (history_of items v.item) v.wanted v.slot (came v.sub v.rank lines))
     (turn_plan (history_of items v.item) v.wanted v.slot (came v.sub v.rank lines))) ∙ e.0.shape)
     (if_keeps (due v) (history_of items v.item) v.wanted v.slot (came v.sub v.rank lines)
     (turn (history_of items v.item) v.wanted v.slot (came v.sub v.rank lines)) e.0.came
     (turn_keeps (history_of items v.item) v.wanted v.slot (came v.sub v.rank lines) e.0.came))
-    e.1 a.0 a.1 (round_keeps due items lines vs e.1 a.1)
+    e.1 a.0 a.1 (round_keeps due now items lines vs e.1 a.1)
 
 apart_append : (vs us : List Live) → Apart vs → Apart us → Each (λ v. Each (λ u. is_at v.sub v.rank u ≡ false) us) vs → Apart (vs ++ us)
 apart_append [] us a b c = b
 apart_append (v ∷ vs) us a b c = (each_append (λ u. is_at v.sub v.rank u ≡ false) vs us a.0 c.0, apart_append vs us a.1 b c.1)
 
-given_keeps : (items : List Item) (s : Board) (kept : List Live) (o : Option RoundLine) → Each (LawfulLive items s.lines) kept → Apart kept
-    → CameBy items s.lines o kept → LawfulBoard items (given_by s kept o)
-given_keeps items s kept None e a t = record { apart = a; slots = e }
-given_keeps items s kept (Some x) e a t =
+given_keeps : (now : ℕ) (items : List Item) (s : Board) (kept : List Live) (o : Option RoundLine) → Each (LawfulLive items s.lines) kept → Apart kept
+    → CameBy now items s.lines o kept → LawfulBoard items (given_by now s kept o)
+given_keeps now items s kept None e a t = record { apart = a; slots = e }
+given_keeps now items s kept (Some x) e a t =
     record {
       apart = apart_append kept (x.live ∷ []) a (tt, tt) (each_map (λ u. is_at x.live.sub x.live.rank u ≡ false)
           (λ v. Each (λ u. is_at v.sub v.rank u ≡ false) (x.live ∷ [])) kept (λ u h. (is_at_swap x.live u h, tt)) t.1);
-      slots = each_append (LawfulLive items (Tells x.live.sub x.live.rank x.came ∷ s.lines)) kept (x.live ∷ [])
+      slots = each_append (LawfulLive items (Tells x.live.sub x.live.rank now x.came ∷ s.lines)) kept (x.live ∷ [])
           (each_map (λ u. (is_at x.live.sub x.live.rank u ≡ false) × LawfulLive items s.lines u)
-          (LawfulLive items (Tells x.live.sub x.live.rank x.came ∷ s.lines)) kept (λ u h. elsewhere s.lines items x.live.sub x.live.rank x.came u h.0 h.1)
+          (LawfulLive items (Tells x.live.sub x.live.rank now x.came ∷ s.lines)) kept
+          (λ u h. elsewhere s.lines items x.live.sub x.live.rank now x.came u h.0 h.1)
           (each_both (λ u. is_at x.live.sub x.live.rank u ≡ false) (LawfulLive items s.lines) kept t.1 e))
           (t.0, tt);
     }
 
-pub take_keeps : (due : Live → Bool) (items : List Item) (s : Board) → LawfulBoard items s → LawfulBoard items (taken_in due items s)
-take_keeps due items s l =
-    let r = round_keeps due items s.lines s.round l.slots l.apart in
-    given_keeps items s (round_of due items s.lines s.round).kept (round_of due items s.lines s.round).came r.kept r.apart r.came
+pub take_keeps : (due : Live → Bool) (now : ℕ) (items : List Item) (s : Board) → LawfulBoard items s → LawfulBoard items (taken_in due now items s)
+take_keeps due now items s l =
+    let r = round_keeps due now items s.lines s.round l.slots l.apart in
+    given_keeps now items s (round_of due items s.lines s.round).kept (round_of due items s.lines s.round).came r.kept r.apart r.came
 
 -- a new subscription
 pub or_left : (a b : Bool) → (a || b) ≡ false → a ≡ false
@@ -251,9 +255,10 @@ pub unused_each : (sub : ℕ) (vs : List Live) → is_used sub vs ≡ false → 
 unused_each sub [] h = tt
 unused_each sub (v ∷ vs) h = (or_left (is_of sub v) (is_used sub vs) h, unused_each sub vs (or_right (is_of sub v) (is_used sub vs) h))
 
-begun_keeps : (items : List Item) (lines : List Line) (sub : ℕ) (filtered : Bool) (n fields : ℕ) (keys : Option KeyPlaces) (v : Live) → is_of sub v ≡ false
-    → LawfulLive items lines v → LawfulLive items (Configures sub filtered ∷ Begins sub n fields keys ∷ lines) v
-begun_keeps items lines sub filtered n fields keys v other l =
+begun_keeps : (items : List Item) (lines : List Line) (sub : ℕ) (frequency : Option ℕ) (filtered : Bool) (n fields : ℕ) (keys : Option KeyPlaces) (v : Live)
+    → is_of sub v ≡ false
+    → LawfulLive items lines v → LawfulLive items (Configures sub frequency filtered ∷ Begins sub n fields keys ∷ lines) v
+begun_keeps items lines sub frequency filtered n fields keys v other l =
     record {
       declared = l.declared;
       shape = l.shape;
@@ -267,11 +272,11 @@ pub record MayJoin (items : List Item) (a : Ask) : Type 0 where
   pub some : 0 < a.size
   pub keys : a.mode ≡ mode.Command → IsKeyed (plan_of (shape_at items a.item) (history_of items a.item) a.mode a.size) a.wanted.places
 
-joined_keeps : (items : List Item) (free : ℕ → ℕ) (lines : List Line) (sub : ℕ) (filtered : Bool) (n fields : ℕ) (keys : Option KeyPlaces) (rank : ℕ)
-    (asks : List Ask) → Each (MayJoin items) asks
-    → Each (LawfulLive items (Configures sub filtered ∷ Begins sub n fields keys ∷ lines)) (joined_all items free sub rank asks)
-joined_keeps items free lines sub filtered n fields keys rank [] may = tt
-joined_keeps items free lines sub filtered n fields keys rank (a ∷ asks) may = (
+joined_keeps : (items : List Item) (free : ℕ → ℕ) (lines : List Line) (sub : ℕ) (frequency : Option ℕ) (filtered : Bool) (n fields : ℕ)
+    (keys : Option KeyPlaces) (rank : ℕ) (asks : List Ask) → Each (MayJoin items) asks
+    → Each (LawfulLive items (Configures sub frequency filtered ∷ Begins sub n fields keys ∷ lines)) (joined_all items free sub rank asks)
+joined_keeps items free lines sub frequency filtered n fields keys rank [] may = tt
+joined_keeps items free lines sub frequency filtered n fields keys rank (a ∷ asks) may = (
   record {
     declared = may.0.declared;
     shape = ap (λ (p : Plan). p.shape) (joined_plan (plan_of (shape_at items a.item) (history_of items a.item) a.mode a.size) (history_of items a.item)
@@ -280,7 +285,7 @@ joined_keeps items free lines sub filtered n fields keys rank (a ∷ asks) may =
         (sym (ap (λ (b : Bool). cond b [] (came sub rank lines)) (eqb_self sub)))
         (joins (plan_of (shape_at items a.item) (history_of items a.item) a.mode a.size) (history_of items a.item) a.wanted refl may.0.some may.0.keys);
   },
-  joined_keeps items free lines sub filtered n fields keys (rank + 1) asks may.1,
+  joined_keeps items free lines sub frequency filtered n fields keys (rank + 1) asks may.1,
 )
 
 not_equal : (m n : ℕ) → m < n → (m == n) ≡ false
@@ -314,9 +319,9 @@ add_keeps items free sub fields asks b new may l =
           (λ v h. joined_away items free sub 1 asks v h) away);
       slots = each_append (LawfulLive items (added items free sub fields asks b).lines) b.round (joined_all items free sub 1 asks)
           (each_map (λ v. (is_of sub v ≡ false) × LawfulLive items b.lines v) (LawfulLive items (added items free sub fields asks b).lines) b.round
-          (λ v h. begun_keeps items b.lines sub (are_filtered asks) (length asks) fields (keys_shown items asks) v h.0 h.1)
+          (λ v h. begun_keeps items b.lines sub (frequency_of asks) (are_filtered asks) (length asks) fields (keys_shown items asks) v h.0 h.1)
           (each_both (λ v. is_of sub v ≡ false) (LawfulLive items b.lines) b.round away l.slots))
-          (joined_keeps items free b.lines sub (are_filtered asks) (length asks) fields (keys_shown items asks) 1 asks may);
+          (joined_keeps items free b.lines sub (frequency_of asks) (are_filtered asks) (length asks) fields (keys_shown items asks) 1 asks may);
     }
 
 -- the slots of other subscriptions
@@ -355,4 +360,24 @@ remove_keeps items sub b l =
           (λ v h. ends_keeps items b.lines sub v h.0 h.1)
           (each_both (λ v. is_of sub v ≡ false) (LawfulLive items b.lines) (without sub b.round) (without_others sub b.round)
           (without_each (LawfulLive items b.lines) sub b.round l.slots));
+    }
+
+-- another frequency of a subscription brings nothing to a slot
+frequency_live : (items : List Item) (lines : List Line) (sub n : ℕ) (f g : Option ℕ) (filtered : Bool) (v : Live) → LawfulLive items lines v
+    → LawfulLive items (Configures n g filtered ∷ lines) (with_frequency sub f v)
+frequency_live items lines sub n f g filtered v l =
+    cond_rule (LawfulLive items (Configures n g filtered ∷ lines)) (is_of sub v) (record v { frequency = f }) v
+    (λ t. record { declared = l.declared; shape = l.shape; came = l.came }) (λ t. record { declared = l.declared; shape = l.shape; came = l.came })
+
+frequency_key : (sub : ℕ) (f : Option ℕ) (v : Live) → SameKey v (with_frequency sub f v)
+frequency_key sub f v = cond_rule (SameKey v) (is_of sub v) (record v { frequency = f }) v (λ t. (refl, refl)) (λ t. (refl, refl))
+
+pub reconf_keeps : (items : List Item) (sub : ℕ) (frequency : Option ℕ) (b : Board) → LawfulBoard items b → LawfulBoard items (reconfigured sub frequency b)
+reconf_keeps items sub frequency b l =
+    let m : Mode = mode_in sub b.round in
+    record {
+      apart = apart_mapped (with_frequency sub (frequency_in m frequency)) (frequency_key sub (frequency_in m frequency)) b.round l.apart;
+      slots = each_mapped (LawfulLive items b.lines) (LawfulLive items (Configures sub (frequency_in m frequency) (is_filtered m) ∷ b.lines))
+          (with_frequency sub (frequency_in m frequency)) b.round
+          (frequency_live items b.lines sub sub (frequency_in m frequency) (frequency_in m frequency) (is_filtered m)) l.slots;
     }

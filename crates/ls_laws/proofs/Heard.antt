@@ -63,8 +63,8 @@ heard_wires sub rank (Begins s items fields None ∷ lines) = started (s == sub)
 heard_wires sub rank (Begins s items fields (Some at) ∷ lines) = started (s == sub) (heard sub rank (wires lines)) (came sub rank lines)
     (heard_wires sub rank lines)
 heard_wires sub rank (Ends s ∷ lines) = started (s == sub) (heard sub rank (wires lines)) (came sub rank lines) (heard_wires sub rank lines)
-heard_wires sub rank (Configures s filtered ∷ lines) = heard_wires sub rank lines
-heard_wires sub rank (Tells s p c ∷ lines) =
+heard_wires sub rank (Configures s frequency filtered ∷ lines) = heard_wires sub rank lines
+heard_wires sub rank (Tells s p tick c ∷ lines) =
     tells_heard (last_row (came s p lines)) sub rank s p c.what (heard sub rank (wires lines))
     ∙ here_or_not sub rank s p lines c (heard sub rank (wires lines)) ((s == sub) && (p == rank)) refl (heard_wires sub rank lines)
 
@@ -138,8 +138,8 @@ no_message : (lines : List Line) (l : Line) → is_of_message (wire lines l) ≡
 no_message lines (Begins s items fields None) = refl
 no_message lines (Begins s items fields (Some at)) = refl
 no_message lines (Ends s) = refl
-no_message lines (Configures s filtered) = refl
-no_message lines (Tells s p c) = tells_no_message (last_row (came s p lines)) s p c.what
+no_message lines (Configures s frequency filtered) = refl
+no_message lines (Tells s p tick c) = tells_no_message (last_row (came s p lines)) s p c.what
 
 pub are_read : (lines : List Line) → CanWrite lines → AreRead (texts lines) (wires lines)
 are_read [] c = tt

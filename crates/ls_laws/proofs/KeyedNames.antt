@@ -23,7 +23,7 @@ use Rattle.ls_event.specs.States.{state_in, order_cause, push_refusal}
 use Rattle.ls_event.specs.Publishes.{EachFollows, IsHistory}
 use Rattle.ls_event.specs.Keyed.{text_of_cell, key_of, deletes, row_at, with_row, without, row_with, keyed_after, keyed_after_all, keyed}
 use Rattle.ls_world.specs.Lawful.{Each}
-use Rattle.ls_laws.proofs.EachKey.{EachKey, key_has, each_with, each_without}
+use Rattle.ls_world.proofs.EachKey.{EachKey, key_has, each_with, each_without}
 use Rattle.ls_laws.proofs.Keys.{applied_at}
 
 -- an event that is an update names a key

@@ -21,7 +21,7 @@ use Rattle.ls_mirror.specs.Client.{Row}
 use Rattle.ls_world.specs.Tables.{place_of_field, text_or_empty, kept_of, table_or, with_word, delete_row}
 use Rattle.ls_world.specs.Cutting.{Wanted, schema_of}
 use Rattle.ls_world.specs.CommandMode.{IsKeyed}
-use Rattle.ls_laws.proofs.EachKey.{EachKey, key_has, each_with, each_without}
+use Rattle.ls_world.proofs.EachKey.{EachKey, key_has, each_with, each_without}
 
 -- the key and the command in a schema
 pub place_is : (field : ℕ) (places : List ℕ) → place_of_field field places < length places → get_or places (place_of_field field places) 0 ≡ field

@@ -28,10 +28,10 @@ use Rattle.ls_step.specs.Adding.{add_pairs}
 use Rattle.ls_world.specs.Cutting.{Ask}
 use Rattle.ls_world.specs.CommandMode.{IsKeyed}
 use Rattle.ls_world.specs.World.{World, Item, Live, Session, empty, definitions, history_of, shape_at, change, live_at, added, removed, enqueued_in, least_far}
-use Rattle.ls_world.specs.World.{free_number, on_board, opened, ended}
-use Rattle.ls_world.specs.Acting.{asks_of, subscribed, add_code, delete_code, create_code, destroyed}
+use Rattle.ls_world.specs.World.{free_number, on_board, opened, ended, reconfigured, constrained}
+use Rattle.ls_world.specs.Acting.{asks_of, subscribed, add_code, change_code, constrain_code, create_code, destroyed}
 use Rattle.ls_world.specs.Steps.{Stepped, Once, session_of, grown, is_whole, cause_to_refuse, publishes, creates, operated, operates, session_named, acts}
-use Rattle.ls_world.specs.Steps.{is_opening, malformed, request_on, requests, connects, plain_create, enqueue_once, TurnGives, Gave, Idle, Spent, Over}
+use Rattle.ls_world.specs.Steps.{is_opening, malformed, request_on, requests, connects, plain_create, enqueue_once, TurnGives, Gave, Idle, NotDue, Spent, Over}
 use Rattle.ls_world.specs.Steps.{session_turn, took}
 use Rattle.ls_world.specs.Steps.{take_once, does, does_all}
 use Rattle.ls_world.proofs.Parts.{enqueued_by}
@@ -41,8 +41,8 @@ use Rattle.ls_laws.proofs.Asked.{IsAsk, IsAsked, asked_is, size_some}
 use Rattle.ls_laws.proofs.Requested.{IsAdd, IsOp, IsRequest, request_on_is}
 use Rattle.ls_world.proofs.Rules.{found_rule, session_rule, cond_rule, repeated_keeps}
 use Rattle.ls_world.proofs.Each.{each_map, each_changed, each_append, each_at}
-use Rattle.ls_laws.proofs.Frame.{later_grown, later_declared, enqueue_keeps, MayJoin, add_keeps, remove_keeps}
-use Rattle.ls_laws.proofs.Sessions.{session_later, opened_lawful, ended_lawful, on_board_keeps, session_keeps, living_rule}
+use Rattle.ls_laws.proofs.Frame.{later_grown, later_declared, enqueue_keeps, MayJoin, add_keeps, remove_keeps, reconf_keeps}
+use Rattle.ls_laws.proofs.Sessions.{session_later, opened_lawful, constrained_lawful, ended_lawful, on_board_keeps, session_keeps, living_rule}
 
 -- a change of one session
 pub one_changed : (w : World) (n : ℕ) (s : Session) (f : Session → Session) → slice_get w.sessions n ≡ Some s
@@ -90,10 +90,13 @@ lawful_operates : (w : World) (connection : ℕ) (req : List ℕ) (o : Op) (n : 
 lawful_operates w connection req (op.Add a) n s is k l =
     lawful_operated w connection req n s (add_code w s a) (subscribed w a) is (λ none. add_lawful w s a l.items k none) l
 lawful_operates w connection req (op.Delete sub) n s is k l =
-    lawful_operated w connection req n s (delete_code s sub) (on_board (removed sub)) is
+    lawful_operated w connection req n s (change_code s sub) (on_board (removed sub)) is
     (λ none. on_board_keeps w.items (removed sub) s (remove_keeps w.items sub s.board) (omega arith)) l
-lawful_operates w connection req (op.Reconf sub frequency) n s is k l = l
-lawful_operates w connection req (op.Constrain bandwidth) n s is k l = l
+lawful_operates w connection req (op.Reconf sub frequency) n s is k l =
+    lawful_operated w connection req n s (change_code s sub) (on_board (reconfigured sub frequency)) is
+    (λ none. on_board_keeps w.items (reconfigured sub frequency) s (reconf_keeps w.items sub frequency s.board) (omega arith)) l
+lawful_operates w connection req (op.Constrain limit) n s is k l =
+    lawful_operated w connection req n s (constrain_code s) (constrained limit) is (λ none. constrained_lawful w.items limit s) l
 lawful_operates w connection req op.ForceRebind n s is k l = l
 lawful_operates w connection req op.Destroy n s is k l =
     lawful_operated w connection req n s None (ended destroyed) is (λ none. ended_lawful w.items destroyed s) l
@@ -103,8 +106,8 @@ lawful_creates w connection c l =
     found_rule (λ (r : Stepped). LawfulRecords r.after) (create_code w c) _ _
     (λ none. record {
       items = l.items;
-      sessions = each_append (LawfulSession w.items) w.sessions (opened (length w.sessions + 1) c.keepalive ∷ []) l.sessions
-          (opened_lawful w.items (length w.sessions + 1) c.keepalive, tt);
+      sessions = each_append (LawfulSession w.items) w.sessions (opened (length w.sessions + 1) c.keepalive c.bandwidth ∷ []) l.sessions
+          (opened_lawful w.items (length w.sessions + 1) c.keepalive c.bandwidth, tt);
     })
     (λ code x. l)
 
@@ -169,6 +172,7 @@ pub lawful_took : (w : World) (connection n : ℕ) (old new : Session) (g : Turn
     → LawfulRecords w → LawfulRecords (took w connection n new g).after
 lawful_took w connection n old new (Gave text) is k l = one_changed w n old (λ x. new) is (λ x. k) l
 lawful_took w connection n old new Idle is k l = one_changed w n old (λ x. new) is (λ x. k) l
+lawful_took w connection n old new (NotDue tick) is k l = one_changed w n old (λ x. new) is (λ x. k) l
 lawful_took w connection n old new Spent is k l = l
 lawful_took w connection n old new (Over code) is k l = l
 
@@ -202,9 +206,9 @@ lawful_does w (step.Enqueue connection sub rank) times range distinct l =
 lawful_does w (step.Take connection) times range distinct l =
     repeated_keeps LawfulRecords (take_once connection) times w
     (λ v k. session_rule (λ (r : Once). LawfulRecords r.after) v.sessions (session_of v connection) _
-    (λ n s. took v connection n (session_turn v.items s).session (session_turn v.items s).gives) k
-    (λ n s is. lawful_took v connection n s (session_turn v.items s).session (session_turn v.items s).gives is
-    (session_keeps v.items s (each_at (LawfulSession v.items) n s v.sessions is k.sessions)) k)) l
+    (λ n s. took v connection n (session_turn v.tick v.items s).session (session_turn v.tick v.items s).gives) k
+    (λ n s is. lawful_took v connection n s (session_turn v.tick v.items s).session (session_turn v.tick v.items s).gives is
+    (session_keeps v.tick v.items s (each_at (LawfulSession v.items) n s v.sessions is k.sessions)) k)) l
 lawful_does w (step.Lose connection) times range distinct l = l
 
 -- and steps one after another

@@ -1,6 +1,6 @@
 -- Each step whose parts are in their ranges keeps a world legible: a client decodes what its lines tell.
 use Rattle.std.proofs.Common.{◌≡◌, ◌==◌, ℕ, zero, suc, ◌+◌, ◌<◌, ◌≤◌, ◌^◌, List, [], ◌∷◌, ◌++◌, length, refl, sym, ◌∙◌, ap, arith, subst, cond, Bool, true}
-use Rattle.std.proofs.Common.{false, ◌&&◌, Option, Some, None, IfSome, nat_lt, nat_le, slice_get, codes, option_map, inl, inr}
+use Rattle.std.proofs.Common.{false, ◌&&◌, Option, Some, None, IfSome, nat_lt, slice_get, codes, option_map, inl, inr}
 use Rattle.std.specs.Prelude.{option_and_then}
 use Rattle.std.proofs.lemmas.Bool.{eq-eqb, eqb-true}
 use Rattle.ls_value.specs.declared.row.Value.{Value}
@@ -36,15 +36,15 @@ use Rattle.ls_world.specs.Came.{Came, whats}
 use Rattle.ls_world.specs.Tables.{keys_shown_at}
 use Rattle.ls_world.specs.Cutting.{Ask, Wanted, schema_of, turn}
 use Rattle.ls_world.specs.Lines.{Line, Begins, Ends, Configures, Tells, came, last_row, tells_line, begins_line, wire}
-use Rattle.ls_world.specs.World.{World, Item, Live, Board, Life, Alive, Ending, Ended, Session, RoundLine, Round, empty, definitions, history_of, shape_at}
+use Rattle.ls_world.specs.World.{World, Item, Live, Board, Session, RoundLine, Round, empty, definitions, history_of, shape_at}
 use Rattle.ls_world.specs.World.{joined_slot, change, is_at, is_of, live_at, keys_in, keys_shown, are_filtered, joined_all, added, without, removed}
-use Rattle.ls_world.specs.World.{enqueue_at, enqueue_slot, enqueued_in, free_number, live_turn, round_of, taken_in, on_board, is_unsent, given_next, opened}
-use Rattle.ls_world.specs.World.{ended}
-use Rattle.ls_world.specs.Acting.{asks_of, subscribed, add_code, delete_code, create_code, destroyed}
+use Rattle.ls_world.specs.World.{enqueue_at, enqueue_slot, enqueued_in, free_number, live_turn, round_of, taken_in, on_board, opened}
+use Rattle.ls_world.specs.World.{ended, frequency_in, frequency_of, is_filtered, mode_in, with_frequency, reconfigured, constrained, is_due}
+use Rattle.ls_world.specs.Acting.{asks_of, subscribed, add_code, change_code, constrain_code, create_code, destroyed}
 use Rattle.ls_world.specs.Steps.{Stepped, Once, repeated, SessionTurn, session_of, grown, is_whole, cause_to_refuse, publishes, creates, operated, operates}
 use Rattle.ls_world.specs.Steps.{session_named, acts, is_opening, malformed, request_on, requests, connects, plain_create, enqueue_once, TurnGives, Gave, Idle}
-use Rattle.ls_world.specs.Steps.{Spent, Over, round_turn, turn_owing, turn_living, session_turn, took, take_once, does, does_all}
-use Rattle.ls_world.proofs.Parts.{turn_if, met_by, given_by, enqueued_by, round_given}
+use Rattle.ls_world.specs.Steps.{NotDue, Spent, Over, session_turn, took, take_once, does, does_all}
+use Rattle.ls_world.proofs.Parts.{turn_if, met_by, given_by, enqueued_by}
 use Rattle.ls_world.specs.Script.{counted}
 use Rattle.ls_world.specs.RawMode.{RawSays}
 use Rattle.ls_world.specs.DistinctMode.{DistinctSays}
@@ -62,10 +62,11 @@ use Rattle.ls_laws.proofs.Updates.{updates_few}
 use Rattle.ls_laws.proofs.KeyTables.{told_places}
 use Rattle.ls_laws.proofs.ClientKeys.{told_keys}
 use Rattle.ls_laws.proofs.DistinctTruths.{IsLine, distinct_each}
+use Rattle.ls_laws.proofs.LimitTexts.{limit_written}
 use Rattle.ls_laws.proofs.Textual.{Textual, TextualEvent, KeyLineFits, key_line, plain_utf8, turn_fits, slot_fits}
 use Rattle.ls_world.proofs.Rules.{found_rule, session_rule, cond_rule, repeated_keeps}
 use Rattle.ls_laws.proofs.Laws.{lawful_does, lawful_enqueued, lawful_took, lawful_empty}
-use Rattle.ls_laws.proofs.Sessions.{session_keeps, living_rule}
+use Rattle.ls_laws.proofs.Sessions.{turn_rule, next_rule, session_keeps, living_rule}
 
 -- the subscription of a slot of mode COMMAND, whose item has keys, was begun by a SUBCMD with the places of the key and the command in its schema
 pub record IsBegun (v : Live) (keyed : Option KeyPlaces) : Type 0 where
@@ -141,9 +142,9 @@ same_fields sub other lines b c is is' same =
     the_same f = cc
 
 -- behind a line that tells of one slot, each is shown
-shown_behind : (lines : List Line) (t : Live) (c : Came) (v : Live) → Shown lines t → RowFits (length t.wanted.places) c.what → Shown lines v
-    → Shown (Tells t.sub t.rank c ∷ lines) v
-shown_behind lines t c v k fits h =
+shown_behind : (lines : List Line) (t : Live) (tick : ℕ) (c : Came) (v : Live) → Shown lines t → RowFits (length t.wanted.places) c.what → Shown lines v
+    → Shown (Tells t.sub t.rank tick c ∷ lines) v
+shown_behind lines t tick c v k fits h =
     record {
       subscription = h.subscription;
       is = tells_begun (last_row (came t.sub t.rank lines)) v.sub t.sub t.rank c.what (begun v.sub (wires lines)) ∙ h.is;
@@ -279,11 +280,11 @@ record LineIs (v : Live) (c : Came) : Type 0 where
   can : CanTell c.what
   fits : RowFits (length v.wanted.places) c.what
 
-line_is : (items : List Item) (lines : List Line) (v : Live) (c : Came) → Each IsSound items → AreTextual items
-    → LawfulLive items (Tells v.sub v.rank c ∷ lines) v → (v.slot.plan.mode ≡ mode.Command → KeyLineFits (length v.wanted.places) c.what) → LineIs v c
-line_is items lines v c sound t l command =
+line_is : (items : List Item) (lines : List Line) (v : Live) (tick : ℕ) (c : Came) → Each IsSound items → AreTextual items
+    → LawfulLive items (Tells v.sub v.rank tick c ∷ lines) v → (v.slot.plan.mode ≡ mode.Command → KeyLineFits (length v.wanted.places) c.what) → LineIs v c
+line_is items lines v tick c sound t l command =
     let e : ((v.sub == v.sub) && (v.rank == v.rank)) ≡ true = rw (eq-eqb v.sub v.sub refl, eq-eqb v.rank v.rank refl) in
-    let f : came v.sub v.rank (Tells v.sub v.rank c ∷ lines) ≡ c ∷ came v.sub v.rank lines =
+    let f : came v.sub v.rank (Tells v.sub v.rank tick c ∷ lines) ≡ c ∷ came v.sub v.rank lines =
     ap (λ (b : Bool). cond b (c ∷ came v.sub v.rank lines) (came v.sub v.rank lines)) e in
     let lawful = subst (λ (cs : List Came). LawfulSlot (history_of items v.item) v.wanted v.slot cs) f l.came in
     record {
@@ -302,52 +303,35 @@ each_last : {A : Type 0} (P : A → Type 0) (xs : List A) (x : A) → Each P (xs
 each_last P [] x e = e.0
 each_last P (y ∷ xs) x e = each_last P xs x e.1
 
-legible_given : (items : List Item) (b : Board) (kept : List Live) (o : Option RoundLine) → Each IsSound items → AreTextual items → CanWrite b.lines
-    → Each (Shown b.lines) kept → ShownLine b.lines o → LawfulBoard items (given_by b kept o)
-    → LegibleBoard (given_by b kept o)
-legible_given items b kept None sound t c k s l = record { lines = c; slots = k }
-legible_given items b kept (Some x) sound t c k s l =
+legible_given : (now : ℕ) (items : List Item) (b : Board) (kept : List Live) (o : Option RoundLine) → Each IsSound items → AreTextual items → CanWrite b.lines
+    → Each (Shown b.lines) kept → ShownLine b.lines o → LawfulBoard items (given_by now b kept o)
+    → LegibleBoard (given_by now b kept o)
+legible_given now items b kept None sound t c k s l = record { lines = c; slots = k }
+legible_given now items b kept (Some x) sound t c k s l =
     let is : LineIs x.live x.came =
-    line_is items b.lines x.live x.came sound t (each_last (LawfulLive items (Tells x.live.sub x.live.rank x.came ∷ b.lines)) kept x.live l.slots) s.1 in
+    line_is items b.lines x.live now x.came sound t
+    (each_last (LawfulLive items (Tells x.live.sub x.live.rank now x.came ∷ b.lines)) kept x.live l.slots) s.1 in
     record {
       lines = (tells_writable (last_row (came x.live.sub x.live.rank b.lines)) x.live.sub x.live.rank x.came.what s.0.sub s.0.rank is.can, c);
-      slots = each_append (Shown (Tells x.live.sub x.live.rank x.came ∷ b.lines)) kept (x.live ∷ [])
-          (each_map (Shown b.lines) (Shown (Tells x.live.sub x.live.rank x.came ∷ b.lines)) kept (λ v h. shown_behind b.lines x.live x.came v s.0 is.fits h) k)
-          (shown_behind b.lines x.live x.came x.live s.0 is.fits s.0, tt);
+      slots = each_append (Shown (Tells x.live.sub x.live.rank now x.came ∷ b.lines)) kept (x.live ∷ [])
+          (each_map (Shown b.lines) (Shown (Tells x.live.sub x.live.rank now x.came ∷ b.lines)) kept
+          (λ v h. shown_behind b.lines x.live now x.came v s.0 is.fits h) k)
+          (shown_behind b.lines x.live now x.came x.live s.0 is.fits s.0, tt);
     }
 
-legible_taken : (items : List Item) (b : Board) → Each IsSound items → AreTextual items → LawfulBoard items b → LegibleBoard b
-    → LegibleBoard (taken_in (λ v. true) items b)
-legible_taken items b sound t l h =
-    let r = shown_round (λ v. true) items b.lines b.round t h.slots in
-    legible_given items b (round_of (λ v. true) items b.lines b.round).kept (round_of (λ v. true) items b.lines b.round).came sound t h.lines r.kept r.came
-    (take_keeps (λ v. true) items b l)
+legible_taken : (due : Live → Bool) (now : ℕ) (items : List Item) (b : Board) → Each IsSound items → AreTextual items → LawfulBoard items b
+    → LegibleBoard b → LegibleBoard (taken_in due now items b)
+legible_taken due now items b sound t l h =
+    let r = shown_round due items b.lines b.round t h.slots in
+    legible_given now items b (round_of due items b.lines b.round).kept (round_of due items b.lines b.round).came sound t h.lines r.kept r.came
+    (take_keeps due now items b l)
 
 -- a session's turn changes its board as its round does, or not at all
-turned_board : (P : Board → Type 0) (items : List Item) (s : Session) → P s.board → P (taken_in (λ v. true) items s.board)
-    → P (session_turn items s).session.board
-turned_board P items s p q = by_life s.life
-  where
-    given : (t : Session) → P t.board → P (given_next t).board
-    given t r = cond_rule (λ (u : Session). P u.board) (is_unsent t) _ _ (λ x. r) (λ x. r)
-
-    by_came : (o : Option RoundLine) → P (round_given (on_board (taken_in (λ v. true) items) s) o).session.board
-    by_came None = q
-    by_came (Some t) = given (on_board (taken_in (λ v. true) items) s) q
-
-    by_round : (vs : List Live) → P (round_turn items s vs).session.board
-    by_round [] = p
-    by_round (v ∷ vs) = cond_rule (λ (u : SessionTurn). P u.session.board) (nat_le (2 ^ 60) (length s.board.lines)) _ _ (λ x. p)
-        (λ x. by_came (round_of (λ u. true) items s.board.lines s.board.round).came)
-
-    by_owed : (owed : List (List ℕ)) → P (turn_owing items s owed).session.board
-    by_owed (text ∷ owed) = p
-    by_owed [] = cond_rule (λ (u : SessionTurn). P u.session.board) (is_unsent s) _ _ (λ x. given s p) (λ x. by_round s.board.round)
-
-    by_life : (life : Life) → P (turn_living items s life).session.board
-    by_life Alive = by_owed s.owed
-    by_life (Ending code) = p
-    by_life (Ended code) = p
+turned_board : (P : Board → Type 0) (now : ℕ) (items : List Item) (s : Session) → P s.board → P (taken_in (is_due now s) now items s.board)
+    → P (session_turn now items s).session.board
+turned_board P now items s p q =
+    turn_rule (λ (t : SessionTurn). P t.session.board) now items s (λ text owed. p) (next_rule (λ (t : Session). P t.board) s p p) p (λ none. q)
+    (λ t some. next_rule (λ (t : Session). P t.board) (on_board (taken_in (is_due now s) now items) s) q q) (λ code. p) (λ code. p)
 
 -- a new subscription: the places of its key and command lie in its schema
 abbrev KeysIn : ℕ → Option KeyPlaces → Type 0
@@ -374,9 +358,10 @@ begins_writable sub items fields None s i f k = ((s.some, s.most), ((i.some, i.m
 begins_writable sub items fields (Some at) s i f k =
     ((s.some, s.most), ((i.some, i.most), ((f.some, f.most), ((omega arith, omega (arith, k.0, f.most)), ((omega arith, omega (arith, k.1, f.most)), tt)))))
 
-configures_writable : (lines : List Line) (sub : ℕ) (filtered : Bool) → IsOrdinal sub → IsWritable (wire lines (Configures sub filtered))
-configures_writable lines sub true s = ((s.some, s.most), ((plain_utf8 (codes "unlimited") refl, refl), ((plain_utf8 (codes "filtered") refl, refl), tt)))
-configures_writable lines sub false s = ((s.some, s.most), ((plain_utf8 (codes "unlimited") refl, refl), ((plain_utf8 (codes "unfiltered") refl, refl), tt)))
+configures_writable : (lines : List Line) (sub : ℕ) (frequency : Option ℕ) (filtered : Bool) → IsOrdinal sub
+    → IsWritable (wire lines (Configures sub frequency filtered))
+configures_writable lines sub frequency true s = ((s.some, s.most), (limit_written frequency, ((plain_utf8 (codes "filtered") refl, refl), tt)))
+configures_writable lines sub frequency false s = ((s.some, s.most), (limit_written frequency, ((plain_utf8 (codes "unfiltered") refl, refl), tt)))
 
 -- what begins by them
 abbrev begun_of : ℕ → ℕ → Option KeyPlaces → Begun
@@ -387,9 +372,10 @@ begins : (sub other items fields : ℕ) (keys : Option KeyPlaces) (before : Opti
 begins sub other items fields None before b is = ap (λ (x : Bool). cond x (Some (begun_of items fields None)) before) is
 begins sub other items fields (Some at) before b is = ap (λ (x : Bool). cond x (Some (begun_of items fields (Some at))) before) is
 
-shown_begun : (lines : List Line) (sub items fields : ℕ) (keys : Option KeyPlaces) (filtered : Bool) (v : Live) → is_of sub v ≡ false → Shown lines v
-    → Shown (Configures sub filtered ∷ Begins sub items fields keys ∷ lines) v
-shown_begun lines sub items fields keys filtered v other h =
+shown_begun : (lines : List Line) (sub items fields : ℕ) (keys : Option KeyPlaces) (frequency : Option ℕ) (filtered : Bool) (v : Live)
+    → is_of sub v ≡ false → Shown lines v
+    → Shown (Configures sub frequency filtered ∷ Begins sub items fields keys ∷ lines) v
+shown_begun lines sub items fields keys frequency filtered v other h =
     record {
       subscription = h.subscription;
       is = begins sub v.sub items fields keys (begun v.sub (wires lines)) false other ∙ h.is;
@@ -410,14 +396,19 @@ record AskShown (items : List Item) (fields : ℕ) (keyed : Option KeyPlaces) (a
   kind : a.mode ≡ mode.Command → (shape_at items a.item).kind ≡ kind.Command
   keys : keyed ≡ keys_in a.mode (keys_shown_at (shape_at items a.item) a.wanted.places)
 
+-- the slot that is made of it
+abbrev asked_live : ℕ → ℕ → ℕ → Ask → Slot → Live
+asked_live sub rank number a s =
+    record { sub = sub; rank = rank; item = a.item; number = number; frequency = a.frequency; wanted = a.wanted; slot = s }
+
 ask_begun : (items : List Item) (sub rank number fields : ℕ) (keyed : Option KeyPlaces) (a : Ask) → AskShown items fields keyed a → (s : Slot)
     → s.plan ≡ plan_of (shape_at items a.item) (history_of items a.item) a.mode a.size
-    → BegunIn s.plan.mode (record { sub = sub; rank = rank; item = a.item; number = number; wanted = a.wanted; slot = s }) (option_map told_places keyed)
+    → BegunIn s.plan.mode (asked_live sub rank number a s) (option_map told_places keyed)
 ask_begun items sub rank number fields keyed a k s is =
-    subst (λ (p : Plan). BegunIn p.mode (record { sub = sub; rank = rank; item = a.item; number = number; wanted = a.wanted; slot = s })
+    subst (λ (p : Plan). BegunIn p.mode (asked_live sub rank number a s)
     (option_map told_places keyed)) (sym is) (by_mode a.mode refl)
   where
-    by_mode : (m : Mode) → a.mode ≡ m → BegunIn m (record { sub = sub; rank = rank; item = a.item; number = number; wanted = a.wanted; slot = s })
+    by_mode : (m : Mode) → a.mode ≡ m → BegunIn m (asked_live sub rank number a s)
         (option_map told_places keyed)
     by_mode mode.Command e =
         record {
@@ -429,12 +420,13 @@ ask_begun items sub rank number fields keyed a k s is =
     by_mode mode.Raw e = ap (option_map told_places) (k.keys ∙ ap (λ (m : Mode). keys_in m (keys_shown_at (shape_at items a.item) a.wanted.places)) e)
     by_mode mode.Distinct e = ap (option_map told_places) (k.keys ∙ ap (λ (m : Mode). keys_in m (keys_shown_at (shape_at items a.item) a.wanted.places)) e)
 
-shown_joined : (items : List Item) (free : ℕ → ℕ) (lines : List Line) (sub many fields rank : ℕ) (keys : Option KeyPlaces) (filtered : Bool) (asks : List Ask)
+shown_joined : (items : List Item) (free : ℕ → ℕ) (lines : List Line) (sub many fields rank : ℕ) (keys : Option KeyPlaces) (frequency : Option ℕ)
+    (filtered : Bool) (asks : List Ask)
     → IsOrdinal sub → IsOrdinal fields → many ≤ 999999999 → 1 ≤ rank → rank + length asks ≤ many + 1
-    → Each (AskShown items fields keys) asks → Each (Shown (Configures sub filtered ∷ Begins sub many fields keys ∷ lines))
+    → Each (AskShown items fields keys) asks → Each (Shown (Configures sub frequency filtered ∷ Begins sub many fields keys ∷ lines))
     (joined_all items free sub rank asks)
-shown_joined items free lines sub many fields rank keys filtered [] s f few first last shown = tt
-shown_joined items free lines sub many fields rank keys filtered (a ∷ asks) s f few first last shown =
+shown_joined items free lines sub many fields rank keys frequency filtered [] s f few first last shown = tt
+shown_joined items free lines sub many fields rank keys frequency filtered (a ∷ asks) s f few first last shown =
     let same : (sub == sub) ≡ true = eq-eqb sub sub refl in (
       record {
         subscription = begun_of many fields keys;
@@ -449,7 +441,7 @@ shown_joined items free lines sub many fields rank keys filtered (a ∷ asks) s 
             (joined_plan (plan_of (shape_at items a.item) (history_of items a.item) a.mode a.size) (history_of items a.item) a.wanted.snapshot);
         rows = subst (λ (cs : List Came). Each (RowFits fields) (whats cs)) (sym (ap (λ (b : Bool). cond b [] (came sub rank lines)) same)) tt;
       },
-      shown_joined items free lines sub many fields (rank + 1) keys filtered asks s f few (omega (arith, first)) (omega (arith, last)) shown.1,
+      shown_joined items free lines sub many fields (rank + 1) keys frequency filtered asks s f few (omega (arith, first)) (omega (arith, last)) shown.1,
     )
 
 -- each item of a subscription shows its key and its command where its schema names them
@@ -481,7 +473,8 @@ legible_added w s a free is k h =
     let fields : IsOrdinal (length a.schema) = record { some = k.some_fields; most = omega (arith, k.most_fields) } in
     record {
       lines = (
-        configures_writable (Begins a.sub (length asks) (length a.schema) (keys_shown w.items asks) ∷ s.board.lines) a.sub (are_filtered asks) sub,
+        configures_writable (Begins a.sub (length asks) (length a.schema) (keys_shown w.items asks) ∷ s.board.lines) a.sub (frequency_of asks)
+            (are_filtered asks) sub,
         (
           begins_writable a.sub (length asks) (length a.schema) (keys_shown w.items asks) sub (record { some = k.some; most = omega (arith, k.most) }) fields
               (keys_shown_in w.items a asks k.each),
@@ -489,14 +482,17 @@ legible_added w s a free is k h =
         ),
       );
       slots = each_append
-          (Shown (Configures a.sub (are_filtered asks) ∷ Begins a.sub (length asks) (length a.schema) (keys_shown w.items asks) ∷ s.board.lines)) s.board.round
+          (Shown (Configures a.sub (frequency_of asks) (are_filtered asks)
+          ∷ Begins a.sub (length asks) (length a.schema) (keys_shown w.items asks) ∷ s.board.lines)) s.board.round
           (joined_all w.items free a.sub 1 asks)
           (each_map (λ (v : Live). (is_of a.sub v ≡ false) × Shown s.board.lines v)
-          (Shown (Configures a.sub (are_filtered asks) ∷ Begins a.sub (length asks) (length a.schema) (keys_shown w.items asks) ∷ s.board.lines))
+          (Shown (Configures a.sub (frequency_of asks) (are_filtered asks)
+          ∷ Begins a.sub (length asks) (length a.schema) (keys_shown w.items asks) ∷ s.board.lines))
           s.board.round
-          (λ v x. shown_begun s.board.lines a.sub (length asks) (length a.schema) (keys_shown w.items asks) (are_filtered asks) v x.0 x.1)
+          (λ v x. shown_begun s.board.lines a.sub (length asks) (length a.schema) (keys_shown w.items asks) (frequency_of asks) (are_filtered asks) v x.0 x.1)
           (each_both (λ (v : Live). is_of a.sub v ≡ false) (Shown s.board.lines) s.board.round (unused_each a.sub s.board.round k.new) h.slots))
-          (shown_joined w.items free s.board.lines a.sub (length asks) (length a.schema) 1 (keys_shown w.items asks) (are_filtered asks) asks sub fields
+          (shown_joined w.items free s.board.lines a.sub (length asks) (length a.schema) 1 (keys_shown w.items asks) (frequency_of asks)
+          (are_filtered asks) asks sub fields
           (omega (arith, k.most)) (omega arith) (omega arith)
           (each_map (IsAsk w.items a) (AskShown w.items (length a.schema) (keys_shown w.items asks)) asks
           (λ x y. ask_shown w.items a (keys_shown w.items asks) x (first_keys w.items a asks k.some k.each) y) k.each));
@@ -538,6 +534,60 @@ legible_removed sub b s h =
           (without_each (Shown b.lines) sub b.round h.slots));
     }
 
+-- another frequency of a subscription
+in_mode_frequency : (m : Mode) (v : Live) (f : Option ℕ) (keyed : Option KeyPlaces) → BegunIn m v keyed → BegunIn m (record v { frequency = f }) keyed
+in_mode_frequency mode.Command v f keyed b = record { kind = b.kind; places = b.places }
+in_mode_frequency mode.Merge v f keyed b = b
+in_mode_frequency mode.Raw v f keyed b = b
+in_mode_frequency mode.Distinct v f keyed b = b
+
+shown_frequency : (lines : List Line) (v : Live) (f : Option ℕ) → Shown lines v → Shown lines (record v { frequency = f })
+shown_frequency lines v f h =
+    record {
+      subscription = h.subscription;
+      is = h.is;
+      sub = h.sub;
+      rank = h.rank;
+      within = h.within;
+      some = h.some;
+      most = h.most;
+      schema = h.schema;
+      keyed = in_mode_frequency v.slot.plan.mode v f h.subscription.keyed h.keyed;
+      rows = h.rows;
+    }
+
+shown_configured : (lines : List Line) (sub : ℕ) (frequency : Option ℕ) (filtered : Bool) (v : Live) → Shown lines v
+    → Shown (Configures sub frequency filtered ∷ lines) v
+shown_configured lines sub frequency filtered v h =
+    record {
+      subscription = h.subscription;
+      is = h.is;
+      sub = h.sub;
+      rank = h.rank;
+      within = h.within;
+      some = h.some;
+      most = h.most;
+      schema = h.schema;
+      keyed = h.keyed;
+      rows = h.rows;
+    }
+
+shown_with : (lines : List Line) (sub n : ℕ) (f g : Option ℕ) (filtered : Bool) (v : Live) → Shown lines v
+    → Shown (Configures n g filtered ∷ lines) (with_frequency sub f v)
+shown_with lines sub n f g filtered v h =
+    cond_rule (Shown (Configures n g filtered ∷ lines)) (is_of sub v) (record v { frequency = f }) v
+    (λ t. shown_configured lines n g filtered (record v { frequency = f }) (shown_frequency lines v f h)) (λ t. shown_configured lines n g filtered v h)
+
+legible_reconfigured : (sub : ℕ) (frequency : Option ℕ) (b : Board) → IsOrdinal sub → LegibleBoard b → LegibleBoard (reconfigured sub frequency b)
+legible_reconfigured sub frequency b s h =
+    let m : Mode = mode_in sub b.round in
+    let f : Option ℕ = frequency_in m frequency in
+    record {
+      lines = (configures_writable b.lines sub f (is_filtered m) s, h.lines);
+      slots = each_mapped (Shown b.lines) (Shown (Configures sub f (is_filtered m) ∷ b.lines)) (with_frequency sub f) b.round
+          (shown_with b.lines sub sub f f (is_filtered m)) h.slots;
+    }
+
 -- requests
 legible_operated : (w : World) (connection : ℕ) (req : List ℕ) (n : ℕ) (s : Session) (code : Option ℕ) (f : Session → Session)
     → slice_get w.sessions n ≡ Some s → (code ≡ None → LegibleBoard s.board → LegibleBoard (f s).board) → Legible w
@@ -551,10 +601,13 @@ legible_operates w connection req (op.Add a) n s is range l =
     legible_operated w connection req n s (add_code w s a) (subscribed w a) is
     (λ none. legible_added w s a (free_number w.sessions) range (asked_is w s a none)) l
 legible_operates w connection req (op.Delete sub) n s is range l =
-    legible_operated w connection req n s (delete_code s sub) (on_board (removed sub)) is
+    legible_operated w connection req n s (change_code s sub) (on_board (removed sub)) is
     (λ none. legible_removed sub s.board (record { some = range.0; most = range.1 })) l
-legible_operates w connection req (op.Reconf sub frequency) n s is range l = l
-legible_operates w connection req (op.Constrain bandwidth) n s is range l = l
+legible_operates w connection req (op.Reconf sub frequency) n s is range l =
+    legible_operated w connection req n s (change_code s sub) (on_board (reconfigured sub frequency)) is
+    (λ none. legible_reconfigured sub frequency s.board (record { some = range.0; most = range.1 })) l
+legible_operates w connection req (op.Constrain limit) n s is range l =
+    legible_operated w connection req n s (constrain_code s) (constrained limit) is (λ none b. b) l
 legible_operates w connection req op.ForceRebind n s is range l = l
 legible_operates w connection req op.Destroy n s is range l =
     legible_operated w connection req n s None (ended destroyed) is (λ none b. record { lines = b.lines; slots = tt }) l
@@ -565,7 +618,7 @@ legible_creates w connection c l =
     (λ none. record {
       items = l.items;
       sessions = each_append (λ (s : Session). LegibleBoard s.board) w.sessions
-          (opened (length w.sessions + 1) c.keepalive ∷ []) l.sessions (record { lines = tt; slots = tt }, tt);
+          (opened (length w.sessions + 1) c.keepalive c.bandwidth ∷ []) l.sessions (record { lines = tt; slots = tt }, tt);
     })
     (λ code x. l)
 
@@ -621,6 +674,7 @@ legible_took : (w : World) (connection n : ℕ) (old new : Session) (g : TurnGiv
     → Legible (took w connection n new g).after
 legible_took w connection n old new (Gave text) is k l = board_changed w n old (λ x. new) is (λ x. k) l
 legible_took w connection n old new Idle is k l = board_changed w n old (λ x. new) is (λ x. k) l
+legible_took w connection n old new (NotDue tick) is k l = board_changed w n old (λ x. new) is (λ x. k) l
 legible_took w connection n old new Spent is k l = l
 legible_took w connection n old new (Over code) is k l = l
 
@@ -636,21 +690,23 @@ both_enqueued connection sub rank times w b =
     })) b
 
 took_both : (v : World) (connection n : ℕ) (s : Session) → slice_get v.sessions n ≡ Some s → Both v
-    → Both (took v connection n (session_turn v.items s).session (session_turn v.items s).gives).after
+    → Both (took v connection n (session_turn v.tick v.items s).session (session_turn v.tick v.items s).gives).after
 took_both v connection n s is k =
     let lawful = each_at (LawfulSession v.items) n s v.sessions is k.records.sessions in
     let board = each_at (λ (t : Session). LegibleBoard t.board) n s v.sessions is k.legible.sessions in
     record {
-      records = lawful_took v connection n s (session_turn v.items s).session (session_turn v.items s).gives is (session_keeps v.items s lawful) k.records;
-      legible = legible_took v connection n s (session_turn v.items s).session (session_turn v.items s).gives is
-          (turned_board LegibleBoard v.items s board (legible_taken v.items s.board k.records.items k.legible.items lawful.board board)) k.legible;
+      records = lawful_took v connection n s (session_turn v.tick v.items s).session (session_turn v.tick v.items s).gives is
+          (session_keeps v.tick v.items s lawful) k.records;
+      legible = legible_took v connection n s (session_turn v.tick v.items s).session (session_turn v.tick v.items s).gives is
+          (turned_board LegibleBoard v.tick v.items s board
+          (legible_taken (is_due v.tick s) v.tick v.items s.board k.records.items k.legible.items lawful.board board)) k.legible;
     }
 
 both_taken : (connection times : ℕ) (w : World) → Both w → Both (repeated (take_once connection) times w).after
 both_taken connection times w b =
     repeated_keeps Both (take_once connection) times w
     (λ v k. session_rule (λ (x : Once). Both x.after) v.sessions (session_of v connection) _
-    (λ n s. took v connection n (session_turn v.items s).session (session_turn v.items s).gives) k
+    (λ n s. took v connection n (session_turn v.tick v.items s).session (session_turn v.tick v.items s).gives) k
     (λ n s is. took_both v connection n s is k)) b
 
 -- a step

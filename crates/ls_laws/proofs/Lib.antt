@@ -6,7 +6,6 @@ pub mod RawLaws
 pub mod RawTruths
 pub mod DistinctLaws
 pub mod DistinctTruths
-pub mod EachKey
 pub mod Keys
 pub mod CommandLaws
 pub mod CommandSettled
@@ -21,10 +20,15 @@ pub mod Requested
 pub mod Laws
 pub mod Heard
 pub mod Textual
+pub mod LimitTexts
 pub mod Legible
 pub mod Scripts
 pub mod Settled
 pub mod ClientTables
+pub mod DueSlots
+pub mod BoardRule
+pub mod Spends
+pub mod Spacing
 pub mod Unnumbered
 pub mod Others
 pub mod Alone

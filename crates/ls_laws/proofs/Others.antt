@@ -21,14 +21,15 @@ use Rattle.ls_step.specs.declared.step.Step.{Step}
 use Rattle.ls_step.specs.declared.step.Step.TheVariants as step
 use Rattle.ls_step.specs.Adding.{add_pairs}
 use Rattle.ls_world.specs.World.{World, Session, Connection, history_of, change, live_at, enqueued_in, on_board, opened, ended, removed, is_alive}
-use Rattle.ls_world.specs.Acting.{subscribed, add_code, delete_code, create_code, destroyed}
+use Rattle.ls_world.specs.World.{reconfigured, constrained}
+use Rattle.ls_world.specs.Acting.{subscribed, add_code, change_code, constrain_code, create_code, destroyed}
 use Rattle.ls_world.specs.Steps.{Stepped, Once, session_of, grown, is_whole, cause_to_refuse, publishes, with_link, creates, operates}
 use Rattle.ls_world.specs.Steps.{session_named, acts, is_opening, malformed, request_on, requests, connects, plain_create, enqueue_once}
-use Rattle.ls_world.specs.Steps.{TurnGives, Gave, Idle, Spent, Over, session_turn, took, take_once, does}
+use Rattle.ls_world.specs.Steps.{TurnGives, Gave, Idle, NotDue, Spent, Over, session_turn, took, take_once, does}
 use Rattle.ls_world.proofs.Rules.{found_rule, cond_rule, repeated_keeps}
 use Rattle.ls_world.proofs.Unmoved.{declared_by}
 use Rattle.ls_laws.proofs.Asked.{element_found}
-use Rattle.ls_laws.specs.Alone.{connection_of, session_asked, session_meant, is_own, changes_items}
+use Rattle.ls_laws.specs.Alone.{connection_of, session_asked, session_meant, is_own, changes_items, sets_clock}
 
 -- a step gives a session to its own connection, or to the one that it makes
 abbrev pub MayLink : World → Step → ℕ → Type 0
@@ -70,6 +71,7 @@ took_stays : (P : World → Type 0) (w v : World) (connection n : ℕ) (s : Sess
     → StaysAt P w (took v connection n s g).after
 took_stays P w v connection n s (Gave text) k q = record { is = k v (λ old. s) q.is; connections = q.connections }
 took_stays P w v connection n s Idle k q = record { is = k v (λ old. s) q.is; connections = q.connections }
+took_stays P w v connection n s (NotDue tick) k q = record { is = k v (λ old. s) q.is; connections = q.connections }
 took_stays P w v connection n s Spent k q = q
 took_stays P w v connection n s (Over code) k q = q
 
@@ -78,7 +80,7 @@ take_stays : (P : World → Type 0) (w : World) (connection : ℕ) → ((m : ℕ
 take_stays P w connection k v q =
     found_rule (λ (r : Once). StaysAt P w r.after) (session_of v connection) _ _ (λ e. q)
     (λ n e. found_rule (λ (r : Once). StaysAt P w r.after) (slice_get v.sessions n) _ _ (λ x. q)
-    (λ s is. took_stays P w v connection n (session_turn v.items s).session (session_turn v.items s).gives
+    (λ s is. took_stays P w v connection n (session_turn v.tick v.items s).session (session_turn v.tick v.items s).gives
     (k n (same_session w v connection n q.connections e)) q))
 
 -- requests
@@ -87,9 +89,11 @@ operates_stays : (P : World → Type 0) (w : World) (connection : ℕ) (req : Li
 operates_stays P w connection req (op.Add a) n s k p =
     found_rule (λ (r : Stepped). P r.after) (add_code w s a) _ _ (λ x. k w (subscribed w a) p) (λ code x. p)
 operates_stays P w connection req (op.Delete sub) n s k p =
-    found_rule (λ (r : Stepped). P r.after) (delete_code s sub) _ _ (λ x. k w (on_board (removed sub)) p) (λ code x. p)
-operates_stays P w connection req (op.Reconf sub frequency) n s k p = p
-operates_stays P w connection req (op.Constrain bandwidth) n s k p = p
+    found_rule (λ (r : Stepped). P r.after) (change_code s sub) _ _ (λ x. k w (on_board (removed sub)) p) (λ code x. p)
+operates_stays P w connection req (op.Reconf sub frequency) n s k p =
+    found_rule (λ (r : Stepped). P r.after) (change_code s sub) _ _ (λ x. k w (on_board (reconfigured sub frequency)) p) (λ code x. p)
+operates_stays P w connection req (op.Constrain limit) n s k p =
+    found_rule (λ (r : Stepped). P r.after) (constrain_code s) _ _ (λ x. k w (constrained limit) p) (λ code x. p)
 operates_stays P w connection req op.ForceRebind n s k p = p
 operates_stays P w connection req op.Destroy n s k p = k w (ended destroyed) p
 
@@ -97,7 +101,7 @@ creates_stays : (P : World → Type 0) (w : World) (connection : ℕ) (c : Creat
     → P (record v { sessions = v.sessions ++ x ∷ [] })) → ((v : World) (session : ℕ) → P v → P (with_link connection session v)) → P w
     → P (creates w connection c).after
 creates_stays P w connection c made links p =
-    let s : Session = opened (length w.sessions + 1) c.keepalive in
+    let s : Session = opened (length w.sessions + 1) c.keepalive c.bandwidth in
     found_rule (λ (r : Stepped). P r.after) (create_code w c) _ _
     (λ x. links (record w { sessions = w.sessions ++ s ∷ [] }) (length w.sessions) (made w s p)) (λ code x. p)
 
@@ -234,6 +238,31 @@ items_left w s times kept =
       links = λ v connection session may p. p;
       grows = λ item e c p. absurd (let x : true ≡ false = sym c ∙ kept in cc);
       declared = declared_items w s kept;
+    })
+
+-- and one that doesn't set the clock leaves it
+declared_tick : (w : World) (s : Step) → sets_clock s ≡ false → (declared_by w s).tick ≡ w.tick
+declared_tick w (step.Set name) kept = refl
+declared_tick w (step.Item name k fields) kept = refl
+declared_tick w (step.Tick ms) kept = absurd (let x : true ≡ false = kept in cc)
+declared_tick w (step.Conn name l) kept = refl
+declared_tick w (step.Open name) kept = refl
+declared_tick w (step.Add connection words) kept = refl
+declared_tick w (step.Request connection name parameters) kept = refl
+declared_tick w (step.Publish adapter seq item cells) kept = refl
+declared_tick w (step.Clear adapter seq item) kept = refl
+declared_tick w (step.Enqueue connection sub rank) kept = refl
+declared_tick w (step.Take connection) kept = refl
+declared_tick w (step.Lose connection) kept = refl
+
+pub tick_left : (w : World) (s : Step) (times : ℕ) → sets_clock s ≡ false → (does w s times).after.tick ≡ w.tick
+tick_left w s times kept =
+    does_stay (λ v. v.tick ≡ w.tick) w s times (record {
+      changed = λ v m f mine p. p;
+      made = λ v y p. p;
+      links = λ v connection session may p. p;
+      grows = λ item e c p. p;
+      declared = declared_tick w s kept;
     })
 
 -- and one on another connection leaves a connection

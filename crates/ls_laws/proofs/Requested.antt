@@ -1,5 +1,6 @@
 -- The numbers of an add that was read are in their ranges: proved on the definitions of requests alone.
-use Rattle.std.proofs.Common.{◌≡◌, ◌^◌, ℕ, ◌≤◌, List, arith, subst, cond, Bool, true, false, ◌&&◌, Option, Some, None, IfSome, option_map, nat_le, codes, refl}
+use Rattle.std.proofs.Common.{◌≡◌, ◌^◌, ◌==◌, ℕ, ◌<◌, ◌≤◌, List, arith, subst, cond, Bool, true, false, ◌&&◌, Option, Some, None}
+use Rattle.std.proofs.Common.{IfSome, option_map, nat_le, codes, refl}
 use Rattle.std.specs.Prelude.{option_and_then}
 use Rattle.std.proofs.lemmas.Bool.Decides.{nat_tests}
 use Rattle.ls_value.proofs.Rows.{and_left, and_right}
@@ -14,10 +15,13 @@ use Rattle.ls_request.specs.declared.request.Op.{Op}
 use Rattle.ls_request.specs.declared.request.Op.TheVariants as op
 use Rattle.ls_request.specs.declared.request.Request.{Request}
 use Rattle.ls_request.specs.declared.request.Request.TheVariants as request
-use Rattle.ls_request.specs.Values.{is_word, sub_of, size_of, mode_of, names_of, snap_of, frequency_of, capped}
+use Rattle.ls_request.specs.Values.{is_word, sub_of, size_of, mode_of, names_of, snap_of, frequency_of, bandwidth_of, milli_above_0, keepalive_of, capped}
 use Rattle.ls_world.specs.World.{World}
 use Rattle.ls_world.specs.Steps.{link_of, request_on}
-use Rattle.ls_request.specs.Requests.{or_absent, needed, unless, says_more, add_of, plain_op_of, delete_of, reconf_of, constrain_of, op_of, control_req}
+use Rattle.ls_form.specs.Decimals.{milli_of}
+use Rattle.ls_request.specs.declared.limits.TheConstants.{DEFAULT_KEEPALIVE}
+use Rattle.ls_request.specs.Requests.{or_absent, needed, unless, says, says_more, content_length, add_of}
+use Rattle.ls_request.specs.Requests.{plain_op_of, delete_of, reconf_of, constrain_of, op_of, control_req}
 use Rattle.ls_request.specs.Requests.{control_session, control_of, wsok_of, create_of, bind_of, request_of}
 
 -- a subscription's number, and a buffer's size where one is asked for
@@ -30,16 +34,20 @@ pub record IsAdd (a : Add) : Type 0 where
 abbrev pub Within : ℕ → ℕ → ℕ → Type 0
 Within low high n = (low ≤ n) × (n ≤ high)
 
+-- a bandwidth that is there is above 0
+abbrev pub IsRate : Option ℕ → Type 0
+IsRate limit = IfSome limit (λ r. 0 < r)
+
 abbrev pub IsOp : Op → Type 0
 IsOp (op.Add a) = IsAdd a
 IsOp (op.Delete sub) = Within 1 999999999 sub
-IsOp (op.Reconf sub frequency) = Unit {0}
-IsOp (op.Constrain bandwidth) = Unit {0}
+IsOp (op.Reconf sub frequency) = Within 1 999999999 sub
+IsOp (op.Constrain limit) = IsRate limit
 IsOp op.ForceRebind = Unit {0}
 IsOp op.Destroy = Unit {0}
 
 abbrev pub IsRequest : Request → Type 0
-IsRequest (request.Create c) = Unit {0}
+IsRequest (request.Create c) = IsRate c.bandwidth
 IsRequest (request.Bind b) = Unit {0}
 IsRequest (request.Control c) = IsOp c.op
 IsRequest request.Wsok = Unit {0}
@@ -95,6 +103,28 @@ size_absent_or : (o : Option (List ℕ)) → IfSome (or_absent None size_of o) S
 size_absent_or None = tt
 size_absent_or (Some text) = size_is text
 
+milli_is : (text : List ℕ) → IfSome (milli_above_0 text) IsRate
+milli_is text = free IsRate (milli_of text) _ (λ n. by_test n (n == 0) refl)
+  where
+    by_test : (n : ℕ) (b : Bool) → (n == 0) ≡ b → IfSome (cond b None (Some (Some n))) IsRate
+    by_test n true e = tt
+    by_test n false e = grind (arith, nat_tests, e)
+
+rate_is : (text : List ℕ) → IfSome (bandwidth_of text) IsRate
+rate_is text = one_of IsRate (is_word (codes "unlimited") text) (Some None) (milli_above_0 text) tt (milli_is text)
+
+rate_absent_or : (o : Option (List ℕ)) → IfSome (or_absent None bandwidth_of o) IsRate
+rate_absent_or None = tt
+rate_absent_or (Some text) = rate_is text
+
+create_is : (l : LinkKind) (ps : List Pair) → IfSome (create_of l ps) (λ c. IsRate c.bandwidth)
+create_is l ps =
+    unless_is (λ c. IsRate c.bandwidth) (says (codes "true") (text_under ps (codes "LS_polling"))) _
+    (chained IsRate (λ c. IsRate c.bandwidth) (or_absent None bandwidth_of (text_under ps (codes "LS_requested_max_bandwidth"))) _
+    (rate_absent_or (text_under ps (codes "LS_requested_max_bandwidth")))
+    (λ bandwidth h. free (λ c. IsRate c.bandwidth) (or_absent DEFAULT_KEEPALIVE keepalive_of (text_under ps (codes "LS_keepalive_millis"))) _
+    (λ keepalive. free (λ c. IsRate c.bandwidth) (content_length l ps) _ (λ length. h))))
+
 -- an add
 add_is : (ps : List Pair) → IfSome (add_of ps) IsAdd
 add_is ps =
@@ -118,10 +148,12 @@ op_is word ps =
     (chained (Within 1 999999999) IsOp (needed sub_of (text_under ps (codes "LS_subId"))) _
     (free (Within 1 999999999) (text_under ps (codes "LS_subId")) sub_of (λ text. number_within 1 999999999 text)) (λ sub h. h))
     (one_of IsOp (is_word (codes "reconf") word) (reconf_of ps) _
-    (free IsOp (needed sub_of (text_under ps (codes "LS_subId"))) _ (λ sub. free IsOp (needed frequency_of (text_under ps (codes "LS_requested_max_frequency")))
-    _ (λ frequency. tt)))
-    (one_of IsOp (is_word (codes "constrain") word) (constrain_of ps) _ (free IsOp (option_and_then _ (text_under ps (codes "LS_requested_max_bandwidth"))) _
-    (λ bandwidth. tt))
+    (chained (Within 1 999999999) IsOp (needed sub_of (text_under ps (codes "LS_subId"))) _
+    (free (Within 1 999999999) (text_under ps (codes "LS_subId")) sub_of (λ text. number_within 1 999999999 text))
+    (λ sub h. free IsOp (needed frequency_of (text_under ps (codes "LS_requested_max_frequency"))) _ (λ frequency. h)))
+    (one_of IsOp (is_word (codes "constrain") word) (constrain_of ps) _
+    (chained IsRate IsOp (needed bandwidth_of (text_under ps (codes "LS_requested_max_bandwidth"))) _
+    (free IsRate (text_under ps (codes "LS_requested_max_bandwidth")) bandwidth_of rate_is) (λ limit h. h))
     (one_of IsOp (is_word (codes "force_rebind") word) (Some op.ForceRebind) _ tt
     (one_of IsOp (is_word (codes "destroy") word) (Some op.Destroy) None tt tt)))))
 
@@ -135,7 +167,7 @@ control_is l ps =
 request_is : (l : LinkKind) (name : List ℕ) (ps : List Pair) → IfSome (request_of l name ps) IsRequest
 request_is l name ps =
     one_of IsRequest (is_word (codes "create_session") name) (option_map (λ r. request.Create r) (create_of l ps)) _
-    (made (λ r. Unit {0}) IsRequest (λ r. request.Create r) (create_of l ps) (anything (create_of l ps)) (λ r u. tt))
+    (made (λ c. IsRate c.bandwidth) IsRequest (λ c. request.Create c) (create_of l ps) (create_is l ps) (λ c h. h))
     (one_of IsRequest (is_word (codes "bind_session") name) (option_map (λ r. request.Bind r) (bind_of l ps)) _
     (made (λ r. Unit {0}) IsRequest (λ r. request.Bind r) (bind_of l ps) (anything (bind_of l ps)) (λ r u. tt))
     (one_of IsRequest (is_word (codes "control") name) (option_map (λ r. request.Control r) (control_of l ps)) _

@@ -14,17 +14,18 @@ use Rattle.ls_world.specs.World.{World, Session}
 use Rattle.ls_world.specs.Steps.{request_on, does, does_all}
 use Rattle.ls_world.proofs.Knowing.{does_counts}
 use Rattle.ls_laws.specs.Alone.{unnumbered, Seen, connection_of, session_asked, session_meant, is_own, after, told, RunStep, First, Second, Own, Shared}
-use Rattle.ls_laws.specs.Alone.{firsts, seconds, IsElsewhere, DifferElsewhere}
+use Rattle.ls_laws.specs.Alone.{firsts, seconds, HaveSame, IsElsewhere, DifferElsewhere}
 use Rattle.ls_laws.proofs.Others.{session_left, connection_left, AreThere, stay_there}
 use Rattle.ls_laws.proofs.Asked.{element_found}
 use Rattle.ls_laws.proofs.Alone.{Alike, StepsAs, same_line, same_place, same_named, same_request, the_same, own_alike}
 
 -- a step elsewhere that leaves the items
-left_alike : (n c : ℕ) (w : World) (r : Repeat) → AreThere n c w → IsElsewhere n c w r → (after w r).items ≡ w.items → Alike n c (after w r) w
-left_alike n c w r there other items =
+left_alike : (n c : ℕ) (w : World) (r : Repeat) → AreThere n c w → IsElsewhere n c w r → HaveSame (after w r) w → Alike n c (after w r) w
+left_alike n c w r there other same =
     let sessions : slice_get (after w r).sessions n ≡ slice_get w.sessions n = session_left w n r.step r.times there.session other.session in
     λ i. record {
-      items = items i;
+      items = same.items i;
+      tick = same.tick i;
       line = does_counts w r.step r.times i;
       connection = connection_left w c r.step r.times there.connection other.apart i;
       session = option_map unnumbered (sessions i);
@@ -32,8 +33,8 @@ left_alike n c w r there other items =
 
 -- and one that is shared
 shared_alike : (n c : ℕ) (w v : World) (r : Repeat) → AreThere n c w → AreThere n c v → IsElsewhere n c w r → IsElsewhere n c v r
-    → (after w r).items ≡ (after v r).items → Alike n c w v → Alike n c (after w r) (after v r)
-shared_alike n c w v r there there' other other' items e =
+    → HaveSame (after w r) (after v r) → Alike n c w v → Alike n c (after w r) (after v r)
+shared_alike n c w v r there there' other other' same e =
     let sessions : option_map unnumbered (slice_get (after w r).sessions n) ≡ option_map unnumbered (slice_get (after v r).sessions n) =
     ap (option_map unnumbered) (session_left w n r.step r.times there.session other.session)
     ∙ (ap (λ (z : Seen). z.session) e ∙ sym (ap (option_map unnumbered) (session_left v n r.step r.times there'.session other'.session))) in
@@ -41,7 +42,7 @@ shared_alike n c w v r there there' other other' items e =
     connection_left w c r.step r.times there.connection other.apart
     ∙ (ap (λ (z : Seen). z.connection) e ∙ sym (connection_left v c r.step r.times there'.connection other'.apart)) in
     let lines : (after w r).line ≡ (after v r).line = does_counts w r.step r.times ∙ (same_line n c w v e ∙ sym (does_counts v r.step r.times)) in
-    λ i. record { items = items i; line = lines i; connection = connections i; session = sessions i }
+    λ i. record { items = same.items i; tick = same.tick i; line = lines i; connection = connections i; session = sessions i }
 
 -- a step on the connection is of the same session in both
 same_asked : (n c : ℕ) (w v : World) (o : Option Request) → Alike n c w v → session_asked w c o ≡ session_asked v c o

@@ -42,7 +42,7 @@ use Rattle.ls_world.specs.Lawful.{Each, IsMergeLine, LawfulOf, LawfulSlot}
 use Rattle.ls_world.specs.Ranges.{IsTextual}
 use Rattle.ls_laws.proofs.DistinctTruths.{IsLine, distinct_each}
 use Rattle.ls_world.proofs.Each.{each_append, each_at}
-use Rattle.ls_laws.proofs.EachKey.{EachKey, key_has, each_with, each_without}
+use Rattle.ls_world.proofs.EachKey.{EachKey, key_has, each_with, each_without}
 use Rattle.ls_laws.proofs.Heard.{RowFits}
 use Rattle.ls_laws.proofs.Modes.{passed_plan}
 

@@ -1,21 +1,26 @@
 -- The numbers of slots tell nothing: each change of a session goes with a session without them.
-use Rattle.std.proofs.Common.{◌≡◌, ◌==◌, ℕ, ◌+◌, List, [], ◌∷◌, ◌++◌, length, map, refl, sym, ◌∙◌, ap, cond, Bool, true, false, ◌||◌, Option, None, Some}
+use Rattle.std.proofs.Common.{◌≡◌, ◌==◌, ℕ, ◌+◌, List, [], ◌∷◌, ◌++◌, length, map, refl, sym, ◌∙◌, ap, cond, Bool, true, false, ◌&&◌, ◌||◌, Option, None, Some}
 use Rattle.std.proofs.Common.{nat_lt, nat_le, option_map}
 use Rattle.std.specs.Prelude.{not}
+use Rattle.std.specs.List.{list_any}
+use Rattle.std.specs.Option.{option_map_or}
 use Rattle.std.proofs.lemmas.List.{map-append}
 use Rattle.std.proofs.lemmas.List.Sums.{sum_by-cons}
+use Rattle.ls_event.specs.declared.event.Mode.{Mode}
+use Rattle.ls_event.specs.declared.event.Mode.TheVariants as mode
 use Rattle.ls_event.specs.Slots.{enqueued}
 use Rattle.ls_event.specs.declared.item.ItemDef.{ItemDef}
 use Rattle.ls_request.specs.declared.request.Add.{Add}
 use Rattle.ls_world.specs.Came.{Came}
 use Rattle.ls_world.specs.Cutting.{Ask}
-use Rattle.ls_world.specs.Lines.{Line}
+use Rattle.ls_world.specs.Lines.{Line, Configures}
 use Rattle.ls_value.specs.declared.limits.TheConstants.{GREATEST_NUMBER}
 use Rattle.ls_world.specs.declared.TheConstants.{MOST_SUBSCRIPTIONS}
 use Rattle.ls_world.specs.World.{Item, Live, Board, Life, Alive, Ending, Ended, Session, RoundLine, Round, history_of, is_at, is_of, is_used, live_at}
 use Rattle.ls_world.specs.World.{joined_slot, joined_all, added, without, removed, enqueue_slot, enqueue_at, enqueued_in, live_turn, round_of, taken_in}
-use Rattle.ls_world.specs.World.{on_board, is_unsent, given_next}
-use Rattle.ls_world.specs.Acting.{is_group, group_of, is_allowed, is_schema, subscriptions, are_too_many, are_spent, add_refusals, delete_code}
+use Rattle.ls_world.specs.World.{on_board, is_unsent, given_next, frequency_in, is_filtered, mode_in, with_frequency, reconfigured, due_at, is_due, is_waiting}
+use Rattle.ls_world.specs.World.{least_of, waits_of, least_wait}
+use Rattle.ls_world.specs.Acting.{is_group, group_of, is_allowed, is_schema, subscriptions, are_too_many, are_spent, add_refusals, change_code}
 use Rattle.ls_world.specs.Steps.{SessionTurn, Spent, next_given, round_turn, turn_owing, turn_living, session_turn}
 use Rattle.ls_world.proofs.Parts.{met_by, given_by, round_given, round_taken}
 use Rattle.ls_laws.specs.Alone.{unnumbered_slot, unnumbered_board, unnumbered}
@@ -63,8 +68,8 @@ pub refusals_same : (defs : List ItemDef) (free : ℕ) (s : Session) (a : Add) �
     ≡ add_refusals defs free s a
 refusals_same defs free s a = rw (used_same a.sub s.board.round, subscriptions_same s.board.round) refl
 
-pub delete_same : (s : Session) (sub : ℕ) → delete_code (unnumbered s) sub ≡ delete_code s sub
-delete_same s sub = rw (used_same sub s.board.round) refl
+pub change_same : (s : Session) (sub : ℕ) → change_code (unnumbered s) sub ≡ change_code s sub
+change_same s sub = rw (used_same sub s.board.round) refl
 
 -- a subscription begins, and ends
 joined_same : (items : List Item) (free : ℕ → ℕ) (sub rank : ℕ) (asks : List Ask) → slots (joined_all items free sub rank asks)
@@ -76,6 +81,7 @@ joined_same items free sub rank (a ∷ asks) =
       rank = rank;
       item = a.item;
       number = 0;
+      frequency = a.frequency;
       wanted = a.wanted;
       slot = joined_slot items a;
     }) ∷ vs) (joined_same items free sub (rank + 1) asks)
@@ -93,6 +99,30 @@ without_same sub (v ∷ vs) =
 
 pub removed_same : (sub : ℕ) (b : Board) → removed sub (unnumbered_board b) ≡ unnumbered_board (removed sub b)
 removed_same sub b = ap (λ vs. record (removed sub b) { round = vs }) (without_same sub b.round)
+
+-- a subscription gets another frequency
+mode_same : (o : Option Live) → option_map_or (λ (v : Live). v.slot.plan.mode) (option_map unnumbered_slot o) mode.Merge
+    ≡ option_map_or (λ (v : Live). v.slot.plan.mode) o mode.Merge
+mode_same None = refl
+mode_same (Some v) = refl
+
+mode_in_same : (sub : ℕ) (vs : List Live) → mode_in sub (slots vs) ≡ mode_in sub vs
+mode_in_same sub vs =
+    ap (λ o. option_map_or (λ (v : Live). v.slot.plan.mode) o mode.Merge) (live_same sub 1 vs) ∙ mode_same (live_at sub 1 vs)
+
+frequencies_same : (sub : ℕ) (f : Option ℕ) (vs : List Live) → map (with_frequency sub f) (slots vs) ≡ slots (map (with_frequency sub f) vs)
+frequencies_same sub f [] = refl
+frequencies_same sub f (v ∷ vs) =
+    λ i. pushed unnumbered_slot (is_of sub v) (record v { frequency = f }) v i ∷ frequencies_same sub f vs i
+
+pub reconfigured_same : (sub : ℕ) (frequency : Option ℕ) (b : Board) → reconfigured sub frequency (unnumbered_board b)
+    ≡ unnumbered_board (reconfigured sub frequency b)
+reconfigured_same sub frequency b =
+    ap (λ (m : Mode). record {
+      lines = Configures sub (frequency_in m frequency) (is_filtered m) ∷ b.lines;
+      round = map (with_frequency sub (frequency_in m frequency)) (slots b.round);
+    }) (mode_in_same sub b.round)
+    ∙ ap (λ vs. record (reconfigured sub frequency b) { round = vs }) (frequencies_same sub (frequency_in (mode_in sub b.round) frequency) b.round)
 
 -- an enqueue
 enqueue_same : (items : List Item) (sub rank : ℕ) (v : Live) → enqueue_at items sub rank (unnumbered_slot v) ≡ unnumbered_slot (enqueue_at items sub rank v)
@@ -121,23 +151,35 @@ met_same : (v : Live) (o : Option Came) (vs : List Live) (r : Round) → met_by 
 met_same v None vs r = refl
 met_same v (Some c) vs r = refl
 
-round_same : (items : List Item) (lines : List Line) (vs : List Live) → round_of (λ v. true) items lines (slots vs)
-    ≡ round_without (round_of (λ v. true) items lines vs)
-round_same items lines [] = refl
-round_same items lines (v ∷ vs) =
-    let t = live_turn (λ u. true) items lines v in
-    ap (λ r. met_by (unnumbered_slot (record v { slot = t.slot })) t.came (slots vs) r) (round_same items lines vs)
-    ∙ met_same (record v { slot = t.slot }) t.came vs (round_of (λ u. true) items lines vs)
+round_same : (now : ℕ) (s : Session) (items : List Item) (lines : List Line) (vs : List Live)
+    → round_of (is_due now (unnumbered s)) items lines (slots vs) ≡ round_without (round_of (is_due now s) items lines vs)
+round_same now s items lines [] = refl
+round_same now s items lines (v ∷ vs) =
+    let t = live_turn (is_due now s) items lines v in
+    ap (λ r. met_by (unnumbered_slot (record v { slot = t.slot })) t.came (slots vs) r) (round_same now s items lines vs)
+    ∙ met_same (record v { slot = t.slot }) t.came vs (round_of (is_due now s) items lines vs)
 
-given_same : (b : Board) (kept : List Live) (o : Option RoundLine) → given_by (unnumbered_board b) (slots kept) (option_map line_of o)
-    ≡ unnumbered_board (given_by b kept o)
-given_same b kept None = refl
-given_same b kept (Some t) = ap (λ vs. record (given_by b kept (Some t)) { round = vs }) (sym (map-append unnumbered_slot kept (t.live ∷ [])))
+given_same : (now : ℕ) (b : Board) (kept : List Live) (o : Option RoundLine) → given_by now (unnumbered_board b) (slots kept) (option_map line_of o)
+    ≡ unnumbered_board (given_by now b kept o)
+given_same now b kept None = refl
+given_same now b kept (Some t) =
+    ap (λ vs. record (given_by now b kept (Some t)) { round = vs }) (sym (map-append unnumbered_slot kept (t.live ∷ [])))
 
-taken_same : (items : List Item) (b : Board) → taken_in (λ v. true) items (unnumbered_board b) ≡ unnumbered_board (taken_in (λ v. true) items b)
-taken_same items b =
-    let r = round_of (λ v. true) items b.lines b.round in
-    ap (λ (x : Round). given_by (unnumbered_board b) x.kept x.came) (round_same items b.lines b.round) ∙ given_same b r.kept r.came
+taken_same : (now : ℕ) (items : List Item) (s : Session) → taken_in (is_due now (unnumbered s)) now items (unnumbered_board s.board)
+    ≡ unnumbered_board (taken_in (is_due now s) now items s.board)
+taken_same now items s =
+    let r = round_of (is_due now s) items s.board.lines s.board.round in
+    ap (λ (x : Round). given_by now (unnumbered_board s.board) x.kept x.came) (round_same now s items s.board.lines s.board.round)
+    ∙ given_same now s.board r.kept r.came
+
+-- which slots are due, and which wait
+any_same : (now : ℕ) (s : Session) (vs : List Live) → list_any (is_due now (unnumbered s)) (slots vs) ≡ list_any (is_due now s) vs
+any_same now s [] = refl
+any_same now s (v ∷ vs) = ap (λ b. is_due now s v || b) (any_same now s vs)
+
+waits_same : (now : ℕ) (items : List Item) (s : Session) (vs : List Live) → waits_of now items (unnumbered s) (slots vs) ≡ waits_of now items s vs
+waits_same now items s [] = refl
+waits_same now items s (v ∷ vs) = ap (λ ns. cond (is_waiting now items s v) (due_at now s v ∷ ns) ns) (waits_same now items s vs)
 
 -- a session's turn
 abbrev pub turn_without : SessionTurn → SessionTurn
@@ -149,35 +191,45 @@ given_next_same s = pushed unnumbered (is_unsent s) _ s
 next_same : (s : Session) → next_given (unnumbered s) ≡ turn_without (next_given s)
 next_same s = ap (λ t. record (next_given s) { session = t }) (given_next_same s)
 
-round_given_same : (s : Session) (o : Option RoundLine) → round_given (unnumbered s) (option_map line_of o) ≡ turn_without (round_given s o)
-round_given_same s None = refl
-round_given_same s (Some t) = next_same s
+round_given_same : (wait : Option ℕ) (s : Session) (o : Option RoundLine) → round_given wait (unnumbered s) (option_map line_of o)
+    ≡ turn_without (round_given wait s o)
+round_given_same wait s None = refl
+round_given_same wait s (Some t) = next_same s
 
-round_taken_same : (items : List Item) (s : Session) → round_taken items (unnumbered s) ≡ turn_without (round_taken items s)
-round_taken_same items s =
-    let r = round_of (λ v. true) items s.board.lines s.board.round in
-    ap (λ (b : Board). round_given (record s { board = b }) (round_of (λ v. true) items s.board.lines (slots s.board.round)).came) (taken_same items s.board)
-    ∙ ap (λ (x : Round). round_given (unnumbered (on_board (taken_in (λ v. true) items) s)) x.came) (round_same items s.board.lines s.board.round)
-    ∙ round_given_same (on_board (taken_in (λ v. true) items) s) r.came
+round_taken_same : (now : ℕ) (items : List Item) (s : Session) → round_taken now items (unnumbered s) ≡ turn_without (round_taken now items s)
+round_taken_same now items s =
+    let r = round_of (is_due now s) items s.board.lines s.board.round in
+    let after : Session = on_board (taken_in (is_due now s) now items) s in
+    ap (λ ns. round_given (least_of ns) (on_board (taken_in (is_due now (unnumbered s)) now items) (unnumbered s))
+    (round_of (is_due now (unnumbered s)) items s.board.lines (slots s.board.round)).came) (waits_same now items s s.board.round)
+    ∙ ap (λ (b : Board). round_given (least_wait now items s) (record s { board = b })
+    (round_of (is_due now (unnumbered s)) items s.board.lines (slots s.board.round)).came) (taken_same now items s)
+    ∙ ap (λ (x : Round). round_given (least_wait now items s) (unnumbered after) x.came) (round_same now s items s.board.lines s.board.round)
+    ∙ round_given_same (least_wait now items s) after r.came
 
-round_turn_same : (items : List Item) (s : Session) (vs : List Live) → round_turn items (unnumbered s) (slots vs) ≡ turn_without (round_turn items s vs)
-round_turn_same items s [] = refl
-round_turn_same items s (v ∷ vs) =
-    ap (λ (t : SessionTurn). cond (nat_le GREATEST_NUMBER (length s.board.lines)) (record { session = unnumbered s; gives = Spent }) t)
-    (round_taken_same items s)
-    ∙ pushed turn_without (nat_le GREATEST_NUMBER (length s.board.lines)) _ (round_taken items s)
+round_turn_same : (now : ℕ) (items : List Item) (s : Session) → round_turn now items (unnumbered s) ≡ turn_without (round_turn now items s)
+round_turn_same now items s =
+    ap (λ b. cond (b && nat_le GREATEST_NUMBER (length s.board.lines)) (record { session = unnumbered s; gives = Spent })
+    (round_taken now items (unnumbered s)))
+    (any_same now s s.board.round)
+    ∙ ap (λ (t : SessionTurn). cond (list_any (is_due now s) s.board.round && nat_le GREATEST_NUMBER (length s.board.lines))
+    (record { session = unnumbered s; gives = Spent }) t) (round_taken_same now items s)
+    ∙ pushed turn_without (list_any (is_due now s) s.board.round && nat_le GREATEST_NUMBER (length s.board.lines)) (record { session = s; gives = Spent })
+    (round_taken now items s)
 
-owing_same : (items : List Item) (s : Session) (owed : List (List ℕ)) → turn_owing items (unnumbered s) owed ≡ turn_without (turn_owing items s owed)
-owing_same items s (text ∷ owed) = refl
-owing_same items s [] =
-    ap (λ (t : SessionTurn). cond (is_unsent s) t (round_turn items (unnumbered s) (slots s.board.round))) (next_same s)
-    ∙ ap (λ (t : SessionTurn). cond (is_unsent s) (turn_without (next_given s)) t) (round_turn_same items s s.board.round)
-    ∙ pushed turn_without (is_unsent s) (next_given s) (round_turn items s s.board.round)
+owing_same : (now : ℕ) (items : List Item) (s : Session) (owed : List (List ℕ)) → turn_owing now items (unnumbered s) owed
+    ≡ turn_without (turn_owing now items s owed)
+owing_same now items s (text ∷ owed) = refl
+owing_same now items s [] =
+    ap (λ (t : SessionTurn). cond (is_unsent s) t (round_turn now items (unnumbered s))) (next_same s)
+    ∙ ap (λ (t : SessionTurn). cond (is_unsent s) (turn_without (next_given s)) t) (round_turn_same now items s)
+    ∙ pushed turn_without (is_unsent s) (next_given s) (round_turn now items s)
 
-living_same : (items : List Item) (s : Session) (life : Life) → turn_living items (unnumbered s) life ≡ turn_without (turn_living items s life)
-living_same items s Alive = owing_same items s s.owed
-living_same items s (Ending code) = refl
-living_same items s (Ended code) = refl
+living_same : (now : ℕ) (items : List Item) (s : Session) (life : Life) → turn_living now items (unnumbered s) life
+    ≡ turn_without (turn_living now items s life)
+living_same now items s Alive = owing_same now items s s.owed
+living_same now items s (Ending code) = refl
+living_same now items s (Ended code) = refl
 
-pub turn_same : (items : List Item) (s : Session) → session_turn items (unnumbered s) ≡ turn_without (session_turn items s)
-turn_same items s = living_same items s s.life
+pub turn_same : (now : ℕ) (items : List Item) (s : Session) → session_turn now items (unnumbered s) ≡ turn_without (session_turn now items s)
+turn_same now items s = living_same now items s s.life

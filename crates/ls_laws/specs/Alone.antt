@@ -29,16 +29,18 @@ unnumbered s = on_board unnumbered_board s
 -- what a session, by its place from 0, sees of a world on a connection
 pub record Seen : Type 0 where
   pub items : List Item
+  pub tick : ℕ
   pub line : ℕ
   pub connection : Option Connection
   pub session : Option Session
 
--- the items, how many script lines there were, which numbers the request of an add, the connection, and the session
--- but for the numbers of its slots
+-- the items, the clock, how many script lines there were, which numbers the request of an add, the connection, and the
+-- session but for the numbers of its slots
 abbrev pub seen : ℕ → ℕ → World → Seen
 seen n connection w =
     record {
       items = w.items;
+      tick = w.tick;
       line = w.line;
       connection = slice_get w.connections connection;
       session = option_map unnumbered (slice_get w.sessions n);
@@ -106,6 +108,16 @@ changes_items (step.Publish adapter seq item cells) = true
 changes_items (step.Clear adapter seq item) = true
 changes_items s = false
 
+-- whether a step sets the clock
+abbrev pub sets_clock : Step → Bool
+sets_clock (step.Tick ms) = true
+sets_clock s = false
+
+-- two worlds have the same items and the same clock, which all sessions see
+pub record HaveSame (w v : World) : Type 0 where
+  pub items : w.items ≡ v.items
+  pub tick : w.tick ≡ v.tick
+
 -- the world after a step
 abbrev pub after : World → Repeat → World
 after w r = (does w r.step r.times).after
@@ -149,16 +161,16 @@ pub record IsOwnOfBoth (n connection : ℕ) (w v : World) (r : Repeat) : Type 0 
   pub on : connection_of r.step ≡ Some connection
   pub room : lacks_slots w r.step ≡ lacks_slots v r.step
 
--- two runs, from two worlds, differ in what is done elsewhere: a step of one run alone leaves the items, and after a
--- shared one both have the same
+-- two runs, from two worlds, differ in what is done elsewhere: a step of one run alone leaves the items and the clock,
+-- and after a shared one both have the same
 abbrev pub DifferElsewhere : ℕ → ℕ → World → World → List RunStep → Type 0
 DifferElsewhere n connection w v [] = Unit {0}
 DifferElsewhere n connection w v (First r ∷ ms) =
-    IsElsewhere n connection w r × ((after w r).items ≡ w.items) × DifferElsewhere n connection (after w r) v ms
+    IsElsewhere n connection w r × HaveSame (after w r) w × DifferElsewhere n connection (after w r) v ms
 DifferElsewhere n connection w v (Second r ∷ ms) =
-    IsElsewhere n connection v r × ((after v r).items ≡ v.items) × DifferElsewhere n connection w (after v r) ms
+    IsElsewhere n connection v r × HaveSame (after v r) v × DifferElsewhere n connection w (after v r) ms
 DifferElsewhere n connection w v (Own r ∷ ms) =
     IsOwnOfBoth n connection w v r × DifferElsewhere n connection (after w r) (after v r) ms
 DifferElsewhere n connection w v (Shared r ∷ ms) =
-    IsElsewhere n connection w r × IsElsewhere n connection v r × ((after w r).items ≡ (after v r).items)
+    IsElsewhere n connection w r × IsElsewhere n connection v r × HaveSame (after w r) (after v r)
     × DifferElsewhere n connection (after w r) (after v r) ms

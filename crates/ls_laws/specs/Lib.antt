@@ -1,3 +1,4 @@
 pub mod Truths
 pub mod ClientTables
 pub mod Alone
+pub mod Budgets

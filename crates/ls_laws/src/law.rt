@@ -2,8 +2,12 @@
 //! and so 1 to 64 distinct fields, is among the premises: a lawful world says it, and a step that declares an item
 //! keeps to it.
 ghost use Rattle.std.specs.Prelude.{◌≡◌, ◌+◌, ◌<◌, ◌≤◌, ◌++◌, ◌∷◌, ℕ, List, [], length, None, Some, false, true};
-ghost use Rattle.std.specs.Prelude.{slice_get};
+ghost use Rattle.std.specs.Prelude.{slice_get, nat_le, ◌&&◌, ◌⊎◌};
 ghost use Rattle.std.specs.List.{Contains};
+ghost use Rattle.std.specs.Option.{ForSome};
+ghost use Rattle.ls_budget.specs.Budget.{frequency_tick};
+ghost use Rattle.ls_budget.specs.Due.{allows, IsFirst};
+ghost use Rattle.ls_budget.specs.Window.{latest_tick};
 ghost use Rattle.ls_value.specs.Values.{projected};
 ghost use Rattle.ls_value.specs.declared.row.Value.{Value};
 ghost use Rattle.ls_event.specs.declared.event.Entry.{Entry};
@@ -14,12 +18,13 @@ ghost use Rattle.ls_event.specs.Keyed.{keyed, row_at};
 ghost use Rattle.ls_event.specs.Slots.{Slot};
 ghost use Rattle.ls_world.specs.Came.{Came, whats};
 ghost use Rattle.ls_event.specs.Cuts.{cut, is_pending};
-ghost use Rattle.ls_world.specs.Lines.{came, last_row, texts};
+ghost use Rattle.ls_world.specs.Lines.{came, last_row, texts, updated};
 ghost use Rattle.ls_world.specs.Cutting.{Wanted, client_row, schema_of, turn};
-ghost use Rattle.ls_world.specs.World.{World, Session, Live, empty, history_of, shape_at};
+ghost use Rattle.ls_world.specs.World.{World, Item, Session, Live, RoundLine, empty, history_of, shape_at};
+ghost use Rattle.ls_world.specs.World.{round_of, is_due, is_waiting};
 ghost use Rattle.ls_step.specs.declared.step.Step.{Step};
 ghost use Rattle.ls_step.specs.declared.step.Repeat.{Repeat};
-ghost use Rattle.ls_world.specs.Steps.{does, does_all};
+ghost use Rattle.ls_world.specs.Steps.{Idle, NotDue, session_turn, does, does_all};
 ghost use Rattle.ls_world.specs.Script.{world_of};
 ghost use Rattle.ls_world.specs.Lawful.{Each, IsMergeLine, LawfulSlot, Lawful};
 ghost use Rattle.std.specs.FinMap as finite;
@@ -33,8 +38,10 @@ ghost use Rattle.ls_world.specs.CommandMode.{cursor_of_key, AgreesAt, NoTurn, Is
 ghost use Rattle.ls_world.specs.Tables.{projected_row, table_at};
 ghost use Rattle.ls_world.specs.Ranges.{InRange};
 ghost use Rattle.ls_laws.specs.Truths.{TellsOf, IsTrueOf};
-ghost use Rattle.ls_laws.specs.Alone.{seen, connection_of, is_own, lacks_slots, changes_items};
+ghost use Rattle.ls_laws.specs.Alone.{seen, connection_of, is_own, lacks_slots, changes_items, sets_clock};
 ghost use Rattle.ls_laws.specs.Alone.{RunStep, firsts, seconds, told, DifferElsewhere};
+ghost use Rattle.ls_laws.specs.Budgets.{spends_of, IsOfDue, NumbersDue, IsLeastWait, is_any_due};
+ghost use Rattle.ls_laws.specs.Budgets.{WaitsForFirst, KeepsBandwidth, KeepsWindows, ClockRises, AreApart, AreToldOf};
 
 /// Each world that steps make of the empty one is lawful, where the parts of each step are in their ranges (a new item
 /// has 1 to 64 distinct fields, and in kind COMMAND a key and a command among them; the texts of an update are UTF-8):
@@ -179,18 +186,22 @@ pub fn the_turn_ends_its_cuts()
 
 /// A step changes one session at most, the one that it means: an enqueue, a take or a request that names no session
 /// means its connection's, a control request the one that it names, and a create_session makes a new one. Each other
-/// session is as it was, and so are the items unless the step is a new item, an update or a Clear.
+/// session is as it was, and so are the items unless the step is a new item, an update or a Clear, and the clock unless
+/// it sets it.
 pub fn a_step_changes_its_session_alone()
     ensures sessions { (w : World) (n : ℕ) (s : Step) (times : ℕ) → n < length w.sessions → is_own n w s ≡ false
         → slice_get (does w s times).after.sessions n ≡ slice_get w.sessions n }
     ensures items { (w : World) (s : Step) (times : ℕ) → changes_items s ≡ false
         → (does w s times).after.items ≡ w.items }
+    ensures clock { (w : World) (s : Step) (times : ℕ) → sets_clock s ≡ false
+        → (does w s times).after.tick ≡ w.tick }
 {}
 
-/// What a session's own step prints, and what the session sees after it, follow from what it sees: the items, its
-/// connection, and itself but for the numbers of its slots. So in any two worlds that it sees alike, whatever their
-/// other sessions are, its enqueues, takes and requests print the same and lead to worlds that it sees alike. Only an
-/// add counts the slots of others: the server must lack slots for it (code 71) in both worlds or in neither.
+/// What a session's own step prints, and what the session sees after it, follow from what it sees: the items, the
+/// clock, its connection, and itself but for the numbers of its slots. So in any two worlds that it sees alike,
+/// whatever their other sessions are, its enqueues, takes and requests print the same and lead to worlds that it sees
+/// alike: which of its slots are due rests on its own lines, its frequencies, its bandwidth and the clock. Only an add
+/// counts the slots of others: the server must lack slots for it (code 71) in both worlds or in neither.
 pub fn a_session_is_told_what_it_sees()
     ensures printed { (n connection : ℕ) (w v : World) (s : Step) (times : ℕ)
         → seen n connection w ≡ seen n connection v → connection_of s ≡ Some connection → is_own n w s ≡ true
@@ -208,7 +219,7 @@ pub fn a_session_is_told_what_it_sees()
 /// Not independent of others are: the numbers of slots, which only the note of a refused update prints; how many
 /// sessions and slots there may still be (codes 8 and 71), and a new session's place, by which it is named; and an
 /// update that is refused because a slot of another session lags. Then the item's history is another one, so of shared
-/// steps the law asks that they make the same items in both runs.
+/// steps the law asks that they make the same items in both runs, and set the clock alike.
 pub fn a_session_is_told_nothing_of_others()
     ensures told { (n connection : ℕ) (w v : World) (steps : List RunStep) → n < length w.sessions
         → connection < length w.connections → seen n connection w ≡ seen n connection v
@@ -217,4 +228,70 @@ pub fn a_session_is_told_nothing_of_others()
         → connection < length w.connections → seen n connection w ≡ seen n connection v
         → DifferElsewhere n connection w v steps
         → seen n connection (does_all w (firsts steps)) ≡ seen n connection (does_all v (seconds steps)) }
+{}
+
+/// A turn gives no U, OV, CS or EOS line of a slot that isn't due: the line of its round is that of a slot of the
+/// session which is due at the turn's tick, so a turn numbers no line, or one that tells of such a slot. A slot is due
+/// exactly where the tick that its frequency allows is reached, and the session's credit is above 0, which it always is
+/// without a bandwidth (General Concepts, frequency and bandwidth).
+pub fn only_due_slots_give_lines()
+    ensures round { (now : ℕ) (items : List Item) (s : Session) (t : RoundLine)
+        → (round_of (is_due now s) items s.board.lines s.board.round).came ≡ Some t → IsOfDue now s t }
+    ensures numbered { (now : ℕ) (items : List Item) (s : Session)
+        → ((session_turn now items s).session.board.lines ≡ s.board.lines)
+        ⊎ NumbersDue now s (session_turn now items s).session.board.lines }
+    ensures due { (now : ℕ) (s : Session) (v : Live)
+        → is_due now s v ≡ (nat_le (frequency_tick v.frequency (updated v.sub v.rank s.board.lines)) now
+        && allows s.rate.limit (spends_of s) now) }
+{}
+
+/// A turn that gives nothing before a tick, `NotDue`, gives a tick that is later than now, at which a slot that waits
+/// is due, and no slot that waits is due before it: it is the first tick at which one is, where nothing comes
+/// meanwhile. That wants a bandwidth above 0, if there is one, and that no spend is later than now, as
+/// `each_update_is_given_with_credit` says of each world: so it is true of each session of the worlds that steps make
+/// which set no clock back, and of those of scripts. A turn that gives nothing at all, `Idle`, leaves no slot that
+/// waits.
+pub fn a_wait_ends_at_the_first_due_tick()
+    ensures later { (now : ℕ) (items : List Item) (s : Session) (tick : ℕ)
+        → (session_turn now items s).gives ≡ NotDue tick → now < tick }
+    ensures least { (now : ℕ) (items : List Item) (s : Session) (tick : ℕ)
+        → (session_turn now items s).gives ≡ NotDue tick → IsLeastWait now items s tick }
+    ensures first { (now : ℕ) (items : List Item) (s : Session) (tick : ℕ) → ForSome s.rate.limit (λ r. 0 < r)
+        → latest_tick (spends_of s) ≤ now → (session_turn now items s).gives ≡ NotDue tick
+        → IsFirst (is_any_due now items s) now tick }
+    ensures steps { (steps : List Repeat) → ClockRises 0 steps
+        → Each (WaitsForFirst (does_all empty steps)) (does_all empty steps).sessions }
+    ensures scripts { (lines : List (List ℕ))
+        → Each (WaitsForFirst (world_of empty lines)) (world_of empty lines).sessions }
+    ensures idle { (now : ℕ) (items : List Item) (s : Session) → (session_turn now items s).gives ≡ Idle
+        → (v : Live) → Contains s.board.round v → is_waiting now items s v ≡ false }
+{}
+
+/// In each world that steps make of the empty one, where no step sets the clock back, each U line of a session since
+/// its bandwidth was set was given while the session's credit was above 0, and none is later than the clock; a
+/// bandwidth that is set is above 0. The grammar of scripts sets no clock back, so it is true of each script's world.
+pub fn each_update_is_given_with_credit()
+    ensures steps { (steps : List Repeat) → ClockRises 0 steps
+        → Each (KeepsBandwidth (does_all empty steps).tick) (does_all empty steps).sessions }
+    ensures scripts { (lines : List (List ℕ))
+        → Each (KeepsBandwidth (world_of empty lines).tick) (world_of empty lines).sessions }
+{}
+
+/// So while a bandwidth is set, the session's U lines in any window of ticks, all but the last of them, take less than
+/// the credit of a second and what the bandwidth restores in the window: their bytes with CR LF, in thousandths of a
+/// bit.
+pub fn updates_of_a_window_are_bounded()
+    ensures steps { (steps : List Repeat) → ClockRises 0 steps → Each KeepsWindows (does_all empty steps).sessions }
+    ensures scripts { (lines : List (List ℕ)) → Each KeepsWindows (world_of empty lines).sessions }
+{}
+
+/// In each world that steps make of the empty one, two U lines of a slot under one frequency are at least the
+/// frequency's interval of ticks apart, while no line between them begins or ends the subscription or tells of its
+/// frequency, as after a reconf. That frequency is what the last CONF told, and it is that of each slot of the
+/// subscription.
+pub fn updates_of_a_slot_are_apart()
+    ensures apart { (steps : List Repeat) → Each (λ s. AreApart s.board.lines) (does_all empty steps).sessions }
+    ensures told { (steps : List Repeat) → Each AreToldOf (does_all empty steps).sessions }
+    ensures scripts { (lines : List (List ℕ)) → Each (λ s. AreApart s.board.lines) (world_of empty lines).sessions }
+    ensures told_by_scripts { (lines : List (List ℕ)) → Each AreToldOf (world_of empty lines).sessions }
 {}

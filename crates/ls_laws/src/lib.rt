@@ -6,6 +6,8 @@
 //! has: `each_row_is_among_the_last_states` of MERGE, `each_update_is_told_or_counted` of RAW,
 //! `only_old_rows_are_left_out` of DISTINCT, `no_key_goes_back` of COMMAND, and what a client has once nothing waits.
 //! `a_session_is_told_nothing_of_others` says that what one session is told doesn't depend on what others do.
+//! `only_due_slots_give_lines`, `a_wait_ends_at_the_first_due_tick`, `updates_of_a_window_are_bounded` and
+//! `updates_of_a_slot_are_apart` say what frequencies and bandwidths come to.
 //!
 //! The laws are of the definitions alone. That the program does what these say is the contracts of the engine's crates.
 //! Only the program stands on this crate, so a change of a proof here proves nothing else again.
@@ -16,10 +18,12 @@ mod law;
 pub use law::{
     a_loss_is_told_only_past_256, a_session_is_told_nothing_of_others,
     a_session_is_told_what_it_sees, a_step_changes_its_session_alone,
-    each_client_has_the_rows_of_its_keys, each_key_is_told_as_it_was,
-    each_row_is_among_the_last_states, each_script_is_lawful, each_update_is_told_or_counted,
-    each_world_is_lawful, no_key_goes_back, no_state_is_invented, only_old_rows_are_left_out,
+    a_wait_ends_at_the_first_due_tick, each_client_has_the_rows_of_its_keys,
+    each_key_is_told_as_it_was, each_row_is_among_the_last_states, each_script_is_lawful,
+    each_update_is_given_with_credit, each_update_is_told_or_counted, each_world_is_lawful,
+    no_key_goes_back, no_state_is_invented, only_due_slots_give_lines, only_old_rows_are_left_out,
     settled_clients_have_the_items_rows, settled_clients_have_the_items_state,
     settled_clients_know_of_each_update, settled_slots_are_at_the_last_event,
-    settled_tables_are_the_items, the_turn_ends_its_cuts,
+    settled_tables_are_the_items, the_turn_ends_its_cuts, updates_of_a_slot_are_apart,
+    updates_of_a_window_are_bounded,
 };

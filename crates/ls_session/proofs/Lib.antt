@@ -1,10 +1,12 @@
 pub mod Queues
 pub mod Waiting
+pub mod Seats
 pub mod Moves
 pub mod Turns
 pub mod Keeping
 pub mod Adding
-pub mod Answering
-pub mod Deleting
+pub mod Changing
+pub mod Replies
 pub mod Tables
+pub mod Limits
 pub mod Enqueuing

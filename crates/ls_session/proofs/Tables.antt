@@ -40,11 +40,11 @@ room_tells k defs free s a early new form =
     ∷ (23, not (is_schema defs a.mode (group_of defs a.group) a.schema)) ∷ []))) (sym new) ∙ form)
 
 -- a group that isn't refused has no more items than it may have
-and_first : (a b : Bool) → (a && b) ≡ true → a ≡ true
+pub and_first : (a b : Bool) → (a && b) ≡ true → a ≡ true
 and_first true b e = refl
 and_first false b e = e
 
-and_second : (a b : Bool) → (a && b) ≡ true → b ≡ true
+pub and_second : (a b : Bool) → (a && b) ≡ true → b ≡ true
 and_second true b e = e
 and_second false b e = absurd (let x : false ≡ true = e in cc)
 
@@ -53,7 +53,7 @@ is_a_group true group rest e = absurd (let x : Some 72 ≡ None = e in cc)
 is_a_group false true rest e = refl
 is_a_group false false rest e = absurd (let x : Some 21 ≡ None = e in cc)
 
-plan_length : (defs : List ItemDef) (sub rank : ℕ) (asks : List Ask) (items : List PlanItem) → ArePlanItems defs sub rank asks items
+pub plan_length : (defs : List ItemDef) (sub rank : ℕ) (asks : List Ask) (items : List PlanItem) → ArePlanItems defs sub rank asks items
     → length items ≡ length asks
 plan_length defs sub rank [] [] are = refl
 plan_length defs sub rank [] (p ∷ ps) are = absurd are

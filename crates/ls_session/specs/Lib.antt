@@ -1,2 +1,3 @@
 pub mod Record
+pub mod Asking
 pub mod Session

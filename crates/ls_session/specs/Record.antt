@@ -1,7 +1,8 @@
 -- A session's record: the session of the world, and where it stands in asking its round; and what each call makes of it
 -- (TLCP 2.1, streams and notifications; this project's profile).
 use Rattle.std.specs.Prelude.{ℕ, ◌+◌, List, [], ◌∷◌, ◌++◌, length, Bool, true, false, Option, None, Some}
-use Rattle.std.specs.Prelude.{nat_le, slice_get, if◌then◌else◌}
+use Rattle.std.specs.Prelude.{nat_le, nat_eq, min, ◌&&◌, slice_get, option_map, if◌then◌else◌}
+use Rattle.std.specs.Option.{option_map_or}
 use Rattle.ls_value.specs.declared.limits.TheConstants.{GREATEST_NUMBER}
 use Rattle.ls_event.specs.declared.event.Taken.{Taken}
 use Rattle.ls_event.specs.declared.item.ItemDef.{ItemDef}
@@ -10,28 +11,37 @@ use Rattle.ls_mirror.specs.Client.{What}
 use Rattle.ls_world.specs.Cases.{first_code}
 use Rattle.ls_world.specs.Lines.{Begins, Configures, text_at}
 use Rattle.ls_world.specs.World.{Live, Board, Life, Alive, Ending, Ended, Session, on_board, is_unsent, given_next}
-use Rattle.ls_world.specs.World.{is_alive, is_of, are_filtered}
-use Rattle.ls_world.specs.Acting.{asks_of, add_refusals, delete_code, are_too_many, are_spent}
+use Rattle.ls_world.specs.World.{is_alive, is_of, are_filtered, frequency_of, is_due, due_at}
+use Rattle.ls_world.specs.Acting.{asks_of, add_refusals, change_code, constrain_code, are_too_many, are_spent}
 use Rattle.ls_world.specs.Steps.{end_text}
 use Rattle.ls_subs.specs.Plans.{keys_of_asks}
 use Rattle.ls_subs.specs.Standing.{what_of, told_of, passed_at, passed_back}
 
--- a session, how many slots of its round were asked in vain, and whether the next one is asked
+-- a session, the latest tick that it was told, how many slots of its round were asked in vain at that tick, whether the
+-- next one is asked, and the least tick at which one of those that wait is due
 pub record Record : Type 0 where
   pub session : Session
+  pub tick : ℕ
   pub asked : ℕ
   pub asks : Bool
+  pub wait : Option ℕ
 
 -- no slot is asked, and the round begins anew
-abbrev pub begun_anew : Session → Record
-begun_anew s = record { session = s; asked = 0; asks = false }
+abbrev pub begun_anew : ℕ → Session → Record
+begun_anew tick s = record { session = s; tick = tick; asked = 0; asks = false; wait = None }
 
--- what a turn gives: a line, the question what a slot has to tell, nothing, no number for a line, or that the session
--- has ended
+-- the question what a slot has to tell, and whether the slot is due
+pub record Question : Type 0 where
+  pub live : Live
+  pub due : Bool
+
+-- what a turn gives: a line, a question, nothing, nothing before a tick, no number for a line, or that the session has
+-- ended
 pub data Gives : Type 0 where
   Line : List ℕ → Gives
-  Asks : Live → Gives
+  Asks : Question → Gives
   Nothing : Gives
+  Waits : ℕ → Gives
   NoNumber : Gives
   Over : ℕ → Gives
 
@@ -40,57 +50,89 @@ pub record Turned : Type 0 where
   pub after : Record
   pub gives : Gives
 
--- the round goes on behind the slots that were asked, or begins anew where a question wasn't answered
-abbrev pub from_place : Record → ℕ
-from_place r = if r.asks then 0 else r.asked
+-- whether the round goes on at this tick behind the slots that were asked: it begins anew where a question wasn't
+-- answered, and at another tick
+abbrev pub goes_on : ℕ → Record → Bool
+goes_on now r = if r.asks then false else nat_eq r.tick now
 
--- the slot of a place is asked, where a number is left for its line; behind the last one there is nothing
-abbrev pub round_asked : Session → ℕ → Option Live → Turned
-round_asked s n None = record { after = begun_anew s; gives = Nothing }
-round_asked s n (Some v) =
-    if nat_le GREATEST_NUMBER (length s.board.lines) then record { after = begun_anew s; gives = NoNumber }
-    else record { after = record { session = s; asked = n; asks = true }; gives = Asks v }
+abbrev pub from_place : ℕ → Record → ℕ
+from_place now r = if goes_on now r then r.asked else 0
+
+abbrev pub wait_from : ℕ → Record → Option ℕ
+wait_from now r = if goes_on now r then r.wait else None
+
+-- behind the last slot there is nothing, before the least tick at which one that waits is due
+abbrev pub waits_until : Option ℕ → Gives
+waits_until None = Nothing
+waits_until (Some tick) = Waits tick
+
+-- the slot of a place is asked; a due one only where a number is left for its line
+abbrev pub round_asked : ℕ → Option ℕ → Session → ℕ → Option Live → Turned
+round_asked now wait s n None = record { after = begun_anew now s; gives = waits_until wait }
+round_asked now wait s n (Some v) =
+    if is_due now s v && nat_le GREATEST_NUMBER (length s.board.lines)
+    then record { after = begun_anew now s; gives = NoNumber }
+    else record {
+      after = record { session = s; tick = now; asked = n; asks = true; wait = wait };
+      gives = Asks (record { live = v; due = is_due now s v });
+    }
 
 -- the next unsent line is given
-abbrev pub next_turned : Session → Turned
-next_turned s = record { after = begun_anew (given_next s); gives = Line (text_at s.board.lines (s.sent + 1)) }
+abbrev pub next_turned : ℕ → Session → Turned
+next_turned now s = record { after = begun_anew now (given_next s); gives = Line (text_at s.board.lines (s.sent + 1)) }
+
+-- the next slot of the round is asked
+abbrev pub round_turned : ℕ → Record → Turned
+round_turned now r =
+    round_asked now (wait_from now r) r.session (from_place now r)
+    (slice_get r.session.board.round (from_place now r))
 
 -- by what is owed: the first line that is; else the next unsent line; else the round
-abbrev pub owed_turned : Record → List (List ℕ) → Turned
-owed_turned r (text ∷ owed) = record { after = begun_anew (record r.session { owed = owed }); gives = Line text }
-owed_turned r [] =
-    if is_unsent r.session then next_turned r.session
-    else round_asked r.session (from_place r) (slice_get r.session.board.round (from_place r))
+abbrev pub owed_turned : ℕ → Record → List (List ℕ) → Turned
+owed_turned now r (text ∷ owed) =
+    record { after = begun_anew now (record r.session { owed = owed }); gives = Line text }
+owed_turned now r [] = if is_unsent r.session then next_turned now r.session else round_turned now r
 
--- a turn: a session that has ended gives END once, and nothing else
-abbrev pub turned_by : Record → Life → Turned
-turned_by r Alive = owed_turned r r.session.owed
-turned_by r (Ending code) =
-    record { after = begun_anew (record r.session { life = Ended code }); gives = Line (end_text code) }
-turned_by r (Ended code) = record { after = begun_anew r.session; gives = Over code }
+-- a turn at a tick: a session that has ended gives END once, and nothing else
+abbrev pub turned_by : ℕ → Record → Life → Turned
+turned_by now r Alive = owed_turned now r r.session.owed
+turned_by now r (Ending code) =
+    record { after = begun_anew now (record r.session { life = Ended code }); gives = Line (end_text code) }
+turned_by now r (Ended code) = record { after = begun_anew now r.session; gives = Over code }
 
-abbrev pub turned : Record → Turned
-turned r = turned_by r r.session.life
+abbrev pub turned : ℕ → Record → Turned
+turned now r = turned_by now r r.session.life
 
--- the slot that is asked
-abbrev pub asked_slot : Record → Option Live
-asked_slot r = if r.asks then slice_get r.session.board.round r.asked else None
+-- the question that stands
+abbrev pub question_of : Record → Option Question
+question_of r =
+    if r.asks
+    then option_map (λ v. record { live = v; due = is_due r.tick r.session v })
+    (slice_get r.session.board.round r.asked)
+    else None
 
 -- the answer that a slot has nothing: the next one is to be asked
 abbrev pub passed_over : Record → Record
 passed_over r = record r { asked = r.asked + 1; asks = false }
 
--- the answer of a slot's cut: it makes no line, and the slot is to be asked again; or its line is numbered, and the
+-- the answer that a slot waits until it is due: the next one is to be asked
+abbrev pub waited : Record → Live → Record
+waited r v =
+    record (passed_over r) {
+      wait = Some (option_map_or (min (due_at r.tick r.session v)) r.wait (due_at r.tick r.session v));
+    }
+
+-- the answer of a due slot's cut: it makes no line, and the slot is to be asked again; or its line is numbered, and the
 -- slot goes to the back
 abbrev pub answered_by : Record → Live → Taken → Option What → Record
 answered_by r v t None =
-    record {
+    record r {
       session = on_board (λ b. record b { round = passed_at r.asked t b.round }) r.session;
-      asked = r.asked;
       asks = false;
     }
 answered_by r v t (Some what) =
-    begun_anew (on_board (λ b. record { lines = told_of v t what b.lines; round = passed_back r.asked v t b.round })
+    begun_anew r.tick
+    (on_board (λ b. record { lines = told_of v r.tick t what b.lines; round = passed_back r.asked v t b.round })
     r.session)
 
 abbrev pub answered : Record → Live → Taken → Record
@@ -100,12 +142,15 @@ answered r v t = answered_by r v t (what_of r.session.board.lines v t)
 abbrev pub unless_ended : Session → Option ℕ → Option ℕ
 unless_ended s code = if is_alive s.life then code else Some 20
 
--- why an add is refused, and why a delete is
+-- why an add is refused; why a delete or another frequency is; and why another bandwidth is
 abbrev pub adding_code : List ItemDef → ℕ → Session → Add → Option ℕ
 adding_code defs free s a = unless_ended s (first_code (add_refusals defs free s a))
 
-abbrev pub deleting_code : Session → ℕ → Option ℕ
-deleting_code s sub = unless_ended s (delete_code s sub)
+abbrev pub changing_code : Session → ℕ → Option ℕ
+changing_code s sub = unless_ended s (change_code s sub)
+
+abbrev pub constraining_code : Session → Option ℕ
+constraining_code s = unless_ended s (constrain_code s)
 
 -- and why one line more can't be numbered
 abbrev pub numbering_code : Session → Option ℕ
@@ -115,7 +160,7 @@ numbering_code s = unless_ended s (first_code ((70, are_too_many s 1) ∷ (74, a
 abbrev pub with_plan : List ItemDef → Add → List Live → Board → Board
 with_plan defs a vs b =
     record {
-      lines = Configures a.sub (are_filtered (asks_of defs a))
+      lines = Configures a.sub (frequency_of (asks_of defs a)) (are_filtered (asks_of defs a))
           ∷ Begins a.sub (length (asks_of defs a)) (length a.schema) (keys_of_asks defs (asks_of defs a)) ∷ b.lines;
       round = b.round ++ vs;
     }

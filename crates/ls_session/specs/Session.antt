@@ -1,23 +1,34 @@
 -- What a session keeps, and the record that it stands for. It says nothing of items or their histories.
-use Rattle.std.specs.Prelude.{◌≡◌, ◌≤◌, ◌<◌, ℕ, ◌+◌, List, [], ◌∷◌, ◌++◌, length, map, true, false, Some, slice_get}
-use Rattle.std.specs.Prelude.{nat_eq, nat_lt, if◌then◌else◌}
-use Rattle.std.specs.Vec.{vec_len, vec_capacity}
+use Rattle.std.specs.Prelude.{◌≡◌, ◌≤◌, ◌<◌, ◌⊎◌, ℕ, ◌+◌, List, [], ◌∷◌, ◌++◌, length, map, Bool, true, false}
+use Rattle.std.specs.Prelude.{Option, None, Some, is_some, option_map, nat_eq, nat_lt, if◌then◌else◌}
 use Rattle.std.specs.VecDeque.{deque_len, deque_capacity}
 use Rattle.ls_value.specs.declared.limits.TheConstants.{GREATEST_NUMBER}
-use Rattle.ls_world.specs.Lines.{Line as NumberedLine, line_text}
-use Rattle.ls_world.specs.World.{Life, Alive, Ending, Ended}
+use Rattle.ls_budget.specs.Budget.{Spend, credit_tick}
+use Rattle.ls_budget.specs.Kept.{KeptCredit, StandsBandwidth}
+use Rattle.ls_budget.specs.Due.{due_at as due_answer}
+use Rattle.ls_budget.specs.declared.limits.TheConstants.{GREATEST_TICK}
+use Rattle.ls_turns.specs.Round.{node_of_place, slots_of}
+use Rattle.ls_turns.specs.declared.slot_ref.SlotRef.{SlotRef}
+use Rattle.ls_world.specs.Lines.{Line as NumberedLine, Configures, line_text, spends_behind}
+use Rattle.ls_world.specs.World.{Board, Rate, Life, Alive, Ending, Ended, Session, due_at, with_frequency}
 use Rattle.ls_world.specs.Acting.{destroyed}
+use Rattle.ls_world.specs.Lawful.{Each}
 use Rattle.ls_world.specs.Steps.{end_text}
-use Rattle.ls_world.specs.declared.TheConstants.{MOST_GROUP_ITEMS}
+use Rattle.ls_world.specs.declared.TheConstants.{MOST_GROUP_ITEMS, MOST_LINE}
 use Rattle.ls_subs.specs.declared.plan.AddPlan.{AddPlan}
 use Rattle.ls_subs.specs.declared.plan.PlanItem.{PlanItem}
-use Rattle.ls_subs.specs.declared.slot_ref.SlotRef.{SlotRef}
 use Rattle.ls_subs.specs.Kept.{has_sub, room_of}
 use Rattle.ls_subs.specs.Plans.{IsReady as IsReadyItems}
 use Rattle.ls_subs.specs.Standing.{ref_of, StandsSubs}
-use Rattle.ls_session.specs.Record.{Record, Gives, Line, Asks, Nothing, NoNumber, Over}
+use Rattle.ls_session.specs.Asking.{Asking, Passes}
+use Rattle.ls_session.specs.Record.{Record, Question, question_of, Gives, Line, Asks, Nothing, Waits, NoNumber, Over}
+use Rattle.ls_session.specs.declared.asking.Asked.{Asked}
+use Rattle.ls_session.specs.declared.lines.Lines.{Lines as KeptLines}
+use Rattle.ls_session.specs.declared.session.Ask.{Ask}
 use Rattle.ls_session.specs.declared.session.Life.{Life as KeptLife}
 use Rattle.ls_session.specs.declared.session.Life.TheVariants as life
+use Rattle.ls_session.specs.declared.session.Reply.{Reply}
+use Rattle.ls_session.specs.declared.session.Reply.TheVariants as reply
 use Rattle.ls_session.specs.declared.session.Session.{Session as Kept}
 use Rattle.ls_session.specs.declared.session.Turn.{Turn}
 use Rattle.ls_session.specs.declared.session.Turn.TheVariants as turn
@@ -39,7 +50,7 @@ life_of (life.Ended code) = Ended code
 
 -- the line that the last turn gave
 abbrev pub current_of : Kept → List ℕ
-current_of k = k.current
+current_of k = k.lines.current
 
 -- the texts of END that are ready: for each cause while a session is alive, and then for the one that ended it
 abbrev pub KeepsEnd : List ℕ → List ℕ → List ℕ → Life → Type 0
@@ -48,56 +59,131 @@ KeepsEnd for_destroyed for_timed_out end Alive =
 KeepsEnd for_destroyed for_timed_out end (Ending code) = end ≡ end_text code
 KeepsEnd for_destroyed for_timed_out end (Ended code) = Unit {0}
 
--- what is kept stands for a record: what is owed, the texts of the lines that aren't given yet, numbers that are in
--- their range, whether it has ended, and the round, its subscriptions, and how far it was asked; a slot is asked only
--- where a number is left
+-- the lines that are kept stand for a session: what is owed, the texts of the lines that aren't given yet, numbers that
+-- are in their range, and whether it has ended
+pub record StandsLines (k : KeptLines) (s : Session) : Type 0 where
+  pub owed : k.owed.items ≡ s.owed
+  pub unsent : k.unsent.items ≡ texts_behind s.sent s.board.lines
+  pub last : k.last ≡ length s.board.lines
+  pub most : length s.board.lines ≤ GREATEST_NUMBER
+  pub sent : s.sent ≤ length s.board.lines
+  pub epoch : k.epoch ≡ length s.streams
+  pub life : life_of k.life ≡ s.life
+  pub end : KeepsEnd k.destroyed k.timed_out k.end s.life
+
+-- a text is no longer than a line may be, and so is each that is kept
+abbrev pub IsShort : List ℕ → Type 0
+IsShort text = length text ≤ MOST_LINE
+
+pub record AreShort (k : KeptLines) : Type 0 where
+  pub owed : Each IsShort k.owed.items
+  pub unsent : Each IsShort k.unsent.items
+  pub current : IsShort k.current
+  pub destroyed : IsShort k.destroyed
+  pub timed_out : IsShort k.timed_out
+  pub end : IsShort k.end
+
+-- a question as it is kept
+abbrev pub asked_of : ℕ → Session → Question → Asked
+asked_of tick s q = record { slot = ref_of q.live; due = due_answer (due_at tick s q.live) tick }
+
+-- the round that is kept stands for that of a record, and how far it was asked; the question of a slot that is due
+-- stands only where a number is left
+pub record StandsRound (k : Asking) (r : Record) : Type 0 where
+  pub slots : slots_of k.turns ≡ map ref_of r.session.board.round
+  pub tick : k.tick ≡ r.tick
+  pub most : r.tick ≤ GREATEST_TICK
+  pub next : k.next ≡ node_of_place k.turns r.asked
+  pub asks : is_some k.question ≡ r.asks
+  pub question : k.question ≡ option_map (asked_of r.tick r.session) (question_of r)
+  pub wait : k.wait ≡ r.wait
+  pub left : (q : Question) → question_of r ≡ Some q → q.due ≡ true → length r.session.board.lines < GREATEST_NUMBER
+
+-- the bandwidth that is kept stands for that of a session, and for what its lines took since it was set
+pub record StandsRate (k : KeptCredit) (rate : Rate) (lines : List NumberedLine) (tick : ℕ) : Type 0 where
+  pub latest : k.latest ≤ tick
+  pub behind : rate.behind ≤ length lines
+  pub spends : StandsBandwidth k rate.limit (spends_behind rate.behind lines)
+
+-- what is kept stands for a record
 pub record StandsSession (k : Kept) (r : Record) : Type 0 where
-  pub owed : k.owed.items ≡ r.session.owed
-  pub unsent : k.unsent.items ≡ texts_behind r.session.sent r.session.board.lines
-  pub last : k.last ≡ length r.session.board.lines
-  pub most : length r.session.board.lines ≤ GREATEST_NUMBER
-  pub sent : r.session.sent ≤ length r.session.board.lines
-  pub epoch : k.epoch ≡ length r.session.streams
-  pub life : life_of k.life ≡ r.session.life
-  pub end : KeepsEnd k.destroyed k.timed_out k.end r.session.life
-  pub round : k.round.items ≡ map ref_of r.session.board.round
+  pub lines : StandsLines k.lines r.session
+  pub short : AreShort k.lines
+  pub round : StandsRound k.asking r
   pub subs : StandsSubs k.subs r.session.board.lines r.session.board.round
-  pub asked : k.asked ≡ r.asked
-  pub asks : k.asks ≡ r.asks
-  pub left : r.asks ≡ true → length r.session.board.lines < GREATEST_NUMBER
+  pub rate : StandsRate k.bandwidth r.session.rate r.session.board.lines r.tick
+
+-- what a turn answers where nothing is left to ask
+abbrev pub turn_of_wait : Option ℕ → Turn
+turn_of_wait None = turn.Idle
+turn_of_wait (Some tick) = turn.NotDue tick
 
 -- what a turn answers, by what it gives; the line is the session's current one
 abbrev pub AnswersTurn : Gives → Turn → Kept → Type 0
 AnswersTurn (Line text) t k = (t ≡ turn.Send) × (current_of k ≡ text)
-AnswersTurn (Asks v) t k = t ≡ turn.Ask (record { slot = ref_of v })
+AnswersTurn (Asks q) t k = t ≡ turn.Ask (record { slot = ref_of q.live; due = q.due })
 AnswersTurn Nothing t k = t ≡ turn.Idle
+AnswersTurn (Waits tick) t k = t ≡ turn.NotDue tick
 AnswersTurn NoNumber t k = t ≡ turn.Spent
 AnswersTurn (Over code) t k = t ≡ turn.Ended code
 
--- the question what this slot has to tell stands, and a number is left for its line
-pub record IsStanding (k : Kept) (slot : SlotRef) : Type 0 where
-  pub asks : k.asks ≡ true
-  pub named : slice_get k.round.items k.asked ≡ Some slot
-  pub left : k.last < GREATEST_NUMBER
+-- whether a reply suits a question: a slot that is due has a cut or nothing, and another waits or has nothing
+abbrev pub suits : Bool → Reply → Bool
+suits due reply.Nothing = true
+suits true (reply.Taken t) = true
+suits true reply.Waiting = false
+suits false (reply.Taken t) = false
+suits false reply.Waiting = true
+
+-- a question and a reply aren't of the question that stands
+abbrev pub ask_in : Question → Ask
+ask_in q = record { slot = ref_of q.live; due = q.due }
+
+abbrev pub IsOther : Record → Ask → Reply → Type 0
+IsOther r ask answer = (option_map ask_in (question_of r) ≡ Some ask → ⊥) ⊎ (suits ask.due answer ≡ false)
+
+-- a board whose subscription has this greatest frequency: CONF is numbered
+abbrev pub configured : ℕ → Option ℕ → Bool → Board → Board
+configured sub frequency filtered b =
+    record {
+      lines = Configures sub frequency filtered ∷ b.lines;
+      round = map (with_frequency sub frequency) b.round;
+    }
+
+-- the next slot of a round is asked next, and all else stays
+pub record PassesOver (a : Asking) (old new : Kept) : Type 0 where
+  pub asking : Passes a new.asking
+  pub rest : new ≡ record old { asking = new.asking }
+
+-- a text took of the bandwidth, with CR LF, at a tick
+abbrev pub SpendsText : List ℕ → ℕ → KeptCredit → KeptCredit → Type 0
+SpendsText text tick old new =
+    (limit : Option ℕ) (spends : List Spend) → StandsBandwidth old limit spends → old.latest ≤ tick
+    → tick ≤ GREATEST_TICK
+    → credit_tick limit spends tick ≡ tick → IsShort text
+    → (new.latest ≡ tick) × StandsBandwidth new limit (record { tick = tick; bytes = length text + 2 } ∷ spends)
+
+-- a session is ready for one line more: it has room and a number for it
+pub record IsReadyForLine (k : KeptLines) : Type 0 where
+  pub unsent : deque_len k.unsent + 1 ≤ deque_capacity k.unsent
+  pub number : k.last + 1 ≤ GREATEST_NUMBER
 
 -- a session is ready for a subscription: it isn't live, its items are ranked, and there is room for its slots and its
--- lines, and numbers for these
+-- lines, which are short, and numbers for these
 pub record IsReady (k : Kept) (p : AddPlan) : Type 0 where
   pub new : has_sub k.subs p.sub ≡ false
   pub items : IsReadyItems p.sub p.items.items
   pub few : length p.items.items ≤ MOST_GROUP_ITEMS
   pub subs : 1 ≤ room_of k.subs
-  pub round : vec_len k.round + length p.items.items ≤ vec_capacity k.round
-  pub unsent : deque_len k.unsent + 2 ≤ deque_capacity k.unsent
-  pub numbers : k.last + 2 ≤ GREATEST_NUMBER
-
--- a session is ready for one line more: it has room and a number for it
-pub record IsReadyForLine (k : Kept) : Type 0 where
-  pub unsent : deque_len k.unsent + 1 ≤ deque_capacity k.unsent
-  pub number : k.last + 1 ≤ GREATEST_NUMBER
+  pub spare : length p.items.items ≤ k.asking.turns.spare
+  pub room : length k.asking.turns.seats + length p.items.items ≤ k.asking.room
+  pub unsent : deque_len k.lines.unsent + 2 ≤ deque_capacity k.lines.unsent
+  pub numbers : k.lines.last + 2 ≤ GREATEST_NUMBER
+  pub begins : IsShort p.begins
+  pub configures : IsShort p.configures
 
 -- a line is numbered, and waits to be given; all else stays
-pub record NumbersLine (old : Kept) (text : List ℕ) (new : Kept) : Type 0 where
+pub record NumbersLine (old : KeptLines) (text : List ℕ) (new : KeptLines) : Type 0 where
   pub unsent : new.unsent.items ≡ old.unsent.items ++ text ∷ []
   pub length : deque_len new.unsent ≡ deque_len old.unsent + 1
   pub room : deque_capacity new.unsent ≡ deque_capacity old.unsent
@@ -110,11 +196,7 @@ refs_from sub place (p ∷ items) [] = []
 refs_from sub place (p ∷ items) (n ∷ numbers) =
     record { sub = sub; place = place; item = p.item; slot = n } ∷ refs_from sub (place + 1) items numbers
 
--- the slots of a subscription among others as they are named, and these others
+-- the slots of a subscription among others as they are named
 abbrev pub refs_of : ℕ → List SlotRef → List SlotRef
 refs_of sub [] = []
 refs_of sub (s ∷ slots) = if nat_eq sub s.sub then s ∷ refs_of sub slots else refs_of sub slots
-
-abbrev pub refs_without : ℕ → List SlotRef → List SlotRef
-refs_without sub [] = []
-refs_without sub (s ∷ slots) = if nat_eq sub s.sub then refs_without sub slots else s ∷ refs_without sub slots

@@ -1,23 +1,35 @@
 //! Texts of the lines that open a session's stream (TLCP 2.1, CONOK, SERVNAME and CONS).
-ghost use Rattle.std.specs.Prelude.{◌≡◌, ◌++◌, codes, IfOk};
+ghost use Rattle.std.specs.Prelude.{◌≡◌, ◌≤◌, ◌++◌, length, codes, IfOk, OnOk};
 ghost use Rattle.std.specs.Fmt.{decimal};
+ghost use Rattle.ls_form.specs.Decimals.{milli_text};
 ghost use Rattle.ls_line.specs.declared.line.Line.TheVariants as line;
 ghost use Rattle.ls_line.specs.Lines.{text_of_line};
-ghost use Rattle.ls_world.specs.World.{opening_lines};
+ghost use Rattle.ls_world.specs.Lawful.{Each};
+ghost use Rattle.ls_world.specs.Lines.{limit_text};
+ghost use Rattle.ls_world.specs.World.{opening_lines, bandwidth_text};
+ghost use Rattle.ls_session.specs.Session.{IsShort};
 
+use ls_form::print_milli;
 use ls_line::{Line, text};
 use ls_value::{Bytes, NoMemory, Text};
 use std::alloc::Global;
 
 /// The lines with which a session's stream begins, in order: CONOK with the session's name, `S` and its number, and the
-/// keep-alive in milliseconds, then SERVNAME and CONS.
-pub(crate) fn opening(alloc: Global, number: u64, keepalive: u32) -> Result<Vec<Bytes>, NoMemory>
-    ensures { IfOk result (λ lines. lines.items ≡ opening_lines number keepalive) }
+/// keep-alive in milliseconds, then SERVNAME, and CONS with its bandwidth.
+pub(crate) fn opening(
+    alloc: Global,
+    number: u64,
+    keepalive: u32,
+    bandwidth: Option<u64>,
+) -> Result<Vec<Bytes>, NoMemory>
+    ensures lines { IfOk result (λ lines. lines.items ≡ opening_lines number keepalive bandwidth) }
+    ensures short { OnOk result (Each IsShort (opening_lines number keepalive bandwidth)) }
 {
     let mut lines = Vec::new(alloc);
     lines.push(session_text(alloc, number, keepalive)?)?;
     lines.push(text(alloc, &Line::ServName)?)?;
-    lines.push(unlimited_text(alloc)?)?;
+    let cons = bandwidth_text(alloc, bandwidth)?;
+    lines.push(cons)?;
     Ok(lines)
 }
 
@@ -35,10 +47,31 @@ fn session_text(alloc: Global, number: u64, keepalive: u32) -> Result<Bytes, NoM
     )
 }
 
-/// The line `CONS,unlimited`.
-fn unlimited_text(alloc: Global) -> Result<Bytes, NoMemory>
-    ensures { IfOk result (λ t. t ≡ text_of_line (line.Cons (codes "unlimited"))) }
+/// The line `CONS` of a bandwidth, in thousandths of a kbit per second.
+pub(crate) fn bandwidth_text(alloc: Global, limit: Option<u64>) -> Result<Bytes, NoMemory>
+    ensures text { IfOk result (λ t. t ≡ bandwidth_text limit) }
+    ensures short { IfOk result (λ t. IsShort t) }
 {
-    let bandwidth = Text::from_str(alloc, "unlimited")?;
+    let bandwidth = limit_word(alloc, limit)?;
     text(alloc, &Line::Cons { bandwidth })
+}
+
+/// A bandwidth as a line tells it: `unlimited` where there is none.
+fn limit_word(alloc: Global, limit: Option<u64>) -> Result<Text, NoMemory>
+    ensures text { IfOk result (λ t. t ≡ limit_text limit) }
+    ensures short { IfOk result (λ t. length t ≤ 24) }
+{
+    match limit {
+        None => Text::from_str(alloc, "unlimited"),
+        Some(limit) => milli_word(alloc, limit),
+    }
+}
+
+/// So many thousandths as a decimal.
+fn milli_word(alloc: Global, n: u64) -> Result<Text, NoMemory>
+    ensures text { IfOk result (λ t. t ≡ milli_text n) }
+    ensures short { IfOk result (λ t. length t ≤ 24) }
+{
+    let text = print_milli(alloc, n)?;
+    Text::of_utf8(alloc, text.as_slice())
 }

@@ -7,7 +7,7 @@ ghost use Rattle.ls_world.specs.Cases.{first_code};
 ghost use Rattle.ls_world.specs.World.{is_used};
 ghost use Rattle.ls_world.specs.Acting.{subscriptions, are_too_many, are_spent};
 ghost use Rattle.ls_subs.specs.Kept.{has_sub};
-ghost use Rattle.ls_session.specs.Record.{Record, deleting_code, numbering_code};
+ghost use Rattle.ls_session.specs.Record.{Record, changing_code, constraining_code, numbering_code};
 ghost use Rattle.ls_session.specs.Session.{StandsSession};
 
 use crate::session::Session;
@@ -31,16 +31,16 @@ impl Session {
             → result ≡ first_code (
             (71, nat_le MOST_SUBSCRIPTIONS (subscriptions r.session.board.round) || nat_lt free slots)
             ∷ (74, are_spent r.session 2) ∷ []) }
-        ensures left { result ≡ None → self.now.last + 2 ≤ GREATEST_NUMBER }
+        ensures left { result ≡ None → self.now.lines.last + 2 ≤ GREATEST_NUMBER }
     {
         first_code(&[(71, self.is_full(slots, free)), (74, self.has_spent(2))])
     }
 
-    /// Why a subscription can't end: the session has ended, there is no such subscription, or there is no room or no
-    /// number for its line.
-    pub(crate) fn code_of_delete(&self, sub: u32) -> Option<u16>
-        ensures code { (r : Record) → StandsSession self.now r → result ≡ deleting_code r.session sub }
-        ensures left { result ≡ None → self.now.last + 1 ≤ GREATEST_NUMBER }
+    /// Why a subscription can't end, or have another frequency: the session has ended, there is no such subscription,
+    /// or there is no room or no number for its line.
+    pub(crate) fn code_of_change(&self, sub: u32) -> Option<u16>
+        ensures code { (r : Record) → StandsSession self.now r → result ≡ changing_code r.session sub }
+        ensures left { result ≡ None → self.now.lines.last + 1 ≤ GREATEST_NUMBER }
     {
         if self.is_alive() {
             first_code(&[
@@ -53,10 +53,21 @@ impl Session {
         }
     }
 
+    /// Why a session can't have another bandwidth: it has ended, or too many lines are owed to its stream.
+    pub(crate) fn code_of_constrain(&self) -> Option<u16>
+        ensures { (r : Record) → StandsSession self.now r → result ≡ constraining_code r.session }
+    {
+        if self.is_alive() {
+            first_code(&[(70, self.lines.owed.len() >= MOST_UNSENT)])
+        } else {
+            Some(20)
+        }
+    }
+
     /// Why one line more can't be numbered: the session has ended, or there is no room or no number for it.
     pub(crate) fn code_of_line(&self) -> Option<u16>
         ensures code { (r : Record) → StandsSession self.now r → result ≡ numbering_code r.session }
-        ensures left { result ≡ None → self.now.last + 1 ≤ GREATEST_NUMBER }
+        ensures left { result ≡ None → self.now.lines.last + 1 ≤ GREATEST_NUMBER }
     {
         if self.is_alive() {
             first_code(&[(70, self.has_waiting(1)), (74, self.has_spent(1))])
@@ -81,16 +92,16 @@ impl Session {
         requires { more ≤ 2 }
         ensures { (r : Record) → StandsSession self.now r → result ≡ are_too_many r.session more }
     {
-        self.unsent.len() + more > MOST_UNSENT
+        self.lines.unsent.len() + more > MOST_UNSENT
     }
 
     /// Whether there are no numbers for so many lines.
     fn has_spent(&self, more: u64) -> bool
         requires { more ≤ 2 }
-        ensures own { result ≡ nat_lt GREATEST_NUMBER (self.now.last + more) }
+        ensures own { result ≡ nat_lt GREATEST_NUMBER (self.now.lines.last + more) }
         ensures spent { (r : Record) → StandsSession self.now r → result ≡ are_spent r.session more }
     {
-        self.last.saturating_add(more) > GREATEST_NUMBER
+        self.lines.last.saturating_add(more) > GREATEST_NUMBER
     }
 }
 

@@ -1,32 +1,34 @@
-//! What requests do to a session: a subscription is added or ended (TLCP 2.1, control).
-ghost use Rattle.std.specs.Prelude.{◌≡◌, ◌≤◌, ◌+◌, ◌++◌, ℕ, List, length, map, None, Some, IfOk, OnOk, OnErr, IsErrOf};
-ghost use Rattle.ls_event.specs.declared.item.ItemDef.{ItemDef};
-ghost use Rattle.ls_request.specs.declared.request.Add.{Add as Adding};
-ghost use Rattle.ls_request.specs.Ranges.{AddFits};
-ghost use Rattle.ls_world.specs.Lawful.{Each};
-ghost use Rattle.ls_world.specs.World.{Live, on_board, removed};
-ghost use Rattle.ls_subs.specs.Plans.{IsPlan, JoinAll, MayJoin};
-ghost use Rattle.ls_subs.specs.Standing.{ref_of};
-ghost use Rattle.ls_session.specs.Record.{Record, begun_anew, with_plan, adding_code, deleting_code, numbering_code};
-ghost use Rattle.ls_session.specs.Record.{slots_of};
-ghost use Rattle.ls_line.specs.Lines.{text_of_line};
-ghost use Rattle.ls_session.specs.Session.{StandsSession, IsReady, IsReadyForLine, NumbersLine, refs_from, refs_of};
-ghost use Rattle.ls_session.specs.Session.{refs_without};
-ghost use Rattle.ls_world.specs.Cases.{first_code};
-ghost use Rattle.ls_world.specs.Acting.{add_refusals};
+//! What requests do to a session: a subscription is added, gets another frequency, or ends, and the session gets
+//! another bandwidth (TLCP 2.1, control).
+ghost use Rattle.std.specs.Prelude.{◌≡◌, ◌≤◌, ◌<◌, ◌+◌, ℕ, List, length, map, None, Some, IfOk, OnOk, OnErr, IsErrOf};
+ghost use Rattle.std.specs.Option.{ForSome};
 ghost use Rattle.std.specs.VecDeque.{deque_len, deque_capacity};
 ghost use Rattle.ls_value.specs.declared.limits.TheConstants.{GREATEST_NUMBER};
+ghost use Rattle.ls_budget.specs.declared.limits.TheConstants.{GREATEST_TICK};
+ghost use Rattle.ls_event.specs.declared.item.ItemDef.{ItemDef};
+ghost use Rattle.ls_line.specs.Lines.{text_of_line};
+ghost use Rattle.ls_request.specs.declared.request.Add.{Add as Adding};
+ghost use Rattle.ls_request.specs.Ranges.{AddFits};
+ghost use Rattle.ls_world.specs.Cases.{first_code};
+ghost use Rattle.ls_world.specs.Lawful.{Each};
+ghost use Rattle.ls_world.specs.World.{Live, on_board, removed, reconfigured, constrained, frequency_in, is_filtered};
+ghost use Rattle.ls_world.specs.Acting.{add_refusals};
+ghost use Rattle.ls_subs.specs.Plans.{IsPlan, JoinAll, MayJoin};
+ghost use Rattle.ls_subs.specs.Standing.{ref_of};
 ghost use Rattle.ls_subs.specs.declared.plan.Refusal.TheVariants as Refusal;
-ghost use Rattle.ls_world.specs.declared.TheConstants.{MOST_GROUP_ITEMS};
-ghost use Rattle.std.specs.Vec.{vec_len, vec_capacity};
+ghost use Rattle.ls_session.specs.Record.{Record, begun_anew, with_plan, adding_code, changing_code, constraining_code};
+ghost use Rattle.ls_session.specs.Record.{numbering_code, slots_of};
+ghost use Rattle.ls_session.specs.Session.{StandsSession, IsReady, IsReadyForLine, NumbersLine, configured};
 
+use crate::opening::bandwidth_text;
 use crate::session::Session;
+use crate::telling::{conf_text, unsub_text};
 use ls_config::Config;
+use ls_event::Mode;
 use ls_line::{Line, text};
 use ls_request::Add;
-use ls_subs::{AddPlan, PlanItem, Refusal, SlotRef};
+use ls_subs::{AddPlan, Refusal, SlotRef, frequency_in, is_filtered};
 use ls_value::{Bytes, NoMemory};
-use std::alloc::Global;
 
 impl Session {
     /// What a new subscription asks for, where so many slots are free on the server. It takes all the memory that
@@ -71,21 +73,9 @@ impl Session {
         if let Some(code) = self.code_of_room(add.group.len(), free) {
             return Err(Refusal::Code(code));
         }
-        self.reserve(plan.items.len())?;
+        self.asking.reserve(plan.items.len())?;
+        self.lines.reserve(2)?;
         Ok(plan)
-    }
-
-    /// Room for so many slots in the round, and for two lines.
-    fn reserve(&mut self, slots: usize) -> Result<(), NoMemory>
-        ensures ok { OnOk result ((vec_len self.new.round + slots ≤ vec_capacity self.new.round)
-            × (deque_len self.new.unsent + 2 ≤ deque_capacity self.new.unsent)) }
-        ensures round { self.new.round.items ≡ self.old.round.items }
-        ensures unsent { self.new.unsent.items ≡ self.old.unsent.items }
-        ensures rest { self.new ≡ record self.old { round = self.new.round; unsent = self.new.unsent } }
-    {
-        self.round.reserve(slots)?;
-        self.unsent.reserve(2)?;
-        Ok(())
     }
 
     /// A subscription begins, whose items were joined by these slots: its two lines are numbered, and its slots join
@@ -95,7 +85,7 @@ impl Session {
         requires slots { length slots.now ≡ length plan.items.items }
         ensures { (r : Record) (defs : List ItemDef) (a : Adding) (vs : List Live) → StandsSession self.old r
             → IsPlan defs a plan → JoinAll plan.items.items slots.now vs
-            → StandsSession self.new (begun_anew (on_board (with_plan defs a vs) r.session)) }
+            → StandsSession self.new (begun_anew r.tick (on_board (with_plan defs a vs) r.session)) }
     {
         let AddPlan {
             sub,
@@ -103,20 +93,10 @@ impl Session {
             begins,
             configures,
         } = plan;
-        append_slots(&mut self.round, sub, &items, slots);
+        self.asking.join(sub, &items, slots);
         self.subs.finish(sub, items, slots);
-        self.number(begins);
-        self.number(configures);
-        self.begin_round();
-    }
-
-    /// A line is numbered, and waits to be given.
-    pub(crate) fn number(&mut self, text: Bytes)
-        requires { IsReadyForLine self.old }
-        ensures { NumbersLine self.old text self.new }
-    {
-        self.unsent.push_back_reserved(text);
-        self.last += 1;
+        self.lines.number(begins);
+        self.lines.number(configures);
     }
 
     /// The text of a line that tells of a client's message, MSGDONE or MSGFAIL. It takes all the memory that
@@ -124,7 +104,7 @@ impl Session {
     /// lines wait, 74 where no number is left. A refusal changes nothing.
     pub fn prepare_line(&mut self, line: &Line) -> Result<Bytes, Refusal>
         ensures text { IfOk result (λ t. t ≡ text_of_line line.now) }
-        ensures ready { OnOk result (IsReadyForLine self.new) }
+        ensures ready { OnOk result (IsReadyForLine self.new.lines) }
         ensures accepted { OnOk result ((r : Record) → StandsSession self.old r → numbering_code r.session ≡ None) }
         ensures refused { (code : ℕ) → IsErrOf result (Refusal.Code code) → (r : Record) → StandsSession self.old r
             → numbering_code r.session ≡ Some code }
@@ -134,18 +114,19 @@ impl Session {
             return Err(Refusal::Code(code));
         }
         let text = text(self.alloc, line)?;
-        self.reserve(0)?;
+        self.lines.reserve(1)?;
         Ok(text)
     }
 
     /// The line of this text is numbered, and waits to be given. Its number is answered. No memory is taken.
     pub fn finish_line(&mut self, text: Bytes) -> u64
-        requires { IsReadyForLine self.old }
-        ensures number { result ≡ self.old.last + 1 }
-        ensures line { NumbersLine self.old text self.new }
+        requires { IsReadyForLine self.old.lines }
+        ensures number { result ≡ self.old.lines.last + 1 }
+        ensures line { NumbersLine self.old.lines text self.new.lines }
+        ensures rest { self.new ≡ record self.old { lines = self.new.lines } }
     {
-        self.number(text);
-        self.last
+        self.lines.number(text);
+        self.lines.last
     }
 
     /// A subscription ends: UNSUB is numbered, and its slots leave the round and are handed back. It is refused, in
@@ -153,14 +134,14 @@ impl Session {
     /// 74 where no number is left. A refusal changes nothing.
     pub fn delete(&mut self, sub: u32) -> Result<Vec<SlotRef>, Refusal>
         ensures accepted { IfOk result (λ slots. (r : Record) → StandsSession self.old r
-            → (deleting_code r.session sub ≡ None)
+            → (changing_code r.session sub ≡ None)
             × (slots.items ≡ map ref_of (slots_of sub r.session.board.round))
-            × StandsSession self.new (begun_anew (on_board (removed sub) r.session))) }
+            × StandsSession self.new (begun_anew r.tick (on_board (removed sub) r.session))) }
         ensures refused { (code : ℕ) → IsErrOf result (Refusal.Code code) → (r : Record) → StandsSession self.old r
-            → deleting_code r.session sub ≡ Some code }
+            → changing_code r.session sub ≡ Some code }
         ensures err { OnErr result ((r : Record) → StandsSession self.old r → StandsSession self.new r) }
     {
-        if let Some(code) = self.code_of_delete(sub) {
+        if let Some(code) = self.code_of_change(sub) {
             return Err(Refusal::Code(code));
         }
         let slots = self.end_sub(sub)?;
@@ -169,57 +150,83 @@ impl Session {
 
     /// A subscription ends: UNSUB is numbered, and its slots leave the round and are handed back.
     fn end_sub(&mut self, sub: u32) -> Result<Vec<SlotRef>, NoMemory>
-        requires { self.old.last + 1 ≤ GREATEST_NUMBER }
+        requires { self.old.lines.last + 1 ≤ GREATEST_NUMBER }
         ensures ok { IfOk result (λ slots. (r : Record) → StandsSession self.old r
             → (slots.items ≡ map ref_of (slots_of sub r.session.board.round))
-            × StandsSession self.new (begun_anew (on_board (removed sub) r.session))) }
+            × StandsSession self.new (begun_anew r.tick (on_board (removed sub) r.session))) }
         ensures err { OnErr result ((r : Record) → StandsSession self.old r → StandsSession self.new r) }
     {
-        let line = text(self.alloc, &Line::Unsub { sub })?;
-        let (of_it, others) = divided(self.alloc, &self.round, sub)?;
-        self.unsent.reserve(1)?;
-        self.round = others;
+        let line = unsub_text(self.alloc, sub)?;
+        let slots = self.asking.slots_of(self.alloc, sub)?;
+        self.lines.reserve(1)?;
+        self.asking.leave(sub);
         self.subs.remove(sub);
-        self.number(line);
-        self.begin_round();
-        Ok(of_it)
+        self.lines.number(line);
+        Ok(slots)
     }
-}
 
-/// The slots of a subscription's items join the round's end.
-fn append_slots(round: &mut Vec<SlotRef>, sub: u32, items: &[PlanItem], slots: &[u32])
-    requires room { vec_len round.old + length items.now ≤ vec_capacity round.old }
-    requires slots { length slots.now ≡ length items.now }
-    requires few { length items.now ≤ MOST_GROUP_ITEMS }
-    ensures { round.new.items ≡ round.old.items ++ refs_from sub 1 items.now slots.now }
-{
-    for i in 0..items.len() {
-        round.push_reserved(SlotRef {
-            sub,
-            place: i as u32 + 1,
-            item: items[i].item,
-            slot: slots[i],
-        });
-    }
-}
-
-/// The slots of a subscription in a round, and the others.
-fn divided(
-    alloc: Global,
-    round: &[SlotRef],
-    sub: u32,
-) -> Result<(Vec<SlotRef>, Vec<SlotRef>), NoMemory>
-    ensures { IfOk result (λ parts.
-        (parts.0.items ≡ refs_of sub round.now) × (parts.1.items ≡ refs_without sub round.now)) }
-{
-    let mut of_it = Vec::new(alloc);
-    let mut others = Vec::new(alloc);
-    for slot in round {
-        if sub == slot.sub {
-            of_it.push(*slot)?;
-        } else {
-            others.push(*slot)?;
+    /// A subscription has another greatest frequency, in thousandths of an update per second, `None` for none: CONF is
+    /// numbered. In mode RAW there is none, whatever is asked. The ticks of the last updates stay. It is refused as
+    /// [`Session::delete`] is. A refusal changes nothing.
+    pub fn reconf(&mut self, sub: u32, frequency: Option<u64>) -> Result<(), Refusal>
+        requires { ForSome frequency (λ f. 0 < f) }
+        ensures accepted { OnOk result ((r : Record) → StandsSession self.old r
+            → (changing_code r.session sub ≡ None)
+            × StandsSession self.new (begun_anew r.tick (on_board (reconfigured sub frequency) r.session))) }
+        ensures refused { (code : ℕ) → IsErrOf result (Refusal.Code code) → (r : Record) → StandsSession self.old r
+            → changing_code r.session sub ≡ Some code }
+        ensures err { OnErr result ((r : Record) → StandsSession self.old r → StandsSession self.new r) }
+    {
+        if let Some(code) = self.code_of_change(sub) {
+            return Err(Refusal::Code(code));
         }
+        let mode = self.subs.mode(sub).unwrap_or(Mode::Merge);
+        self.configure(sub, frequency_in(mode, frequency), is_filtered(mode))?;
+        Ok(())
     }
-    Ok((of_it, others))
+
+    /// A subscription has another greatest frequency: CONF is numbered.
+    fn configure(
+        &mut self,
+        sub: u32,
+        frequency: Option<u64>,
+        filtered: bool,
+    ) -> Result<(), NoMemory>
+        requires left { self.old.lines.last + 1 ≤ GREATEST_NUMBER }
+        requires some { ForSome frequency (λ f. 0 < f) }
+        ensures ok { OnOk result ((r : Record) → StandsSession self.old r
+            → StandsSession self.new (begun_anew r.tick (on_board (configured sub frequency filtered) r.session))) }
+        ensures err { OnErr result ((r : Record) → StandsSession self.old r → StandsSession self.new r) }
+    {
+        let line = conf_text(self.alloc, sub, frequency, filtered)?;
+        self.lines.reserve(1)?;
+        self.subs.set_frequency(sub, frequency);
+        self.lines.number(line);
+        let tick = self.asking.tick();
+        self.asking.begin(tick);
+        Ok(())
+    }
+
+    /// The session has another bandwidth, in thousandths of a kbit per second, `None` for none, from a tick on, in ms,
+    /// which isn't before that of the last turn: CONS is owed to its stream, and the credit begins anew. It is refused,
+    /// in this order: 20 where the session has ended, 70 where too many lines are owed. A refusal changes nothing.
+    pub fn constrain(&mut self, bandwidth: Option<u64>, now: u64) -> Result<(), Refusal>
+        requires { ForSome bandwidth (λ limit. 0 < limit) }
+        ensures accepted { OnOk result ((r : Record) → StandsSession self.old r
+            → (constraining_code r.session ≡ None)
+            × (r.tick ≤ now → now ≤ GREATEST_TICK
+            → StandsSession self.new (begun_anew now (constrained bandwidth r.session)))) }
+        ensures refused { (code : ℕ) → IsErrOf result (Refusal.Code code) → (r : Record) → StandsSession self.old r
+            → constraining_code r.session ≡ Some code }
+        ensures err { OnErr result ((r : Record) → StandsSession self.old r → StandsSession self.new r) }
+    {
+        if let Some(code) = self.code_of_constrain() {
+            return Err(Refusal::Code(code));
+        }
+        let line = bandwidth_text(self.alloc, bandwidth)?;
+        self.lines.owe(line)?;
+        self.bandwidth.set(bandwidth, now);
+        self.asking.begin(now);
+        Ok(())
+    }
 }

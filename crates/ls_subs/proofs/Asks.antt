@@ -22,7 +22,8 @@ use Rattle.ls_world.specs.Cutting.{Ask}
 use Rattle.ls_world.specs.Lines.{Begins, Configures, line_text}
 use Rattle.ls_world.specs.Lawful.{Each}
 use Rattle.ls_world.specs.Tables.{place_of_field, keys_shown_at}
-use Rattle.ls_world.specs.World.{shape_in, fields_in, keys_in, is_filtered, are_filtered}
+use Rattle.std.specs.Option.{ForSome}
+use Rattle.ls_world.specs.World.{shape_in, fields_in, keys_in, is_filtered, are_filtered, frequency_in, frequency_of}
 use Rattle.ls_subs.specs.declared.plan.PlanItem.{PlanItem}
 use Rattle.ls_subs.specs.Subscribed.{Subscribed}
 use Rattle.ls_subs.specs.Plans.{followed_of, IsPlanItem, ArePlanItems, first_keys, keys_of_asks}
@@ -161,6 +162,18 @@ pub filtered_are : (defs : List ItemDef) (a : Add) (group : List ℕ) → 1 ≤ 
 filtered_are defs a [] some = absurd (omega (arith, some))
 filtered_are defs a (n ∷ group) some = refl
 
+frequency_are : (defs : List ItemDef) (a : Add) (group : List ℕ) → 1 ≤ length group
+    → frequency_in a.mode a.frequency ≡ frequency_of (map (ask_at defs a) group)
+frequency_are defs a [] some = absurd (omega (arith, some))
+frequency_are defs a (n ∷ group) some = refl
+
+-- a frequency that is asked for is above 0
+pub frequency_some : (m : Mode) (f : Option ℕ) → ForSome f (λ n. 0 < n) → ForSome (frequency_in m f) (λ n. 0 < n)
+frequency_some mode.Merge f some = some
+frequency_some mode.Raw f some = λ n e. absurd (let x : None ≡ Some n = e in cc)
+frequency_some mode.Distinct f some = some
+frequency_some mode.Command f some = some
+
 -- a schema is short enough
 pub schema_few : (defs : List ItemDef) (m : Mode) (group : List ℕ) (schema : List (List ℕ)) → is_schema defs m group schema ≡ true → length schema ≤ 64
 schema_few defs m group schema h =
@@ -168,6 +181,14 @@ schema_few defs m group schema h =
     let names = and_true (are_names 64 schema) (shows_keys m schema) both.0 in
     let sizes = and_true (nat_le 1 (length schema) && nat_le (length schema) 64) (are_distinct schema) names.0 in
     leb-true (length schema) 64 (and_true (nat_le 1 (length schema)) (nat_le (length schema) 64) sizes.0).1
+
+-- its names are distinct, and each item has them
+pub schema_distinct : (defs : List ItemDef) (m : Mode) (group : List ℕ) (schema : List (List ℕ)) → is_schema defs m group schema ≡ true
+    → (are_distinct schema ≡ true) × (list_all (λ n. are_among (fields_in defs n) schema) group ≡ true)
+schema_distinct defs m group schema h =
+    let both = and_true (are_names 64 schema && shows_keys m schema) (list_all (λ n. are_among (fields_in defs n) schema) group) h in
+    let names = and_true (are_names 64 schema) (shows_keys m schema) both.0 in
+    ((and_true (nat_le 1 (length schema) && nat_le (length schema) 64) (are_distinct schema) names.0).1, both.1)
 
 -- the lines with which a subscription begins
 pub begins_are : (defs : List ItemDef) (a : Add) (group : List ℕ) (items : List PlanItem) (n m : ℕ) (keys : Option KeyPlaces) → group ≡ group_of defs a.group
@@ -181,10 +202,13 @@ begins_are defs a group items n m keys is items_are fields keys_are are =
     ∙ ap (λ x. line_text [] (Begins a.sub (length (asks_of defs a)) x keys)) fields
     ∙ ap (λ x. line_text [] (Begins a.sub (length (asks_of defs a)) (length a.schema) x)) shown
 
-pub configures_are : (defs : List ItemDef) (a : Add) (group : List ℕ) (filtered : Bool) → group ≡ group_of defs a.group → 1 ≤ length group
-    → filtered ≡ is_filtered a.mode → line_text [] (Configures a.sub filtered) ≡ line_text [] (Configures a.sub (are_filtered (asks_of defs a)))
-configures_are defs a group filtered is some filters =
-    ap (λ x. line_text [] (Configures a.sub x))
+pub configures_are : (defs : List ItemDef) (a : Add) (group : List ℕ) (frequency : Option ℕ) (filtered : Bool) → group ≡ group_of defs a.group
+    → 1 ≤ length group → frequency ≡ frequency_in a.mode a.frequency → filtered ≡ is_filtered a.mode
+    → line_text [] (Configures a.sub frequency filtered) ≡ line_text [] (Configures a.sub (frequency_of (asks_of defs a)) (are_filtered (asks_of defs a)))
+configures_are defs a group frequency filtered is some limits filters =
+    ap (λ x. line_text [] (Configures a.sub x filtered))
+    (limits ∙ frequency_are defs a group some ∙ ap (λ ns. frequency_of (map (ask_at defs a) ns)) is)
+    ∙ ap (λ x. line_text [] (Configures a.sub (frequency_of (asks_of defs a)) x))
     (filters ∙ filtered_are defs a group some ∙ ap (λ ns. are_filtered (map (ask_at defs a) ns)) is)
 
 pub group_some : (defs : List ItemDef) (group : List (List ℕ)) → is_group defs group ≡ true → 1 ≤ length (group_of defs group)

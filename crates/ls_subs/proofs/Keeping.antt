@@ -5,7 +5,8 @@ use Rattle.std.specs.Prelude.{option_and_then}
 use Rattle.std.proofs.lemmas.Bool.{eqb-true, eq-eqb, ne_eqb}
 use Rattle.ls_mirror.specs.declared.command.KeyPlaces.{KeyPlaces}
 use Rattle.ls_world.specs.Came.{Came}
-use Rattle.ls_world.specs.Lines.{Line, Begins, Ends, Configures, came}
+use Rattle.ls_budget.specs.Kept.{StandsFrequency}
+use Rattle.ls_world.specs.Lines.{Line, Begins, Ends, Configures, came, updated}
 use Rattle.ls_world.specs.World.{Live, is_at, is_used, live_at, without}
 use Rattle.ls_world.specs.Acting.{subscriptions}
 use Rattle.ls_subs.specs.declared.plan.PlanItem.{PlanItem}
@@ -67,9 +68,13 @@ changed_other k k' sub q o changed other = changed q ∙ ap (λ b. cond b o (ite
 pub changed_here : (k k' : Subs) (sub q : ℕ) (o : Option (List PlanItem)) → Changed k k' sub o → (sub == q) ≡ true → items_of k' q ≡ o
 changed_here k k' sub q o changed same = changed q ∙ ap (λ b. cond b o (items_of k q)) same
 
--- an item stands for its slot by other lines that bring the slot as much
+-- other lines bring a slot as much, and its last update is at the same tick
+abbrev pub BringAlike : List Line → List Line → Live → Type 0
+BringAlike lines lines' v = (came v.sub v.rank lines' ≡ came v.sub v.rank lines) × (updated v.sub v.rank lines' ≡ updated v.sub v.rank lines)
+
+-- an item stands for its slot by them
 pub stands_lines : (o : Option PlanItem) (lines lines' : List Line) (w : Option Live)
-    → ((v : Live) → w ≡ Some v → came v.sub v.rank lines' ≡ came v.sub v.rank lines) → StandsKeptAt o lines w → StandsKeptAt o lines' w
+    → ((v : Live) → w ≡ Some v → BringAlike lines lines' v) → StandsKeptAt o lines w → StandsKeptAt o lines' w
 stands_lines None lines lines' None same s = tt
 stands_lines None lines lines' (Some v) same s = s
 stands_lines (Some p) lines lines' None same s = s
@@ -79,7 +84,11 @@ stands_lines (Some p) lines lines' (Some v) same s =
       rank = s.rank;
       item = s.item;
       number = s.number;
-      client = subst (λ (cs : List Came). StandsSubscribed p.followed v.wanted v.slot cs) (sym (same v refl)) s.client;
+      mode = s.mode;
+      allowed = s.allowed;
+      frequency = subst (λ (o : Option ℕ). StandsFrequency p.frequency v.frequency o) (sym (same v refl).1) s.frequency;
+      narrow = s.narrow;
+      client = subst (λ (cs : List Came). StandsSubscribed p.followed v.wanted v.slot cs) (sym (same v refl).0) s.client;
     }
 
 -- whether there is a slot
@@ -121,6 +130,13 @@ first_slot k lines round sub s used =
     let first : is_some (kept_at k sub 1) ≡ true = first_item k sub some.0 (items_of k sub) kept in
     some_value (live_at sub 1 round) (sym (stands_some (kept_at k sub 1) lines (live_at sub 1 round) (s.at sub 1)) ∙ first)
 
+-- lines with which another subscription begins or ends
+others_alike : (sub : ℕ) (lines : List Line) (v : Live) → (sub == v.sub) ≡ false
+    → (cond (sub == v.sub) [] (came v.sub v.rank lines) ≡ came v.sub v.rank lines)
+    × (cond (sub == v.sub) None (updated v.sub v.rank lines) ≡ updated v.sub v.rank lines)
+others_alike sub lines v other =
+    (ap (λ b. cond b [] (came v.sub v.rank lines)) other, ap (λ b. cond b None (updated v.sub v.rank lines)) other)
+
 -- a subscription is removed
 removed_at : (k k' : Subs) (sub : ℕ) (lines : List Line) (round : List Live) → Changed k k' sub None → StandsSubs k lines round → (q rank : ℕ)
     → StandsKeptAt (kept_at k' q rank) (Ends sub ∷ lines) (live_at q rank (without sub round))
@@ -136,7 +152,7 @@ removed_at k k' sub lines round changed s q rank = by_test (sub == q) refl
         (sym (ap (option_and_then (λ items. item_at items rank)) (changed_other k k' sub q None changed other)))
         (subst (λ (w : Option Live). StandsKeptAt (kept_at k q rank) (Ends sub ∷ lines) w) (sym (without_other sub q rank round other))
         (stands_lines (kept_at k q rank) lines (Ends sub ∷ lines) (live_at q rank round)
-        (λ v e. ap (λ b. cond b [] (came v.sub v.rank lines)) (subst (λ n. (sub == n) ≡ false) (found_is q rank round v e).0 other)) (s.at q rank)))
+        (λ v e. others_alike sub lines v (subst (λ n. (sub == n) ≡ false) (found_is q rank round v e).0 other)) (s.at q rank)))
 
 removed_count : (k k' : Subs) (sub : ℕ) (lines : List Line) (round : List Live) → count_of k' + (if has_sub k sub then 1 else 0) ≡ count_of k
     → StandsSubs k lines round → (b : Bool) → is_used sub round ≡ b → count_of k' ≡ subscriptions (without sub round)
@@ -175,9 +191,13 @@ joined_slots sub rank (p ∷ items) (n ∷ slots) [] ranked join = absurd join
 joined_slots sub rank (p ∷ items) (n ∷ slots) (v ∷ vs) ranked join =
     (join.0.sub ∙ ranked.0, join.0.rank ∙ ranked.1, joined_slots sub (rank + 1) items slots vs ranked.2 join.1)
 
--- each item stands for its slot by lines that bring it nothing yet
+-- lines bring the slots of a subscription nothing yet
+abbrev pub BringNothing : ℕ → List Line → Type 0
+BringNothing sub lines = (r : ℕ) → (came sub r lines ≡ []) × (updated sub r lines ≡ None)
+
+-- each item stands for its slot by them
 joined_at : (sub rank : ℕ) (items : List PlanItem) (slots : List ℕ) (vs : List Live) (lines : List Line) → AreRanked sub rank items → JoinAll items slots vs
-    → ((r : ℕ) → came sub r lines ≡ []) → (i : ℕ) → StandsKeptAt (slice_get (with_slots items slots) i) lines (live_at sub (rank + i) vs)
+    → BringNothing sub lines → (i : ℕ) → StandsKeptAt (slice_get (with_slots items slots) i) lines (live_at sub (rank + i) vs)
 joined_at sub rank [] [] [] lines ranked join nothing i = tt
 joined_at sub rank [] [] (v ∷ vs) lines ranked join nothing i = absurd join
 joined_at sub rank [] (n ∷ slots) vs lines ranked join nothing i = absurd join
@@ -192,8 +212,13 @@ joined_at sub rank (p ∷ items) (n ∷ slots) (v ∷ vs) lines ranked join noth
       rank = sym join.0.rank;
       item = sym join.0.item;
       number = sym join.0.number;
+      mode = join.0.mode;
+      allowed = join.0.allowed;
+      frequency = subst (λ (o : Option ℕ). StandsFrequency p.frequency v.frequency o)
+          (sym (subst (λ m. updated m v.rank lines ≡ None) (sym (join.0.sub ∙ ranked.0)) (nothing v.rank).1)) join.0.frequency;
+      narrow = join.0.narrow;
       client = subst (λ (cs : List Came). StandsSubscribed p.followed v.wanted v.slot cs)
-          (sym (subst (λ m. came m v.rank lines ≡ []) (sym (join.0.sub ∙ ranked.0)) (nothing v.rank))) join.0.client;
+          (sym (subst (λ m. came m v.rank lines ≡ []) (sym (join.0.sub ∙ ranked.0)) (nothing v.rank).0)) join.0.client;
     })
 joined_at sub rank (p ∷ items) (n ∷ slots) (v ∷ vs) lines ranked join nothing (suc i) =
     let is : v.rank ≡ rank = join.0.rank ∙ ranked.1 in
@@ -206,7 +231,7 @@ joined_at sub rank (p ∷ items) (n ∷ slots) (v ∷ vs) lines ranked join noth
 
 -- the first is of rank 1
 joined_place : (sub : ℕ) (items : List PlanItem) (slots : List ℕ) (vs : List Live) (lines : List Line) → AreRanked sub 1 items → JoinAll items slots vs
-    → ((r : ℕ) → came sub r lines ≡ []) → (rank : ℕ) → StandsKeptAt (item_at (with_slots items slots) rank) lines (live_at sub rank vs)
+    → BringNothing sub lines → (rank : ℕ) → StandsKeptAt (item_at (with_slots items slots) rank) lines (live_at sub rank vs)
 joined_place sub items slots vs lines ranked join nothing zero =
     subst (λ (w : Option Live). StandsKeptAt None lines w)
     (sym (slots_below sub sub 0 1 vs (joined_slots sub 1 items slots vs ranked join) (omega arith))) tt
@@ -221,13 +246,13 @@ unused_here : (k : Subs) (sub q : ℕ) (lines : List Line) (round : List Live) �
 unused_here k sub q lines round s new same = subst (λ n. is_used n round ≡ false) (eqb-true sub q same) (sym (s.used sub) ∙ new)
 
 finished_at : (k k' : Subs) (sub : ℕ) (items : List PlanItem) (slots : List ℕ) (lines : List Line) (round vs : List Live) (filtered : Bool)
-    (most fields : ℕ) (keys : Option KeyPlaces) → Changed k k' sub (Some (with_slots items slots)) → has_sub k sub ≡ false → AreRanked sub 1 items
-    → StandsSubs k lines round → JoinAll items slots vs
-    → (q rank : ℕ) → StandsKeptAt (kept_at k' q rank) (Configures sub filtered ∷ Begins sub most fields keys ∷ lines) (live_at q rank (round ++ vs))
-finished_at k k' sub items slots lines round vs filtered most fields keys changed new ranked s join q rank = by_test (sub == q) refl
+    (most fields : ℕ) (keys : Option KeyPlaces) (frequency : Option ℕ) → Changed k k' sub (Some (with_slots items slots)) → has_sub k sub ≡ false
+    → AreRanked sub 1 items → StandsSubs k lines round → JoinAll items slots vs
+    → (q rank : ℕ) → StandsKeptAt (kept_at k' q rank) (Configures sub frequency filtered ∷ Begins sub most fields keys ∷ lines) (live_at q rank (round ++ vs))
+finished_at k k' sub items slots lines round vs filtered most fields keys frequency changed new ranked s join q rank = by_test (sub == q) refl
   where
     all : List Line
-    all = Configures sub filtered ∷ Begins sub most fields keys ∷ lines
+    all = Configures sub frequency filtered ∷ Begins sub most fields keys ∷ lines
 
     by_test : (b : Bool) → (sub == q) ≡ b → StandsKeptAt (kept_at k' q rank) all (live_at q rank (round ++ vs))
     by_test true same =
@@ -237,14 +262,15 @@ finished_at k k' sub items slots lines round vs filtered most fields keys change
         (subst (λ (w : Option Live). StandsKeptAt (item_at (with_slots items slots) rank) all w)
         (sym (behind_none q rank round vs (unused_none q rank round (unused_here k sub q lines round s new same))))
         (subst (λ n. StandsKeptAt (item_at (with_slots items slots) rank) all (live_at n rank vs)) (sym here)
-        (joined_place sub items slots vs all ranked join (λ r. ap (λ b. cond b [] (came sub r lines)) (eqb_self sub)) rank)))
+        (joined_place sub items slots vs all ranked join
+        (λ r. (ap (λ b. cond b [] (came sub r lines)) (eqb_self sub), ap (λ b. cond b None (updated sub r lines)) (eqb_self sub))) rank)))
     by_test false other =
         subst (λ (o : Option PlanItem). StandsKeptAt o all (live_at q rank (round ++ vs)))
         (sym (ap (option_and_then (λ xs. item_at xs rank)) (changed_other k k' sub q (Some (with_slots items slots)) changed other)))
         (subst (λ (w : Option Live). StandsKeptAt (kept_at k q rank) all w)
         (sym (before_none q rank round vs (unused_none q rank vs (slots_unused sub q 1 vs (joined_slots sub 1 items slots vs ranked join) other))))
         (stands_lines (kept_at k q rank) lines all (live_at q rank round)
-        (λ v e. ap (λ b. cond b [] (came v.sub v.rank lines)) (subst (λ n. (sub == n) ≡ false) (found_is q rank round v e).0 other)) (s.at q rank)))
+        (λ v e. others_alike sub lines v (subst (λ n. (sub == n) ≡ false) (found_is q rank round v e).0 other)) (s.at q rank)))
 
 finished_used : (sub q : ℕ) (items : List PlanItem) (slots : List ℕ) (round vs : List Live) (o : Option (List PlanItem)) → 1 ≤ length items
     → AreRanked sub 1 items → JoinAll items slots vs → is_some o ≡ is_used q round → (b : Bool) → (sub == q) ≡ b
@@ -280,14 +306,14 @@ joined_one sub (p ∷ items) (n ∷ slots) (v ∷ vs) some ranked join = slots_o
 
 pub finished_stands : (k k' : Subs) (sub : ℕ) (items : List PlanItem) (slots : List ℕ) → Changed k k' sub (Some (with_slots items slots))
     → count_of k' ≡ count_of k + 1 → has_sub k sub ≡ false → IsReady sub items
-    → (lines : List Line) (round vs : List Live) (filtered : Bool) (most fields : ℕ) (keys : Option KeyPlaces) → StandsSubs k lines round
-    → JoinAll items slots vs → StandsSubs k' (Configures sub filtered ∷ Begins sub most fields keys ∷ lines) (round ++ vs)
-finished_stands k k' sub items slots changed count new ready lines round vs filtered most fields keys s join =
+    → (lines : List Line) (round vs : List Live) (filtered : Bool) (most fields : ℕ) (keys : Option KeyPlaces) (frequency : Option ℕ) → StandsSubs k lines round
+    → JoinAll items slots vs → StandsSubs k' (Configures sub frequency filtered ∷ Begins sub most fields keys ∷ lines) (round ++ vs)
+finished_stands k k' sub items slots changed count new ready lines round vs filtered most fields keys frequency s join =
     let slots_are : AreSlots sub 1 vs = joined_slots sub 1 items slots vs ready.ranked join in
     record {
       apart = apart_append round vs s.apart (slots_apart sub 1 vs slots_are)
           (unused_apart sub 1 round vs (sym (s.used sub) ∙ new) slots_are);
-      at = finished_at k k' sub items slots lines round vs filtered most fields keys changed new ready.ranked s join;
+      at = finished_at k k' sub items slots lines round vs filtered most fields keys frequency changed new ready.ranked s join;
       used = λ q. ap is_some (changed q) ∙ finished_used sub q items slots round vs (items_of k q) ready.some ready.ranked join (s.used q) (sub == q) refl;
       count = (let one = joined_one sub items slots vs ready.some ready.ranked join in
           let all = subscriptions_append round vs in omega (arith, one, all, count, s.count));

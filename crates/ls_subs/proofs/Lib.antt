@@ -4,9 +4,14 @@ pub mod Cuts
 pub mod Subscriptions
 pub mod Rounds
 pub mod Moves
+pub mod Frequencies
 pub mod Keeping
 pub mod Places
 pub mod Accepting
 pub mod Asks
+pub mod Milli
+pub mod Narrow
 pub mod Planning
+pub mod Mapped
 pub mod Enqueues
+pub mod Limiting

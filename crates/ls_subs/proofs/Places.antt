@@ -11,9 +11,9 @@ change_beyond n f [] l = refl
 change_beyond zero f (x ∷ xs) l = absurd (omega (arith, l))
 change_beyond (suc n) f (x ∷ xs) l = ap (λ ys. x ∷ ys) (change_beyond n f xs (omega (arith, l)))
 
-pub heard_beyond : (place : ℕ) (t : Taken) (items : List PlanItem) → length items ≤ place - 1 → items ≡ heard_at place t items
-heard_beyond zero t items l = refl
-heard_beyond (suc n) t items l = change_beyond n (heard t) items (omega (arith, l))
+pub heard_beyond : (place now : ℕ) (t : Taken) (items : List PlanItem) → length items ≤ place - 1 → items ≡ heard_at place now t items
+heard_beyond zero now t items l = refl
+heard_beyond (suc n) now t items l = change_beyond n (heard now t) items (omega (arith, l))
 
 -- the item before it
 pub item_before : (place : ℕ) (items : List PlanItem) (p : PlanItem) → (place ≡ 0 → ⊥) → slice_get items (place - 1) ≡ Some p → item_at items place ≡ Some p
@@ -30,9 +30,9 @@ change_set zero f (y ∷ xs) x is =
     ap (λ z. f z ∷ xs) (sym same)
 change_set (suc n) f (y ∷ xs) x is = ap (λ ys. y ∷ ys) (change_set n f xs x is)
 
-pub heard_set : (place : ℕ) (t : Taken) (items : List PlanItem) (p : PlanItem) → (place ≡ 0 → ⊥) → slice_get items (place - 1) ≡ Some p
-    → slice_set items (place - 1) (heard t p) ≡ heard_at place t items
-heard_set zero t items p some is = absurd (some refl)
-heard_set (suc n) t items p some is =
+pub heard_set : (place now : ℕ) (t : Taken) (items : List PlanItem) (p : PlanItem) → (place ≡ 0 → ⊥) → slice_get items (place - 1) ≡ Some p
+    → slice_set items (place - 1) (heard now t p) ≡ heard_at place now t items
+heard_set zero now t items p some is = absurd (some refl)
+heard_set (suc n) now t items p some is =
     let same : suc n - 1 ≡ n = omega arith in
-    ap (λ m. slice_set items m (heard t p)) same ∙ change_set n (heard t) items p (subst (λ m. slice_get items m ≡ Some p) same is)
+    ap (λ m. slice_set items m (heard now t p)) same ∙ change_set n (heard now t) items p (subst (λ m. slice_get items m ≡ Some p) same is)

@@ -9,7 +9,10 @@ use Rattle.ls_event.specs.declared.event.Mode.{Mode}
 use Rattle.ls_event.specs.declared.event.Mode.TheVariants as mode
 use Rattle.ls_event.specs.declared.event.Taken.{Taken}
 use Rattle.ls_event.specs.declared.event.Taken.TheVariants as taken
+use Rattle.ls_event.specs.Joining.{is_mode_of}
 use Rattle.ls_event.specs.Slots.{Plan, Slot, passed}
+use Rattle.ls_update.specs.Reading.{HasFields}
+use Rattle.ls_world.proofs.Short.{row_is_wide}
 use Rattle.ls_mirror.specs.Client.{What, Row, Lost, Cleared, End, row_or}
 use Rattle.ls_world.specs.Came.{Came, came_by, whats}
 use Rattle.ls_world.specs.Lines.{last_row}
@@ -61,13 +64,17 @@ comes_is u w s cs (taken.Cleared upto) suits su = refl
 comes_is u w s cs taken.EndOfSnapshot suits su = refl
 
 -- a cut leaves the plan
-plan_stays : (s : Slot) (t : Taken) → (passed s t).plan ≡ s.plan
+pub plan_stays : (s : Slot) (t : Taken) → (passed s t).plan ≡ s.plan
 plan_stays s (taken.Row row upto) = refl
 plan_stays s (taken.Lost count upto) = refl
 plan_stays s (taken.Change cells upto) = refl
 plan_stays s (taken.Key key row upto) = refl
 plan_stays s (taken.Cleared upto) = refl
 plan_stays s taken.EndOfSnapshot = refl
+
+pub allowed_stays : (s : Slot) (t : Taken) → is_mode_of s.plan.mode s.plan.shape.kind ≡ true
+    → is_mode_of (passed s t).plan.mode (passed s t).plan.shape.kind ≡ true
+allowed_stays s t allowed = subst (λ (p : Plan). is_mode_of p.mode p.shape.kind ≡ true) (sym (plan_stays s t)) allowed
 
 -- in mode MERGE a change gives a first line
 started_stays : (m : Mode) (s : Slot) (t : Taken) (row : Option (List Value)) → (m ≡ mode.Merge → (passed s t).has_started ≡ is_some row)
@@ -97,13 +104,15 @@ started_silent u w s cs taken.EndOfSnapshot suits su none is = started_is s.plan
 -- what is kept stands for a slot after a cut, where the client's row and rows by key are so
 passed_stands : (v : Subscribed) (w : Wanted) (s : Slot) (cs : List Came) (t : Taken) → v.places ≡ w.places
     → v.keys ≡ keys_in s.plan.mode (schema_of w s.plan)
-    → v.row ≡ last_row cs → (s.plan.mode ≡ mode.Merge → (passed s t).has_started ≡ is_some v.row) → HoldsKeys v.keys v.table (whats cs)
+    → v.row ≡ last_row cs → HasFields (length w.places) (last_row cs)
+    → (s.plan.mode ≡ mode.Merge → (passed s t).has_started ≡ is_some v.row) → HoldsKeys v.keys v.table (whats cs)
     → StandsSubscribed v w (passed s t) cs
-passed_stands v w s cs t places keys row started table =
+passed_stands v w s cs t places keys row wide started table =
     record {
       places = places;
       keys = keys ∙ ap (λ p. keys_in p.mode (schema_of w p)) (sym (plan_stays s t));
       row = row;
+      wide = wide;
       has_started = subst (λ (p : Plan). HasStarted p.mode (passed s t).has_started v.row) (sym (plan_stays s t)) (started_stays s.plan.mode s t v.row started);
       table = table;
     }
@@ -112,7 +121,7 @@ passed_stands v w s cs t places keys row started table =
 pub stands_silent : (u : Subscribed) (w : Wanted) (s : Slot) (cs : List Came) (t : Taken) → Suits s.plan.mode t → StandsSubscribed u w s cs
     → what_of_cut w s cs t ≡ None
     → StandsSubscribed u w (passed s t) cs
-stands_silent u w s cs t suits su none = passed_stands u w s cs t su.places su.keys su.row (started_silent u w s cs t suits su none) su.table
+stands_silent u w s cs t suits su none = passed_stands u w s cs t su.places su.keys su.row su.wide (started_silent u w s cs t suits su none) su.table
 
 -- a change that makes a line gives a row
 row_comes : (v : Bool) (new : List Value) (what : What) (o : Option (List Value)) → cond v None (Some (Row new)) ≡ Some what → is_some (row_or what o) ≡ true
@@ -141,5 +150,6 @@ pub stands_line : (u : Subscribed) (w : Wanted) (s : Slot) (cs : List Came) (t :
 stands_line u w s cs t what suits su some =
     passed_stands (after_what u what) w s (came_by s t what ∷ cs) t su.places su.keys
     (ap (row_or what) su.row)
+    (row_is_wide w s cs t what su.wide some)
     (started_after u w s cs t what suits su some)
     (holds_more u.keys u.table (whats cs) what su.table)

@@ -1,13 +1,16 @@
 -- What is kept of the live subscriptions of a session, by their numbers and by the places in them.
-use Rattle.std.specs.Prelude.{◌≡◌, ℕ, zero, suc, List, [], ◌∷◌, Bool, Option, None, is_some, nat_eq, slice_get}
-use Rattle.std.specs.Prelude.{option_map}
+use Rattle.std.specs.Prelude.{◌≡◌, ℕ, zero, suc, List, [], ◌∷◌, Bool, Option, None, Some, is_some, nat_eq, slice_get}
+use Rattle.std.specs.Prelude.{option_map, if◌then◌else◌}
 use Rattle.std.specs.Prelude.{option_and_then}
 use Rattle.indexmap.specs.IndexMap.{get, spare, index_map_len}
 use Rattle.ls_event.specs.declared.event.Taken.{Taken}
+use Rattle.ls_budget.specs.Kept.{KeptFrequency}
+use Rattle.ls_mirror.specs.Client.{What}
+use Rattle.ls_world.specs.Lines.{is_update}
 use Rattle.ls_world.specs.World.{change}
-use Rattle.ls_subs.specs.Subscription.{what_comes, after_line, line_if}
+use Rattle.ls_subs.specs.Subscription.{what_comes, after_line, line_if, ItemLine}
 use Rattle.ls_subs.specs.declared.plan.PlanItem.{PlanItem}
-use Rattle.ls_subs.specs.declared.slot_ref.SlotRef.{SlotRef}
+use Rattle.ls_turns.specs.declared.slot_ref.SlotRef.{SlotRef}
 use Rattle.ls_subs.specs.declared.subs.Subs.{Subs}
 
 -- the items of a live subscription
@@ -47,15 +50,28 @@ with_slots [] slots = []
 with_slots (p ∷ items) [] = p ∷ items
 with_slots (p ∷ items) (n ∷ slots) = record p { slot = n } ∷ with_slots items slots
 
--- an item after a cut
-abbrev pub heard : Taken → PlanItem → PlanItem
-heard t p = record p { followed = after_line p.followed (what_comes p.followed t) }
+-- a frequency after what was told at a tick: an update is the last one; by another line, or none, it stays
+abbrev pub spent_by : ℕ → Option What → KeptFrequency → KeptFrequency
+spent_by now None k = k
+spent_by now (Some what) k = if is_update what then record k { last = Some now } else k
+
+-- an item after a cut at a tick
+abbrev pub heard : ℕ → Taken → PlanItem → PlanItem
+heard now t p =
+    record p {
+      frequency = spent_by now (what_comes p.followed t) p.frequency;
+      followed = after_line p.followed (what_comes p.followed t);
+    }
 
 -- items, the one at a place after it
-abbrev pub heard_at : ℕ → Taken → List PlanItem → List PlanItem
-heard_at zero t items = items
-heard_at (suc n) t items = change n (heard t) items
+abbrev pub heard_at : ℕ → ℕ → Taken → List PlanItem → List PlanItem
+heard_at zero now t items = items
+heard_at (suc n) now t items = change n (heard now t) items
 
--- the text of the line that a cut makes of an item, if there is one
-abbrev pub line_of : Option PlanItem → Taken → Option (List ℕ)
+-- an item with this greatest frequency
+abbrev pub limited : Option ℕ → PlanItem → PlanItem
+limited frequency p = record p { frequency = record p.frequency { frequency = frequency } }
+
+-- the line that a cut makes of an item, if there is one
+abbrev pub line_of : Option PlanItem → Taken → Option ItemLine
 line_of p t = option_and_then (λ x. line_if x.followed (what_comes x.followed t)) p

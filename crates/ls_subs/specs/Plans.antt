@@ -3,6 +3,7 @@
 use Rattle.std.specs.Prelude.{◌≡◌, ◌<◌, ◌≤◌, ℕ, ◌+◌, List, [], ◌∷◌, length, Bool, true, not, Option, None}
 use Rattle.std.specs.Prelude.{option_and_then}
 use Rattle.std.specs.FinMap as finite
+use Rattle.ls_budget.specs.Kept.{StandsFrequency}
 use Rattle.ls_event.specs.declared.item.ItemDef.{ItemDef}
 use Rattle.ls_event.specs.Joining.{rows_asked, is_mode_of}
 use Rattle.ls_event.specs.declared.limits.TheConstants.{MOST_BUFFER_SIZE}
@@ -10,9 +11,10 @@ use Rattle.ls_mirror.specs.declared.command.KeyPlaces.{KeyPlaces}
 use Rattle.ls_request.specs.declared.request.Add.{Add}
 use Rattle.ls_world.specs.Cases.{first_code}
 use Rattle.ls_world.specs.Cutting.{Ask}
+use Rattle.ls_world.specs.Light.{IsNarrow}
 use Rattle.ls_world.specs.Lines.{Begins, Configures, line_text}
 use Rattle.ls_world.specs.Tables.{keys_shown_at}
-use Rattle.ls_world.specs.World.{Live, shape_in, first_of, keys_in, are_filtered}
+use Rattle.ls_world.specs.World.{Live, shape_in, first_of, keys_in, are_filtered, frequency_of}
 use Rattle.ls_world.specs.Acting.{is_group, group_of, is_allowed, is_schema, asks_of}
 use Rattle.ls_subs.specs.declared.plan.AddPlan.{AddPlan}
 use Rattle.ls_subs.specs.declared.plan.PlanItem.{PlanItem}
@@ -63,6 +65,7 @@ pub record IsPlanItem (defs : List ItemDef) (sub rank : ℕ) (a : Ask) (p : Plan
   pub mode : p.mode ≡ a.mode
   pub size : p.n ≡ a.size
   pub snapshot : rows_asked p.snapshot ≡ a.wanted.snapshot
+  pub frequency : StandsFrequency p.frequency a.frequency None
   pub followed : p.followed ≡ followed_of defs sub rank a
 
 -- so is each, and their ranks count on
@@ -83,14 +86,17 @@ pub record IsPlan (defs : List ItemDef) (a : Add) (p : AddPlan) : Type 0 where
   pub items : ArePlanItems defs a.sub 1 (asks_of defs a) p.items.items
   pub begins : p.begins ≡ line_text [] (Begins a.sub (length (asks_of defs a)) (length a.schema)
       (keys_of_asks defs (asks_of defs a)))
-  pub configures : p.configures ≡ line_text [] (Configures a.sub (are_filtered (asks_of defs a)))
+  pub configures : p.configures ≡ line_text [] (Configures a.sub (frequency_of (asks_of defs a))
+      (are_filtered (asks_of defs a)))
 
--- an item of a plan may join: it is declared, the mode is allowed on it, and the size is one of a buffer
+-- an item of a plan may join: it is declared, the mode is allowed on it, the size is one of a buffer, and its schema
+-- shows a field once
 pub record MayJoin (defs : List ItemDef) (p : PlanItem) : Type 0 where
   pub declared : p.item < length defs
   pub allowed : is_mode_of p.mode (shape_in defs p.item).kind ≡ true
   pub some : 0 < p.n
   pub most : p.n ≤ MOST_BUFFER_SIZE
+  pub narrow : IsNarrow p.followed.places
 
 -- items are of a subscription, and their ranks count on
 abbrev pub AreRanked : ℕ → ℕ → List PlanItem → Type 0
@@ -102,12 +108,17 @@ pub record IsReady (sub : ℕ) (items : List PlanItem) : Type 0 where
   pub some : 1 ≤ length items
   pub ranked : AreRanked sub 1 items
 
--- a slot joined as an item of a plan asks, with a number
+-- a slot joined as an item of a plan asks, with a number; the mode is allowed on the item, and the schema shows a field
+-- once
 pub record JoinsAs (p : PlanItem) (n : ℕ) (v : Live) : Type 0 where
   pub sub : v.sub ≡ p.followed.sub
   pub rank : v.rank ≡ p.followed.rank
   pub item : v.item ≡ p.item
   pub number : v.number ≡ n
+  pub mode : p.mode ≡ v.slot.plan.mode
+  pub allowed : is_mode_of v.slot.plan.mode v.slot.plan.shape.kind ≡ true
+  pub frequency : StandsFrequency p.frequency v.frequency None
+  pub narrow : IsNarrow v.wanted.places
   pub client : StandsSubscribed p.followed v.wanted v.slot []
 
 -- each item's slot did

@@ -1,35 +1,43 @@
 -- What is kept of a session's subscriptions stands for its round of slots and for its numbered lines (TLCP 2.1,
 -- subscriptions and notifications).
-use Rattle.std.specs.Prelude.{◌≡◌, ℕ, ◌+◌, List, [], ◌∷◌, ◌++◌, take, drop, Option, None}
+use Rattle.std.specs.Prelude.{◌≡◌, ℕ, ◌+◌, List, [], ◌∷◌, ◌++◌, take, drop, true, Option, None}
 use Rattle.std.specs.Prelude.{Some, slice_get}
+use Rattle.ls_budget.specs.Kept.{StandsFrequency}
 use Rattle.ls_event.specs.declared.event.Mode.{Mode}
 use Rattle.ls_event.specs.declared.event.Mode.TheVariants as mode
 use Rattle.ls_event.specs.declared.event.Taken.{Taken}
 use Rattle.ls_event.specs.declared.event.Taken.TheVariants as taken
+use Rattle.ls_event.specs.Joining.{is_mode_of}
 use Rattle.ls_event.specs.Slots.{passed}
 use Rattle.ls_mirror.specs.Client.{What}
 use Rattle.ls_world.specs.Came.{came_by}
-use Rattle.ls_world.specs.Lines.{Line, Tells, came, last_row, tells_text}
+use Rattle.ls_world.specs.Light.{IsNarrow}
+use Rattle.ls_world.specs.Lines.{Line, Tells, came, last_row, updated}
 use Rattle.ls_world.specs.Cutting.{what_of_cut}
 use Rattle.ls_world.specs.World.{Live, change, live_at, is_used}
 use Rattle.ls_world.specs.Acting.{subscriptions}
-use Rattle.ls_subs.specs.declared.slot_ref.SlotRef.{SlotRef}
+use Rattle.ls_turns.specs.declared.slot_ref.SlotRef.{SlotRef}
 use Rattle.ls_subs.specs.declared.plan.PlanItem.{PlanItem}
 use Rattle.ls_subs.specs.declared.subs.Subs.{Subs}
 use Rattle.ls_world.specs.Lawful.{Apart}
-use Rattle.ls_subs.specs.Subscription.{StandsSubscribed, Appended, Appends}
+use Rattle.ls_subs.specs.Subscription.{StandsSubscribed, Appended, Appends, item_line}
 use Rattle.ls_subs.specs.Kept.{kept_at, has_sub, count_of}
 
 -- a slot of a round as it is named: its subscription, its place in it, the item, and the slot's number on the item
 abbrev pub ref_of : Live → SlotRef
 ref_of v = record { sub = v.sub; place = v.rank; item = v.item; slot = v.number }
 
--- what is kept of an item of a subscription stands for a slot and for what came to its client
+-- what is kept of an item of a subscription stands for a slot and for what came to its client; the mode is allowed on
+-- the item, and the schema shows a field once
 pub record StandsKept (k : PlanItem) (lines : List Line) (v : Live) : Type 0 where
   pub sub : k.followed.sub ≡ v.sub
   pub rank : k.followed.rank ≡ v.rank
   pub item : k.item ≡ v.item
   pub number : k.slot ≡ v.number
+  pub mode : k.mode ≡ v.slot.plan.mode
+  pub allowed : is_mode_of v.slot.plan.mode v.slot.plan.shape.kind ≡ true
+  pub frequency : StandsFrequency k.frequency v.frequency (updated v.sub v.rank lines)
+  pub narrow : IsNarrow v.wanted.places
   pub client : StandsSubscribed k.followed v.wanted v.slot (came v.sub v.rank lines)
 
 -- it does where there is such a slot, and else nothing is kept
@@ -70,16 +78,18 @@ passed_at n t round = change n (passed_live t) round
 abbrev pub passed_back : ℕ → Live → Taken → List Live → List Live
 passed_back n v t round = (take n round ++ drop (n + 1) round) ++ passed_live t v ∷ []
 
--- the numbered lines with the one that tells what came by a cut
-abbrev pub told_of : Live → Taken → What → List Line → List Line
-told_of v t what lines = Tells v.sub v.rank (came_by v.slot t what) ∷ lines
+-- the numbered lines with the one that tells at a tick what came by a cut
+abbrev pub told_of : Live → ℕ → Taken → What → List Line → List Line
+told_of v now t what lines = Tells v.sub v.rank now (came_by v.slot t what) ∷ lines
 
--- a slot of a round that was asked: the numbered lines, the round, the slot's place in it from 0, and the slot
+-- a slot of a round that was asked at a tick: the numbered lines, the round, the slot's place in it from 0, the slot,
+-- and the tick
 pub record AskedSlot : Type 0 where
   pub lines : List Line
   pub round : List Live
   pub place : ℕ
   pub live : Live
+  pub now : ℕ
 
 -- it is there
 abbrev pub IsAsked : AskedSlot → Type 0
@@ -90,5 +100,5 @@ IsAsked q = slice_get q.round q.place ≡ Some q.live
 abbrev pub AcceptedAs : Option What → Subs → AskedSlot → Taken → Appended → Type 0
 AcceptedAs None k q t a = Appends a None × StandsSubs k q.lines (passed_at q.place t q.round)
 AcceptedAs (Some what) k q t a =
-    Appends a (Some (tells_text (last_row (came q.live.sub q.live.rank q.lines)) q.live.sub q.live.rank what))
-    × StandsSubs k (told_of q.live t what q.lines) (passed_back q.place q.live t q.round)
+    Appends a (Some (item_line (last_row (came q.live.sub q.live.rank q.lines)) q.live.sub q.live.rank what))
+    × StandsSubs k (told_of q.live q.now t what q.lines) (passed_back q.place q.live t q.round)

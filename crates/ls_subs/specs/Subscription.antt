@@ -1,6 +1,6 @@
 -- What an item of a subscription tells its client, and what is kept of it.
-use Rattle.std.specs.Prelude.{◌≡◌, ℕ, List, ◌++◌, length, Bool, true, false, Option, None, Some, is_some}
-use Rattle.std.specs.Prelude.{option_map}
+use Rattle.std.specs.Prelude.{◌≡◌, ℕ, List, ◌++◌, length, Bool, Option, None, Some, is_some}
+use Rattle.std.specs.Prelude.{option_map, if◌then◌else◌}
 use Rattle.std.specs.Option.{option_map_or}
 use Rattle.std.specs.FinMap as finite
 use Rattle.ls_value.specs.Values.{applied, nulls, value_at, projected, projected_cells}
@@ -12,8 +12,9 @@ use Rattle.ls_event.specs.declared.event.Taken.TheVariants as taken
 use Rattle.ls_event.specs.Slots.{Slot}
 use Rattle.ls_mirror.specs.Client.{What, Row, Lost, Cleared, End, row_or}
 use Rattle.ls_mirror.specs.Keys.{KeyTable}
+use Rattle.ls_update.specs.Reading.{HasFields}
 use Rattle.ls_world.specs.Came.{Came, whats}
-use Rattle.ls_world.specs.Lines.{last_row, tells_text}
+use Rattle.ls_world.specs.Lines.{is_update, last_row, tells_text}
 use Rattle.ls_world.specs.Tables.{text_or_empty, kept_of, what_of_key, table_at, projected_row}
 use Rattle.ls_world.specs.Cutting.{Wanted, schema_of, what_of_change}
 use Rattle.ls_world.specs.World.{keys_in}
@@ -21,6 +22,8 @@ use Rattle.ls_mirror.specs.declared.command.KeyPlaces.{KeyPlaces}
 pub use Rattle.ls_subs.specs.Subscribed.{Subscribed}
 use Rattle.ls_subs.specs.declared.followed.LineKind.{LineKind}
 use Rattle.ls_subs.specs.declared.followed.LineKind.TheVariants as kind
+use Rattle.ls_subs.specs.declared.told.Told.{Told}
+use Rattle.ls_subs.specs.declared.told.Told.TheVariants as tells
 
 -- what a line of a kind tells, where this is its row
 abbrev pub what_in : List Value → LineKind → What
@@ -82,20 +85,32 @@ after_what u what = record u { row = row_or what u.row; table = keyed_with u.key
 abbrev pub after_line : Subscribed → Option What → Subscribed
 after_line u what = option_map_or (after_what u) what u
 
--- the text of the line that tells it
-abbrev pub line_if : Subscribed → Option What → Option (List ℕ)
-line_if u what = option_map (tells_text u.row u.sub u.rank) what
+-- which line tells what came
+abbrev pub told_by : What → Told
+told_by what = if is_update what then tells.Update else tells.Other
+
+-- a line of an item: which one it is, and its text
+pub record ItemLine : Type 0 where
+  pub told : Told
+  pub text : List ℕ
+
+-- the line that tells what came, where the last row was this one
+abbrev pub item_line : Option (List Value) → ℕ → ℕ → What → ItemLine
+item_line prev sub rank what = record { told = told_by what; text = tells_text prev sub rank what }
+
+abbrev pub line_if : Subscribed → Option What → Option ItemLine
+line_if u what = option_map (item_line u.row u.sub u.rank) what
 
 -- a text to which a line was appended, or none
 pub record Appended : Type 0 where
-  pub line : Bool
+  pub told : Told
   pub before : List ℕ
   pub after : List ℕ
 
--- it was the line of this text, or none
-abbrev pub Appends : Appended → Option (List ℕ) → Type 0
-Appends a None = (a.line ≡ false) × (a.after ≡ a.before)
-Appends a (Some text) = (a.line ≡ true) × (a.after ≡ a.before ++ text)
+-- it was this line, or none
+abbrev pub Appends : Appended → Option ItemLine → Type 0
+Appends a None = (a.told ≡ tells.Nothing) × (a.after ≡ a.before)
+Appends a (Some l) = (a.told ≡ l.told) × (a.after ≡ a.before ++ l.text)
 
 -- the table holds the client's row of each key
 abbrev pub HoldsKeys : Option KeyPlaces → KeyTable → List What → Type 0
@@ -107,10 +122,11 @@ abbrev pub HasStarted : Mode → Bool → Option (List Value) → Type 0
 HasStarted mode.Merge started row = started ≡ is_some row
 HasStarted m started row = Unit {0}
 
--- what is kept stands for a slot and for what came to the client of it
+-- what is kept stands for a slot and for what came to the client of it; a row has a value for each place of the schema
 pub record StandsSubscribed (u : Subscribed) (w : Wanted) (s : Slot) (cs : List Came) : Type 0 where
   pub places : u.places ≡ w.places
   pub keys : u.keys ≡ keys_in s.plan.mode (schema_of w s.plan)
   pub row : u.row ≡ last_row cs
+  pub wide : HasFields (length w.places) (last_row cs)
   pub has_started : HasStarted s.plan.mode s.has_started u.row
   pub table : HoldsKeys u.keys u.table (whats cs)

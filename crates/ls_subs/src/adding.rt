@@ -2,6 +2,7 @@
 ghost use Rattle.std.specs.Prelude.{◌≡◌, ◌<◌, ◌≤◌, ℕ, None, Some, Option, IfOk, IfSome, IsErrOf, OnOk, length, map};
 ghost use Rattle.std.specs.Prelude.{true, unwrap_or};
 ghost use Rattle.std.specs.List.{list_all};
+ghost use Rattle.std.specs.Option.{ForSome};
 ghost use Rattle.ls_value.specs.Values.{place_of};
 ghost use Rattle.ls_event.specs.Joining.{buffer_size, size_or, is_mode_of, rows_asked};
 ghost use Rattle.ls_event.specs.Shapes.{shape_of};
@@ -11,12 +12,13 @@ ghost use Rattle.ls_world.specs.Acting.{shows_keys};
 ghost use Rattle.ls_world.specs.Acting.{names_of, snapshot_asked, ask_of, asks_of};
 ghost use Rattle.ls_world.specs.Lawful.{Each};
 ghost use Rattle.ls_world.specs.Tables.{place_of_field, keys_shown_at};
-ghost use Rattle.ls_world.specs.World.{shape_in, fields_in, keys_in, is_filtered};
+ghost use Rattle.ls_world.specs.World.{shape_in, fields_in, keys_in, is_filtered, frequency_in};
 ghost use Rattle.ls_subs.specs.Plans.{form_code, IsPlan, IsPlanItem, ArePlanItems, first_keys};
 
 use crate::followed::Followed;
 use crate::lines::{begin_text, configure_text};
 use crate::plan::{AddPlan, PlanItem, Refusal};
+use ls_budget::Frequency;
 use ls_config::Config;
 use ls_event::{ItemDef, Kind, MOST_BUFFER_SIZE, MOST_FIELDS, Mode, Snap};
 use ls_mirror::KeyPlaces;
@@ -28,6 +30,7 @@ use std::alloc::Global;
 /// What an add asks for. It is refused, in this order: 21 where its group isn't one of declared items, 24 where its
 /// mode is not allowed on one of them, and 23 where its schema isn't one of the mode and of each of them.
 pub(crate) fn plan_of(alloc: Global, add: &Add, config: &Config) -> Result<AddPlan, Refusal>
+    requires frequency { ForSome add.now.frequency (λ f. 0 < f) }
     ensures free { OnOk result (form_code config.now.items add.now ≡ None) }
     ensures plan { IfOk result (λ p. IsPlan config.now.items add.now p) }
     ensures refused { (code : ℕ) → IsErrOf result (Refusal.Code code)
@@ -53,6 +56,7 @@ fn planned(alloc: Global, defs: &[ItemDef], add: &Add, group: &[u32]) -> Result<
     requires group { group.now ≡ group_of defs.now add.now.group }
     requires is_group { is_group defs.now add.now.group ≡ true }
     requires is_schema { is_schema defs.now add.now.mode group.now add.now.schema ≡ true }
+    requires frequency { ForSome add.now.frequency (λ f. 0 < f) }
     ensures { IfOk result (λ p. IsPlan defs.now add.now p) }
 {
     let items = plan_items(alloc, defs, add, group)?;
@@ -63,7 +67,12 @@ fn planned(alloc: Global, defs: &[ItemDef], add: &Add, group: &[u32]) -> Result<
         add.schema.len() as u32,
         first_keys(&items),
     )?;
-    let configures = configure_text(alloc, add.sub, is_filtered(add.mode))?;
+    let configures = configure_text(
+        alloc,
+        add.sub,
+        frequency_in(add.mode, add.frequency),
+        is_filtered(add.mode),
+    )?;
     Ok(AddPlan {
         sub: add.sub,
         items,
@@ -81,6 +90,7 @@ fn plan_items(
 ) -> Result<Vec<PlanItem>, NoMemory>
     requires few { length group.now ≤ MOST_GROUP_ITEMS }
     requires declared { Each (λ n. n < length defs.now) group.now }
+    requires frequency { ForSome add.now.frequency (λ f. 0 < f) }
     ensures { IfOk result (λ items. ArePlanItems defs.now add.now.sub 1
         (map (λ n. ask_of add.now n (places_among (fields_in defs.now n) add.now.schema)) group.now) items.items) }
 {
@@ -100,7 +110,8 @@ fn plan_item(
     n: u32,
     rank: u32,
 ) -> Result<PlanItem, NoMemory>
-    requires { n < length defs.now }
+    requires declared { n < length defs.now }
+    requires frequency { ForSome add.now.frequency (λ f. 0 < f) }
     ensures { IfOk result (λ p. IsPlanItem defs.now add.now.sub rank
         (ask_of add.now n (places_among (fields_in defs.now n) add.now.schema)) p) }
 {
@@ -113,6 +124,7 @@ fn plan_item(
         n: buffer_size(add.mode, add.size),
         snapshot: snapshot_asked(add.mode, add.snapshot),
         slot: 0,
+        frequency: Frequency::new(frequency_in(add.mode, add.frequency)),
         followed: Followed::new(alloc, add.sub, rank, places, keys),
     })
 }
@@ -335,8 +347,19 @@ fn snapshot_asked(mode: Mode, snapshot: Snap) -> Snap
     }
 }
 
-/// Whether updates of a mode are filtered.
-fn is_filtered(mode: Mode) -> bool
+/// The greatest frequency of a subscription of a mode, of one that is asked for in thousandths of an update per second:
+/// RAW has none (TLCP 2.1, LS_requested_max_frequency).
+pub fn frequency_in(mode: Mode, frequency: Option<u64>) -> Option<u64>
+    ensures { result ≡ frequency_in mode frequency }
+{
+    match mode {
+        Mode::Raw => None,
+        _ => frequency,
+    }
+}
+
+/// Whether updates of a mode are filtered: those of RAW aren't (TLCP 2.1, CONF).
+pub fn is_filtered(mode: Mode) -> bool
     ensures { result ≡ is_filtered mode }
 {
     match mode {

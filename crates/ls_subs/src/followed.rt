@@ -1,18 +1,20 @@
 //! An item of a subscription: the places of its schema, and what the client has of it.
-ghost use Rattle.std.specs.Prelude.{◌≡◌, ◌++◌, None, Some, is_some, length, IfOk, OnOk, OnErr};
+ghost use Rattle.std.specs.Prelude.{◌≡◌, ◌++◌, List, None, Some, is_some, length, IfOk, OnOk, OnErr};
 ghost use Rattle.std.specs.Prelude.{option_map};
 ghost use Rattle.std.specs.Option.{ForSome, option_copied};
 ghost use Rattle.std.specs.FinMap as finite;
 ghost use Rattle.ls_value.specs.Values.{applied, projected_cells};
+ghost use Rattle.ls_value.specs.declared.row.Value.{Value};
 ghost use Rattle.ls_mirror.specs.Client.{Row as RowWhat, row_or};
 ghost use Rattle.ls_world.specs.Lines.{tells_text};
 ghost use Rattle.ls_world.specs.Tables.{what_of_key, projected_row};
 ghost use Rattle.ls_world.specs.Cutting.{what_of_change};
 ghost use Rattle.ls_subs.specs.Subscription.{row_or_nulls, what_in, what_comes_by, what_comes, line_if, after_line};
-ghost use Rattle.ls_subs.specs.Subscription.{table_with, keyed_with, Appends};
+ghost use Rattle.ls_subs.specs.Subscription.{table_with, keyed_with, told_by, Appends};
 
 use crate::lines::append_row;
 use crate::schema::{kept_row, row_of_delete, row_with_word, text_at};
+use crate::told::Told;
 use ls_event::{Order, Taken};
 use ls_line::{Line, append};
 use ls_mirror::{KeyPlaces, Keyed};
@@ -32,6 +34,18 @@ pub enum LineKind {
     Cleared,
     /// The snapshot is whole.
     End,
+}
+
+impl LineKind {
+    /// Which line tells it.
+    fn told(self) -> Told
+        ensures { (row : List Value) → result ≡ told_by (what_in row self) }
+    {
+        match self {
+            LineKind::Row => Told::Update,
+            LineKind::Lost(_) | LineKind::Cleared | LineKind::End => Told::Other,
+        }
+    }
 }
 
 /// What a client has of an item: its last row, where it has one, and in mode COMMAND its rows by key. The row of its
@@ -124,11 +138,11 @@ impl Followed {
         self.keys
     }
 
-    /// Appends the line that a cut makes, and answers whether it makes one: none where the client has that already.
+    /// Appends the line that a cut makes, and answers which one: none where the client has that already.
     /// Then the client has it. After `NoMemory` what it has is as before, and a part of the line may be there.
-    pub(crate) fn accept(&mut self, taken: Taken, text: &mut Vec<u8>) -> Result<bool, NoMemory>
-        ensures line { IfOk result (λ line. Appends
-            (record { line = line; before = text.old.items; after = text.new.items })
+    pub(crate) fn accept(&mut self, taken: Taken, text: &mut Vec<u8>) -> Result<Told, NoMemory>
+        ensures line { IfOk result (λ told. Appends
+            (record { told = told; before = text.old.items; after = text.new.items })
             (line_if self.old (what_comes self.old taken))) }
         ensures ok { OnOk result (self.new ≡ after_line self.old (what_comes self.old taken)) }
         ensures err { OnErr result (self.new ≡ self.old) }
@@ -137,11 +151,11 @@ impl Followed {
             .client
             .next_line(self.alloc, &self.places, self.keys, taken)?;
         let Some(kind) = made else {
-            return Ok(false);
+            return Ok(Told::Nothing);
         };
         self.client.append(text, self.sub, self.rank, kind)?;
         self.client.hear(self.alloc, self.keys, kind)?;
-        Ok(true)
+        Ok(kind.told())
     }
 }
 

@@ -1,12 +1,14 @@
 //! Texts of the lines of a subscription (TLCP 2.1, notifications).
 ghost use Rattle.std.specs.Prelude.{◌≡◌, ◌≤◌, ◌++◌, [], Some, codes, IfOk, OnOk, if◌then◌else◌};
 ghost use Rattle.ls_event.specs.declared.limits.TheConstants.{MOST_FIELDS};
+ghost use Rattle.ls_form.specs.Decimals.{milli_text};
 ghost use Rattle.ls_line.specs.declared.line.Line.TheVariants as line;
 ghost use Rattle.ls_line.specs.Lines.{text_of_line};
-ghost use Rattle.ls_world.specs.Lines.{Begins, Configures, line_text};
+ghost use Rattle.ls_world.specs.Lines.{Begins, Configures, limit_text, line_text};
 ghost use Rattle.ls_update.specs.Fields.{spelled};
 ghost use Rattle.ls_update.specs.Writing.{row_behind};
 
+use ls_form::print_milli;
 use ls_line::{Line, append_update, text};
 use ls_mirror::KeyPlaces;
 use ls_value::{Bytes, NoMemory, Row, Text};
@@ -56,11 +58,17 @@ pub fn begin_text(
     }
 }
 
-/// The line `CONF,<sub>,unlimited,<filtered or unfiltered>`: a subscription has no greatest frequency.
-pub fn configure_text(alloc: Global, sub: u32, filtered: bool) -> Result<Bytes, NoMemory>
-    ensures { IfOk result (λ t. t ≡ line_text [] (Configures sub filtered)) }
+/// The line `CONF,<sub>,<frequency>,<filtered or unfiltered>`: the greatest frequency is given in thousandths of an
+/// update per second, and `None` is `unlimited`.
+pub fn configure_text(
+    alloc: Global,
+    sub: u32,
+    frequency: Option<u64>,
+    filtered: bool,
+) -> Result<Bytes, NoMemory>
+    ensures { IfOk result (λ t. t ≡ line_text [] (Configures sub frequency filtered)) }
 {
-    let frequency = Text::from_str(alloc, "unlimited")?;
+    let frequency = frequency_word(alloc, frequency)?;
     let filter = Text::from_str(alloc, filter_word(filtered))?;
     text(
         alloc,
@@ -70,6 +78,24 @@ pub fn configure_text(alloc: Global, sub: u32, filtered: bool) -> Result<Bytes, 
             filter,
         },
     )
+}
+
+/// A greatest frequency as a line tells it.
+fn frequency_word(alloc: Global, frequency: Option<u64>) -> Result<Text, NoMemory>
+    ensures { IfOk result (λ t. t ≡ limit_text frequency) }
+{
+    match frequency {
+        None => Text::from_str(alloc, "unlimited"),
+        Some(n) => milli_word(alloc, n),
+    }
+}
+
+/// So many thousandths as a decimal.
+fn milli_word(alloc: Global, n: u64) -> Result<Text, NoMemory>
+    ensures { IfOk result (λ t. t ≡ milli_text n) }
+{
+    let text = print_milli(alloc, n)?;
+    Text::of_utf8(alloc, text.as_slice())
 }
 
 /// Whether updates are filtered, in a word.

@@ -1,8 +1,13 @@
 //! What a new subscription asks of the items of its group, and what is kept of it once it is live (TLCP 2.1, control
 //! with LS_op add).
+ghost use Rattle.std.specs.Prelude.{◌≡◌, IfOk, OnOk, OnErr};
+ghost use Rattle.ls_subs.specs.Kept.{heard};
+ghost use Rattle.ls_subs.specs.Subscription.{what_comes, line_if, Appends};
 
 use crate::followed::Followed;
-use ls_event::{Mode, Snap};
+use crate::told::Told;
+use ls_budget::Frequency;
+use ls_event::{Mode, Snap, Taken};
 use ls_value::{Bytes, NoMemory};
 
 /// Why a request on a session is refused.
@@ -39,8 +44,34 @@ pub struct PlanItem {
     pub snapshot: Snap,
     /// The slot's number on the item, from 1; 0 before it joined.
     pub(crate) slot: u32,
+    /// How often the slot may give an update, and when it did last.
+    pub(crate) frequency: Frequency,
     /// What the client has of the item.
     pub(crate) followed: Followed,
+}
+
+impl PlanItem {
+    /// Appends the line that a cut makes at a tick, and answers which one. Then the client has it, and an update is the
+    /// item's last one. After `NoMemory` the item is as before.
+    pub(crate) fn accept(
+        &mut self,
+        taken: Taken,
+        now: u64,
+        text: &mut Vec<u8>,
+    ) -> Result<Told, NoMemory>
+        ensures line { IfOk result (λ told. Appends
+            (record { told = told; before = text.old.items; after = text.new.items })
+            (line_if self.old.followed (what_comes self.old.followed taken))) }
+        ensures ok { OnOk result (self.new ≡ heard now taken self.old) }
+        ensures err { OnErr result (self.new ≡ self.old) }
+    {
+        let told = self.followed.accept(taken, text)?;
+        match told {
+            Told::Update => self.frequency.spend(now),
+            Told::Nothing | Told::Other => {}
+        }
+        Ok(told)
+    }
 }
 
 /// A new subscription that nothing stands against: its items join, and then it begins with two lines. All the memory

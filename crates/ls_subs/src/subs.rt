@@ -2,26 +2,36 @@
 ghost use Rattle.std.specs.Prelude.{◌≡◌, ◌==◌, ◌≤◌, ℕ, List, [], ◌∷◌, ◌++◌, length, Bool, false, None, Option, IfOk};
 ghost use Rattle.std.specs.Prelude.{OnOk, OnErr};
 ghost use Rattle.std.specs.Prelude.{IsErrOf, Ok, Some, option_map, is_some};
+ghost use Rattle.std.specs.Prelude.{◌<◌, map, slice_get};
+ghost use Rattle.std.specs.Option.{ForSome};
+ghost use Rattle.ls_budget.specs.Budget.{frequency_tick};
+ghost use Rattle.ls_budget.specs.Due.{due_at};
+ghost use Rattle.ls_budget.specs.Kept.{StandsFrequency};
+ghost use Rattle.ls_budget.specs.declared.due.Due.TheVariants as due;
+ghost use Rattle.ls_budget.specs.declared.limits.TheConstants.{GREATEST_TICK};
 ghost use Rattle.ls_mirror.specs.declared.command.KeyPlaces.{KeyPlaces as Keys};
 ghost use Rattle.ls_event.specs.declared.event.Snap.{Snap};
-ghost use Rattle.ls_world.specs.Lines.{Line, Begins, Ends, Configures};
-ghost use Rattle.ls_world.specs.World.{Live, live_at, is_used, without};
+ghost use Rattle.ls_world.specs.Lines.{Line, Begins, Ends, Configures, updated};
+ghost use Rattle.ls_world.specs.World.{Live, live_at, is_used, with_frequency, without};
 ghost use Rattle.ls_world.specs.Acting.{subscriptions};
 ghost use Rattle.ls_request.specs.Ranges.{AddFits};
 ghost use Rattle.ls_world.specs.Lawful.{Each};
-ghost use Rattle.ls_subs.specs.Kept.{item_at, kept_at, has_sub, room_of, named, with_slots, line_of, heard_at};
+ghost use Rattle.ls_subs.specs.Kept.{item_at, kept_at, has_sub, room_of, named, with_slots, line_of, heard_at, limited};
 ghost use Rattle.ls_subs.specs.Kept.{AreAlike};
 ghost use Rattle.ls_subs.specs.Plans.{refusal_of, IsPlan, MayJoin, IsReady, JoinAll};
 ghost use Rattle.ls_subs.specs.Subscription.{Appends};
 ghost use Rattle.ls_subs.specs.Standing.{ref_of, StandsSubs, Suits, AskedSlot, IsAsked, what_of, AcceptedAs};
+ghost use Rattle.ls_subs.specs.declared.told.Told.TheVariants as tells;
 
 use crate::adding::plan_of;
 use crate::plan::{AddPlan, PlanItem, Refusal};
-use crate::slot_ref::SlotRef;
+use crate::told::Told;
 use indexmap::IndexMap;
+use ls_budget::Due;
 use ls_config::Config;
-use ls_event::Taken;
+use ls_event::{Mode, Taken};
 use ls_request::Add;
+use ls_turns::SlotRef;
 use ls_value::NoMemory;
 use std::alloc::Global;
 
@@ -79,21 +89,61 @@ impl Subs {
         slot_at(items, place)
     }
 
-    /// Appends the line that a slot's cut makes, and answers whether it makes one: none where the client has that
-    /// already, or where there is no such slot. Then the client has it. After `NoMemory` all is as before, and a part
-    /// of the line may be there.
+    /// Whether a slot may give an update at a tick, in ms, by its subscription's greatest frequency, and else at which
+    /// tick first. It may where there is no such slot. No memory is taken.
+    pub fn due(&self, slot: &SlotRef, now: u64) -> Due
+        ensures stands { (lines : List Line) (round : List Live) (place : ℕ) (v : Live)
+            → StandsSubs self.now lines round → slice_get round place ≡ Some v → ref_of v ≡ slot.now
+            → result ≡ due_at (frequency_tick v.frequency (updated v.sub v.rank lines)) now }
+        ensures absent { kept_at self.now slot.now.sub slot.now.place ≡ None → result ≡ due.Now }
+    {
+        match self.items.get(&(slot.sub as u64)) {
+            None => Due::Now,
+            Some(items) => due_at(items, slot.place, now),
+        }
+    }
+
+    /// The mode of a subscription: `None` exactly where none of this number is live. No memory is taken.
+    pub fn mode(&self, sub: u32) -> Option<Mode>
+        ensures { (lines : List Line) (round : List Live) → StandsSubs self.now lines round
+            → result ≡ option_map (λ v. v.slot.plan.mode) (live_at sub 1 round) }
+    {
+        let items = self.items.get(&(sub as u64))?;
+        first_mode(items)
+    }
+
+    /// Sets the greatest frequency of each item of a subscription, in thousandths of an update per second; `None` is
+    /// unlimited. The ticks of their last updates stay, and so does what the client has. No memory is taken.
+    pub fn set_frequency(&mut self, sub: u32, frequency: Option<u64>)
+        requires { ForSome frequency (λ f. 0 < f) }
+        ensures stands { (lines : List Line) (round : List Live) (f : Option ℕ) (filtered : Bool)
+            → StandsSubs self.old lines round
+            → StandsSubs self.new (Configures sub f filtered ∷ lines) (map (with_frequency sub frequency) round) }
+        ensures kept { (q place : ℕ) → is_some (kept_at self.new q place) ≡ is_some (kept_at self.old q place) }
+        ensures room { room_of self.new ≡ room_of self.old }
+    {
+        match self.items.get_mut(&(sub as u64)) {
+            None => {}
+            Some(items) => set_all(items, frequency),
+        }
+    }
+
+    /// Appends the line that a slot's cut makes at a tick, in ms, and answers which one: none where the client has that
+    /// already, or where there is no such slot. Then the client has it, and an update is the item's last one. After
+    /// `NoMemory` all is as before, and a part of the line may be there.
     pub fn accept(
         &mut self,
         slot: &SlotRef,
         taken: Taken,
+        now: u64,
         text: &mut Vec<u8>,
-    ) -> Result<bool, NoMemory>
+    ) -> Result<Told, NoMemory>
         ensures accepted { IfOk result (λ told. (q : AskedSlot) → IsAsked q → ref_of q.live ≡ slot.now
-            → Suits q.live.slot.plan.mode taken → StandsSubs self.old q.lines q.round
-            → AcceptedAs (what_of q.lines q.live taken) self.new q taken
-            (record { line = told; before = text.old.items; after = text.new.items })) }
+            → q.now ≡ now → now ≤ GREATEST_TICK → Suits q.live.slot.plan.mode taken
+            → StandsSubs self.old q.lines q.round → AcceptedAs (what_of q.lines q.live taken) self.new q taken
+            (record { told = told; before = text.old.items; after = text.new.items })) }
         ensures absent { kept_at self.old slot.now.sub slot.now.place ≡ None
-            → (result ≡ Ok false) × AreAlike self.old self.new × (text.new.items ≡ text.old.items) }
+            → (result ≡ Ok tells.Nothing) × AreAlike self.old self.new × (text.new.items ≡ text.old.items) }
         ensures err { OnErr result (AreAlike self.old self.new) }
         ensures stands { OnErr result ((lines : List Line) (round : List Live) → StandsSubs self.old lines round
             → StandsSubs self.new lines round) }
@@ -101,8 +151,8 @@ impl Subs {
         ensures room { room_of self.new ≡ room_of self.old }
     {
         match self.items.get_mut(&(slot.sub as u64)) {
-            None => Ok(false),
-            Some(items) => accept_at(items, slot.place, taken, text),
+            None => Ok(Told::Nothing),
+            Some(items) => accept_at(items, slot.place, taken, now, text),
         }
     }
 
@@ -147,8 +197,9 @@ impl Subs {
         requires ready { IsReady sub items.items }
         requires slots { length slots.now ≡ length items.items }
         ensures { (lines : List Line) (round vs : List Live) (filtered : Bool) (most fields : ℕ) (keys : Option Keys)
-            → StandsSubs self.old lines round → JoinAll items.items slots.now vs
-            → StandsSubs self.new (Configures sub filtered ∷ Begins sub most fields keys ∷ lines) (round ++ vs) }
+            (frequency : Option ℕ) → StandsSubs self.old lines round → JoinAll items.items slots.now vs
+            → StandsSubs self.new
+            (Configures sub frequency filtered ∷ Begins sub most fields keys ∷ lines) (round ++ vs) }
     {
         let items = with_slots(items, slots);
         let _none = self.items.insert(sub as u64, items);
@@ -198,28 +249,65 @@ fn with_slots(items: Vec<PlanItem>, slots: &[u32]) -> Vec<PlanItem>
     items
 }
 
-/// Appends the line that a cut of the item at a place makes, and answers whether it makes one; there is none where
-/// there is no such place. Then the client has it. After `NoMemory` the items are as before.
+/// Whether the item at a place may give an update at a tick, and else at which tick first.
+fn due_at(items: &[PlanItem], place: u32, now: u64) -> Due
+    ensures stands { (p : PlanItem) (f last : Option ℕ) → item_at items.now place ≡ Some p
+        → StandsFrequency p.frequency f last → result ≡ due_at (frequency_tick f last) now }
+    ensures absent { item_at items.now place ≡ None → result ≡ due.Now }
+{
+    if place == 0 {
+        return Due::Now;
+    }
+    match items.get(place as usize - 1) {
+        None => Due::Now,
+        Some(item) => item.frequency.due(now),
+    }
+}
+
+/// The mode of the first item.
+fn first_mode(items: &[PlanItem]) -> Option<Mode>
+    ensures { result ≡ option_map (λ p. p.mode) (item_at items.now 1) }
+{
+    match items.first() {
+        None => None,
+        Some(item) => Some(item.mode),
+    }
+}
+
+/// Sets the greatest frequency of items.
+fn set_all(items: &mut Vec<PlanItem>, frequency: Option<u64>)
+    requires { ForSome frequency (λ f. 0 < f) }
+    ensures { items.new.items ≡ map (limited frequency) items.old.items }
+{
+    for i in 0..items.len() {
+        items[i].frequency.set(frequency);
+    }
+}
+
+/// Appends the line that a cut of the item at a place makes at a tick, and answers which one; there is none where there
+/// is no such place. Then the client has it, and an update is the item's last one. After `NoMemory` the items are as
+/// before.
 fn accept_at(
     items: &mut Vec<PlanItem>,
     place: u32,
     taken: Taken,
+    now: u64,
     text: &mut Vec<u8>,
-) -> Result<bool, NoMemory>
+) -> Result<Told, NoMemory>
     ensures line { IfOk result (λ told. Appends
-        (record { line = told; before = text.old.items; after = text.new.items })
+        (record { told = told; before = text.old.items; after = text.new.items })
         (line_of (item_at items.old.items place) taken)) }
     ensures absent { item_at items.old.items place ≡ None
-        → (result ≡ Ok false) × (text.new.items ≡ text.old.items) }
-    ensures ok { OnOk result (items.new.items ≡ heard_at place taken items.old.items) }
+        → (result ≡ Ok tells.Nothing) × (text.new.items ≡ text.old.items) }
+    ensures ok { OnOk result (items.new.items ≡ heard_at place now taken items.old.items) }
     ensures err { OnErr result (items.new.items ≡ items.old.items) }
 {
     if place == 0 {
-        return Ok(false);
+        return Ok(Told::Nothing);
     }
     let index = place as usize - 1;
     if index >= items.len() {
-        return Ok(false);
+        return Ok(Told::Nothing);
     }
-    items[index].followed.accept(taken, text)
+    items[index].accept(taken, now, text)
 }

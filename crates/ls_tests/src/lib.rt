@@ -7,6 +7,8 @@
 #![tactic(auto)]
 
 #[cfg(test)]
+mod budget;
+#[cfg(test)]
 mod cell;
 #[cfg(test)]
 mod config;
@@ -30,6 +32,8 @@ mod outside;
 mod plain;
 #[cfg(test)]
 mod request;
+#[cfg(test)]
+mod round;
 #[cfg(test)]
 mod script;
 #[cfg(test)]

@@ -1,5 +1,5 @@
 -- What is true of each element of a list.
-use Rattle.std.proofs.Common.{◌≡◌, ℕ, zero, suc, List, [], ◌∷◌, ◌++◌, map, subst, sym, Some, None, slice_get, arith}
+use Rattle.std.proofs.Common.{◌≡◌, ℕ, zero, suc, List, [], ◌∷◌, ◌++◌, map, take, drop, subst, sym, Some, None, slice_get, arith}
 use Rattle.std.specs.List.{Contains}
 use Rattle.ls_world.specs.World.{change}
 use Rattle.ls_world.specs.Lawful.{Each}
@@ -44,3 +44,14 @@ each_contains P x (y ∷ ys) e (suc k, within, is) = each_contains P x ys e.1 (k
 pub each_within : {A : Type 0} (P : A → Type 0) (newer older : List A) (x : A) → Each P (newer ++ x ∷ older) → P x
 each_within P [] older x e = e.0
 each_within P (y ∷ newer) older x e = each_within P newer older x e.1
+
+-- of the first n, and of those behind them
+pub each_take : {A : Type 0} (P : A → Type 0) (n : ℕ) (xs : List A) → Each P xs → Each P (take n xs)
+each_take P zero xs e = tt
+each_take P (suc n) [] e = tt
+each_take P (suc n) (x ∷ xs) e = (e.0, each_take P n xs e.1)
+
+pub each_drop : {A : Type 0} (P : A → Type 0) (n : ℕ) (xs : List A) → Each P xs → Each P (drop n xs)
+each_drop P zero xs e = e
+each_drop P (suc n) [] e = tt
+each_drop P (suc n) (x ∷ xs) e = each_drop P n xs e.1

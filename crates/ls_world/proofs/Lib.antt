@@ -8,3 +8,6 @@ pub mod Cuts
 pub mod Queues
 pub mod Turns
 pub mod Naming
+pub mod EachKey
+pub mod Short
+pub mod Weights

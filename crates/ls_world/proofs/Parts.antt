@@ -1,5 +1,5 @@
 -- Parts of the definitions, by which proofs go case by case.
-use Rattle.std.specs.Prelude.{ℕ, ◌+◌, List, [], ◌∷◌, ◌++◌, length, Bool, true, Option, None, Some, nat_lt, if◌then◌else◌}
+use Rattle.std.specs.Prelude.{ℕ, ◌+◌, List, [], ◌∷◌, ◌++◌, length, Bool, Option, None, Some, nat_lt, if◌then◌else◌}
 use Rattle.ls_event.specs.declared.event.Entry.{Entry}
 use Rattle.ls_event.specs.declared.event.PublishRefused.{PublishRefused}
 use Rattle.ls_event.specs.declared.event.Taken.{Taken}
@@ -10,8 +10,9 @@ use Rattle.ls_world.specs.Cases.{with_found}
 use Rattle.ls_world.specs.Came.{Came, came_by}
 use Rattle.ls_world.specs.Cutting.{Wanted, Turn, what_of_cut}
 use Rattle.ls_world.specs.Lines.{Tells}
-use Rattle.ls_world.specs.World.{World, Item, Live, Board, Session, RoundLine, Round, history_of, change, enqueued_in, round_of, taken_in, on_board}
-use Rattle.ls_world.specs.Steps.{Stepped, Once, stays, grown, is_whole, refused_out, cause_to_refuse, ends, goes_on, SessionTurn, Idle, next_given}
+use Rattle.ls_world.specs.World.{World, Item, Live, Board, Session, RoundLine, Round, history_of, change, enqueued_in, round_of, taken_in, on_board, is_due}
+use Rattle.ls_world.specs.World.{least_wait}
+use Rattle.ls_world.specs.Steps.{Stepped, Once, stays, grown, is_whole, refused_out, cause_to_refuse, ends, goes_on, SessionTurn, waits_until, next_given}
 
 -- a slot's turn, by the line of its cut, and by its cut
 abbrev pub turn_or : Slot → Taken → Option What → Turn → Turn
@@ -29,9 +30,9 @@ abbrev pub met_by : Live → Option Came → List Live → Round → Round
 met_by v o vs rest = with_found o (record rest { kept = v ∷ rest.kept }) (λ c. record { kept = vs; came = Some (record { live = v; came = c }) })
 
 -- a board, by the line of its round
-abbrev pub given_by : Board → List Live → Option RoundLine → Board
-given_by b kept o =
-    with_found o (record b { round = kept }) (λ t. record b { lines = Tells t.live.sub t.live.rank t.came ∷ b.lines; round = kept ++ t.live ∷ [] })
+abbrev pub given_by : ℕ → Board → List Live → Option RoundLine → Board
+given_by now b kept o =
+    with_found o (record b { round = kept }) (λ t. record b { lines = Tells t.live.sub t.live.rank now t.came ∷ b.lines; round = kept ++ t.live ∷ [] })
 
 -- a publish, by the first cause to refuse it, and by the item
 abbrev pub published_by : World → ℕ → Entry → ℕ → Option PublishRefused → Stepped
@@ -52,9 +53,11 @@ enqueued_by w n sub rank o =
     then goes_on (record w { sessions = change n (on_board (enqueued_in w.items sub rank)) w.sessions }) (out.Moved (v.slot.last + 1))
     else ends w out.UpToDate)
 
--- a session's turn, by the line of its round
-abbrev pub round_given : Session → Option RoundLine → SessionTurn
-round_given s o = with_found o (record { session = s; gives = Idle }) (λ t. next_given s)
+-- a session's turn, by the least tick at which a slot that waits is due, and by the line of its round
+abbrev pub round_given : Option ℕ → Session → Option RoundLine → SessionTurn
+round_given wait s o = with_found o (record { session = s; gives = waits_until wait }) (λ t. next_given s)
 
-abbrev pub round_taken : List Item → Session → SessionTurn
-round_taken items s = round_given (on_board (taken_in (λ v. true) items) s) (round_of (λ v. true) items s.board.lines s.board.round).came
+abbrev pub round_taken : ℕ → List Item → Session → SessionTurn
+round_taken now items s =
+    round_given (least_wait now items s) (on_board (taken_in (is_due now s) now items) s)
+    (round_of (is_due now s) items s.board.lines s.board.round).came

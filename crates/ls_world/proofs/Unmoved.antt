@@ -16,10 +16,12 @@ use Rattle.ls_step.specs.declared.step.Step.{Step}
 use Rattle.ls_step.specs.declared.step.Step.TheVariants as step
 use Rattle.ls_step.specs.Adding.{add_pairs}
 use Rattle.ls_world.specs.World.{World, Session, history_of, change, live_at, enqueued_in, on_board, opened, ended, removed, is_alive}
-use Rattle.ls_world.specs.Acting.{subscribed, add_code, delete_code, create_code, destroyed}
+use Rattle.ls_world.specs.World.{reconfigured, constrained}
+use Rattle.ls_world.specs.Acting.{subscribed, add_code, change_code, constrain_code, create_code, destroyed}
 use Rattle.ls_world.specs.Steps.{Stepped, Once, repeated, session_of, grown, is_whole, cause_to_refuse, publishes, with_link, creates, operated, operates}
 use Rattle.ls_world.specs.Steps.{session_named, refuses}
-use Rattle.ls_world.specs.Steps.{acts, is_opening, malformed, request_on, requests, connects, plain_create, enqueue_once, TurnGives, Gave, Idle, Spent, Over}
+use Rattle.ls_world.specs.Steps.{acts, is_opening, malformed, request_on, requests, connects, plain_create, enqueue_once, TurnGives, Gave, Idle, NotDue, Spent}
+use Rattle.ls_world.specs.Steps.{Over}
 use Rattle.ls_world.specs.Steps.{session_turn, took, take_once, does}
 use Rattle.ls_world.proofs.Rules.{found_rule, session_rule, cond_rule, repeated_keeps}
 
@@ -46,6 +48,7 @@ enqueues_unmoved P k connection sub rank times w p =
 took_unmoved : (P : World → Type 0) → Unmoved P → (w : World) (connection n : ℕ) (s : Session) (g : TurnGives) → P w → P (took w connection n s g).after
 took_unmoved P k w connection n s (Gave text) p = k.sessions w (change n (λ old. s) w.sessions) p
 took_unmoved P k w connection n s Idle p = k.sessions w (change n (λ old. s) w.sessions) p
+took_unmoved P k w connection n s (NotDue tick) p = k.sessions w (change n (λ old. s) w.sessions) p
 took_unmoved P k w connection n s Spent p = p
 took_unmoved P k w connection n s (Over code) p = p
 
@@ -53,7 +56,7 @@ pub takes_unmoved : (P : World → Type 0) → Unmoved P → (connection times :
 takes_unmoved P k connection times w p =
     repeated_keeps P (take_once connection) times w
     (λ v q. session_rule (λ (r : Once). P r.after) v.sessions (session_of v connection) _ _ q
-    (λ n s is. took_unmoved P k v connection n (session_turn v.items s).session (session_turn v.items s).gives q)) p
+    (λ n s is. took_unmoved P k v connection n (session_turn v.tick v.items s).session (session_turn v.tick v.items s).gives q)) p
 
 -- a publish
 pub publishes_unmoved : (P : World → Type 0) → Unmoved P → (w : World) (item : ℕ) (e : Entry) → P w → P (publishes w item e).after
@@ -65,7 +68,7 @@ publishes_unmoved P k w item e p =
 -- requests
 creates_unmoved : (P : World → Type 0) → Unlinked P → (w : World) (connection : ℕ) (c : Create) → P w → P (creates w connection c).after
 creates_unmoved P k w connection c p =
-    let ss : List Session = w.sessions ++ opened (length w.sessions + 1) c.keepalive ∷ [] in
+    let ss : List Session = w.sessions ++ opened (length w.sessions + 1) c.keepalive c.bandwidth ∷ [] in
     found_rule (λ (r : Stepped). P r.after) (create_code w c) _ _
     (λ x. k.links (record w { sessions = ss }) connection (length w.sessions) (k.rest.sessions w ss p)) (λ code x. p)
 
@@ -77,9 +80,11 @@ operated_unmoved P k w connection req n code f p =
 operates_unmoved : (P : World → Type 0) → Unmoved P → (w : World) (connection : ℕ) (req : List ℕ) (o : Op) (n : ℕ) (s : Session) → P w
     → P (operates w connection req o n s).after
 operates_unmoved P k w connection req (op.Add a) n s p = operated_unmoved P k w connection req n (add_code w s a) (subscribed w a) p
-operates_unmoved P k w connection req (op.Delete sub) n s p = operated_unmoved P k w connection req n (delete_code s sub) (on_board (removed sub)) p
-operates_unmoved P k w connection req (op.Reconf sub frequency) n s p = p
-operates_unmoved P k w connection req (op.Constrain bandwidth) n s p = p
+operates_unmoved P k w connection req (op.Delete sub) n s p = operated_unmoved P k w connection req n (change_code s sub) (on_board (removed sub)) p
+operates_unmoved P k w connection req (op.Reconf sub frequency) n s p =
+    operated_unmoved P k w connection req n (change_code s sub) (on_board (reconfigured sub frequency)) p
+operates_unmoved P k w connection req (op.Constrain limit) n s p =
+    operated_unmoved P k w connection req n (constrain_code s) (constrained limit) p
 operates_unmoved P k w connection req op.ForceRebind n s p = p
 operates_unmoved P k w connection req op.Destroy n s p = operated_unmoved P k w connection req n None (ended destroyed) p
 

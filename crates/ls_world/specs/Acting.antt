@@ -15,7 +15,7 @@ use Rattle.ls_value.specs.Values.{are_distinct}
 use Rattle.ls_world.specs.Cutting.{Ask}
 use Rattle.ls_world.specs.Cases.{first_code}
 use Rattle.ls_world.specs.World.{World, Live, Session, definitions, shape_in, fields_in, is_used, all_live}
-use Rattle.ls_world.specs.World.{free_number, added, on_board, alive}
+use Rattle.ls_world.specs.World.{free_number, added, on_board, alive, frequency_in}
 use Rattle.ls_world.specs.declared.TheConstants.{MOST_GROUP_ITEMS, MOST_SESSIONS, MOST_SUBSCRIPTIONS, MOST_UNSENT}
 use Rattle.ls_event.specs.declared.limits.TheConstants.{MOST_FIELDS, MOST_SLOTS}
 use Rattle.ls_value.specs.declared.limits.TheConstants.{GREATEST_NUMBER}
@@ -88,6 +88,7 @@ ask_of a item places =
       item = item;
       mode = a.mode;
       size = buffer_size a.mode a.size;
+      frequency = frequency_in a.mode a.frequency;
       wanted = record { places = places; snapshot = snapshot_asked a.mode a.snapshot };
     }
 
@@ -139,10 +140,14 @@ add_refusals defs free s a =
 abbrev pub add_code : World → Session → Add → Option ℕ
 add_code w s a = first_code (add_refusals (definitions w.items) (free_slots w.sessions) s a)
 
--- what a delete of a subscription is refused for, in this order
-abbrev pub delete_code : Session → ℕ → Option ℕ
-delete_code s sub =
+-- what the end of a subscription, or another frequency of it, is refused for, in this order
+abbrev pub change_code : Session → ℕ → Option ℕ
+change_code s sub =
     first_code ((19, not (is_used sub s.board.round)) ∷ (70, are_too_many s 1) ∷ (74, are_spent s 1) ∷ [])
+
+-- what another bandwidth of a session is refused for: too many lines are owed to its stream
+abbrev pub constrain_code : Session → Option ℕ
+constrain_code s = first_code ((70, nat_lt MOST_UNSENT (length s.owed + 1)) ∷ [])
 
 -- the code of a session that a request destroyed
 abbrev pub destroyed : ℕ

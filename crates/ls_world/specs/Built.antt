@@ -1,8 +1,9 @@
--- Which steps are built yet: all but frequencies and bandwidths, and what tells of lost streams: ticks, losses, binds,
--- and connections over HTTP (this project's state).
-use Rattle.std.specs.Prelude.{ℕ, List, Bool, true, false, not, Option, None, Some, codes}
+-- Which steps are built yet: all but those of lost streams: losses, binds, force_rebind, and connections over HTTP
+-- (this project's state).
+use Rattle.std.specs.Prelude.{ℕ, List, Bool, true, false, Option, codes}
+use Rattle.std.specs.Option.{option_map_or}
 use Rattle.ls_form.specs.declared.form.Pair.{Pair}
-use Rattle.ls_form.specs.Forms.{form_of, has_name}
+use Rattle.ls_form.specs.Forms.{form_of}
 use Rattle.ls_request.specs.declared.request.LinkKind.{LinkKind}
 use Rattle.ls_request.specs.declared.request.LinkKind.TheVariants as link
 use Rattle.ls_request.specs.declared.request.Request.{Request}
@@ -20,41 +21,30 @@ abbrev pub is_ws : LinkKind → Bool
 is_ws link.Ws = true
 is_ws link.Http = false
 
--- a parameter isn't there
-abbrev pub lacks : List Pair → List ℕ → Bool
-lacks ps name = not (has_name ps name)
+-- an operation of a control request, but the end of a stream
+abbrev pub is_built_op : Op → Bool
+is_built_op (op.Add a) = true
+is_built_op (op.Delete sub) = true
+is_built_op (op.Reconf sub frequency) = true
+is_built_op (op.Constrain limit) = true
+is_built_op op.ForceRebind = false
+is_built_op op.Destroy = true
 
--- a subscription without a frequency, its end, or that of the session
-abbrev pub is_built_op : List Pair → Op → Bool
-is_built_op ps (op.Add a) = lacks ps (codes "LS_requested_max_frequency")
-is_built_op ps (op.Delete sub) = true
-is_built_op ps (op.Reconf sub frequency) = false
-is_built_op ps (op.Constrain bandwidth) = false
-is_built_op ps op.ForceRebind = false
-is_built_op ps op.Destroy = true
+abbrev pub is_built_request : Request → Bool
+is_built_request (request.Create c) = true
+is_built_request (request.Bind b) = false
+is_built_request (request.Control c) = is_built_op c.op
+is_built_request request.Wsok = true
 
--- a create_session without a bandwidth
-abbrev pub is_built_request : List Pair → Request → Bool
-is_built_request ps (request.Create c) = lacks ps (codes "LS_requested_max_bandwidth")
-is_built_request ps (request.Bind b) = false
-is_built_request ps (request.Control c) = is_built_op ps c.op
-is_built_request ps request.Wsok = true
-
--- a request that is refused in reading is built
-abbrev pub is_built_if_read : List Pair → Option Request → Bool
-is_built_if_read ps None = true
-is_built_if_read ps (Some r) = is_built_request ps r
-
--- requests on a connection, by their names and pairs; a malformed form is built
+-- requests on a connection, by their names and pairs; one that is refused in reading is built
 abbrev pub are_built : World → ℕ → List ℕ → Option (List Pair) → Bool
-are_built w connection name None = true
-are_built w connection name (Some ps) = is_built_if_read ps (request_on w connection name (Some ps))
+are_built w connection name ps = option_map_or is_built_request (request_on w connection name ps) true
 
 -- whether a step is built
 abbrev pub is_built : World → Step → Bool
 is_built w (step.Set name) = true
 is_built w (step.Item name k fields) = true
-is_built w (step.Tick ms) = false
+is_built w (step.Tick ms) = true
 is_built w (step.Conn name l) = is_ws l
 is_built w (step.Open name) = true
 is_built w (step.Add connection words) = are_built w connection (codes "control") (add_pairs w.line words)

@@ -22,11 +22,12 @@ pub record Wanted : Type 0 where
   pub places : List ℕ
   pub snapshot : Option ℕ
 
--- what is asked of a slot that joins
+-- what is asked of a slot that joins; the greatest frequency is in thousandths of an update per second
 pub record Ask : Type 0 where
   pub item : ℕ
   pub mode : Mode
   pub size : ℕ
+  pub frequency : Option ℕ
   pub wanted : Wanted
 
 -- the client's row, which is all null before the first one

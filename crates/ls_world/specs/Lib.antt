@@ -3,6 +3,7 @@ pub mod Came
 pub mod Tables
 pub mod Lines
 pub mod Cutting
+pub mod Light
 pub mod World
 pub mod Acting
 pub mod RawMode

@@ -1,6 +1,7 @@
 -- One step of the world, and what it prints (this project's profile).
 use Rattle.std.specs.Prelude.{ℕ, zero, suc, ◌+◌, List, [], ◌∷◌, ◌++◌, length, Bool, true, false, Option, None, Some}
-use Rattle.std.specs.Prelude.{nat_lt, nat_le, nat_eq, codes, if◌then◌else◌, slice_get, option_and_then}
+use Rattle.std.specs.Prelude.{◌&&◌, nat_lt, nat_le, nat_eq, codes, if◌then◌else◌, slice_get, option_and_then}
+use Rattle.std.specs.List.{list_any}
 use Rattle.std.specs.Option.{option_map_or}
 use Rattle.ls_event.specs.declared.event.Entry.{Entry}
 use Rattle.ls_event.specs.declared.event.Event.{Event}
@@ -30,10 +31,10 @@ use Rattle.ls_step.specs.declared.step.Repeat.{Repeat}
 use Rattle.ls_step.specs.Adding.{add_pairs}
 use Rattle.ls_world.specs.Cases.{with_found}
 use Rattle.ls_world.specs.Lines.{text_at}
-use Rattle.ls_world.specs.World.{World, Item, Live, Life, Alive, Ending, Ended, Session, history_of, change, live_at}
+use Rattle.ls_world.specs.World.{World, Item, Life, Alive, Ending, Ended, Session, history_of, change, live_at}
 use Rattle.ls_world.specs.World.{enqueued_in, least_far, round_of, taken_in, on_board, is_unsent, given_next, removed}
-use Rattle.ls_world.specs.World.{opened, ended, is_alive}
-use Rattle.ls_world.specs.Acting.{message_of, subscribed, add_code, delete_code, create_code, destroyed}
+use Rattle.ls_world.specs.World.{reconfigured, constrained, is_due, least_wait, opened, ended, is_alive}
+use Rattle.ls_world.specs.Acting.{message_of, subscribed, add_code, change_code, constrain_code, create_code, destroyed}
 use Rattle.ls_value.specs.declared.limits.TheConstants.{GREATEST_NUMBER}
 
 -- the world after a step, and what is printed
@@ -130,15 +131,15 @@ with_link connection session w =
     record w { connections = change connection (λ c. record c { session = Some session }) w.connections }
 
 -- a new session, which is the connection's
-abbrev pub created : World → ℕ → ℕ → World
-created w connection keepalive =
+abbrev pub created : World → ℕ → Create → World
+created w connection c =
     with_link connection (length w.sessions)
-    (record w { sessions = w.sessions ++ opened (length w.sessions + 1) keepalive ∷ [] })
+    (record w { sessions = w.sessions ++ opened (length w.sessions + 1) c.keepalive c.bandwidth ∷ [] })
 
 -- a create_session: the session is made, or it is refused
 abbrev pub creates : World → ℕ → Create → Stepped
 creates w connection c =
-    with_found (create_code w c) (stays (created w connection c.keepalive) [])
+    with_found (create_code w c) (stays (created w connection c) [])
     (λ code. stays w (on w connection (text_of_line (line.ConErr code (message_of code)))))
 
 -- an answer to a control request (TLCP 2.1, REQOK and REQERR)
@@ -159,13 +160,17 @@ operated w connection req n code f =
     (record { after = record w { sessions = change n f w.sessions }; outs = request_ok w connection req })
     (refuses w connection req)
 
--- a subscription is added, or ended; or the session is
+-- a subscription is added, ended, or gets another frequency; the session gets another bandwidth, or is ended
 abbrev pub operates : World → ℕ → List ℕ → Op → ℕ → Session → Stepped
 operates w connection req (op.Add a) n s = operated w connection req n (add_code w s a) (subscribed w a)
 operates w connection req (op.Delete sub) n s =
-    operated w connection req n (delete_code s sub) (on_board (removed sub))
+    operated w connection req n (change_code s sub) (on_board (removed sub))
+operates w connection req (op.Reconf sub frequency) n s =
+    operated w connection req n (change_code s sub) (on_board (reconfigured sub frequency))
+operates w connection req (op.Constrain limit) n s =
+    operated w connection req n (constrain_code s) (constrained limit)
 operates w connection req op.Destroy n s = operated w connection req n None (ended destroyed)
-operates w connection req o n s = unbuilt w
+operates w connection req op.ForceRebind n s = unbuilt w
 
 -- the session that a control request names by its number from 1, or the connection's
 abbrev pub session_named : World → ℕ → Option ℕ → Option ℕ
@@ -229,11 +234,12 @@ enqueue_once connection sub rank w =
     (out.Moved (v.slot.last + 1))
     else ends w out.UpToDate))
 
--- what a session's turn gives: a line, nothing, no number for a line, or that the session has ended for the cause of a
--- code
+-- what a session's turn gives: a line, nothing, nothing before a tick, no number for a line, or that the session has
+-- ended for the cause of a code
 pub data TurnGives : Type 0 where
   Gave : List ℕ → TurnGives
   Idle : TurnGives
+  NotDue : ℕ → TurnGives
   Spent : TurnGives
   Over : ℕ → TurnGives
 
@@ -246,39 +252,51 @@ pub record SessionTurn : Type 0 where
 abbrev pub next_given : Session → SessionTurn
 next_given s = record { session = given_next s; gives = Gave (text_at s.board.lines (s.sent + 1)) }
 
--- where nothing is owed and nothing is unsent: nothing, where the round has no slot; else no number, where none is
--- left; else the round's line, which is then the next unsent one, or nothing
-abbrev pub round_turn : List Item → Session → List Live → SessionTurn
-round_turn items s [] = record { session = s; gives = Idle }
-round_turn items s (v ∷ vs) =
-    if nat_le GREATEST_NUMBER (length s.board.lines) then record { session = s; gives = Spent }
-    else with_found (round_of (λ u. true) items s.board.lines s.board.round).came
-    (record { session = on_board (taken_in (λ u. true) items) s; gives = Idle })
-    (λ t. next_given (on_board (taken_in (λ u. true) items) s))
+-- nothing, where no slot waits; else nothing before the least tick at which one that waits is due
+abbrev pub waits_until : Option ℕ → TurnGives
+waits_until None = Idle
+waits_until (Some tick) = NotDue tick
+
+-- where nothing is owed and nothing is unsent: no number, where a slot is due and none is left; else the round's line,
+-- which is then the next unsent one, or nothing
+abbrev pub round_turn : ℕ → List Item → Session → SessionTurn
+round_turn now items s =
+    if list_any (is_due now s) s.board.round && nat_le GREATEST_NUMBER (length s.board.lines)
+    then record { session = s; gives = Spent }
+    else with_found (round_of (is_due now s) items s.board.lines s.board.round).came
+    (record {
+      session = on_board (taken_in (is_due now s) now items) s;
+      gives = waits_until (least_wait now items s);
+    })
+    (λ t. next_given (on_board (taken_in (is_due now s) now items) s))
 
 -- a session's turn, by what is owed: the first line that is owed; else the next unsent line; else what its round gives
-abbrev pub turn_owing : List Item → Session → List (List ℕ) → SessionTurn
-turn_owing items s (text ∷ owed) = record { session = record s { owed = owed }; gives = Gave text }
-turn_owing items s [] = if is_unsent s then next_given s else round_turn items s s.board.round
+abbrev pub turn_owing : ℕ → List Item → Session → List (List ℕ) → SessionTurn
+turn_owing now items s (text ∷ owed) = record { session = record s { owed = owed }; gives = Gave text }
+turn_owing now items s [] = if is_unsent s then next_given s else round_turn now items s
 
 -- what tells a client that its session has ended (TLCP 2.1, END)
 abbrev pub end_text : ℕ → List ℕ
 end_text code = text_of_line (line.End code (message_of code))
 
 -- a session's turn: one that has ended gives END once, and nothing else
-abbrev pub turn_living : List Item → Session → Life → SessionTurn
-turn_living items s Alive = turn_owing items s s.owed
-turn_living items s (Ending code) = record { session = record s { life = Ended code }; gives = Gave (end_text code) }
-turn_living items s (Ended code) = record { session = s; gives = Over code }
+abbrev pub turn_living : ℕ → List Item → Session → Life → SessionTurn
+turn_living now items s Alive = turn_owing now items s s.owed
+turn_living now items s (Ending code) =
+    record { session = record s { life = Ended code }; gives = Gave (end_text code) }
+turn_living now items s (Ended code) = record { session = s; gives = Over code }
 
-abbrev pub session_turn : List Item → Session → SessionTurn
-session_turn items s = turn_living items s s.life
+-- at a tick
+abbrev pub session_turn : ℕ → List Item → Session → SessionTurn
+session_turn now items s = turn_living now items s s.life
 
 -- a turn of the session of this place: the line is printed, or why there is none
 abbrev pub took : World → ℕ → ℕ → Session → TurnGives → Once
 took w connection n s (Gave text) =
     goes_on (record w { sessions = change n (λ old. s) w.sessions }) (out.Line (name_of w connection) text)
 took w connection n s Idle = ends (record w { sessions = change n (λ old. s) w.sessions }) out.Idle
+took w connection n s (NotDue tick) =
+    ends (record w { sessions = change n (λ old. s) w.sessions }) (out.NotDue tick)
 took w connection n s Spent = ends w out.Spent
 took w connection n s (Over code) = ends w (out.Ended code)
 
@@ -286,7 +304,7 @@ took w connection n s (Over code) = ends w (out.Ended code)
 abbrev pub take_once : ℕ → World → Once
 take_once connection w =
     with_session w.sessions (session_of w connection) (ends w out.NoSession) (λ n s.
-    took w connection n (session_turn w.items s).session (session_turn w.items s).gives)
+    took w connection n (session_turn w.tick w.items s).session (session_turn w.tick w.items s).gives)
 
 -- one step, made at most so often
 abbrev pub does : World → Step → ℕ → Stepped

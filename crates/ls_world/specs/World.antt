@@ -1,7 +1,9 @@
 -- The world: all items with their whole histories, all sessions with all their numbered lines, and the connections
 -- (this project's profile).
 use Rattle.std.specs.Prelude.{◌==◌, ℕ, zero, suc, ◌+◌, List, [], ◌∷◌, ◌++◌, length, map, min, max, Bool, true, false}
-use Rattle.std.specs.Prelude.{◌&&◌, ◌||◌, Option, None, Some, nat_lt, codes, if◌then◌else◌, option_and_then, sum_by}
+use Rattle.std.specs.Prelude.{not, ◌&&◌, ◌||◌, Option, None, Some, nat_lt, nat_le, codes, if◌then◌else◌}
+use Rattle.std.specs.Prelude.{option_and_then}
+use Rattle.std.specs.Prelude.{sum_by}
 use Rattle.std.specs.Option.{option_map_or}
 use Rattle.std.specs.List.{flat_map}
 use Rattle.std.specs.Fmt.{decimal}
@@ -11,6 +13,8 @@ use Rattle.ls_event.specs.declared.event.Mode.TheVariants as mode
 use Rattle.ls_event.specs.declared.item.ItemDef.{ItemDef}
 use Rattle.ls_event.specs.declared.item.Kind.TheVariants as kind
 use Rattle.ls_event.specs.Shapes.{Shape, shape_of}
+use Rattle.ls_budget.specs.Budget.{frequency_tick, credit_tick, due_tick}
+use Rattle.ls_event.specs.Cuts.{is_pending}
 use Rattle.ls_event.specs.Slots.{Slot, enqueued, is_far}
 use Rattle.ls_event.specs.Joining.{plan_of, joined}
 use Rattle.ls_request.specs.declared.request.LinkKind.{LinkKind}
@@ -19,7 +23,7 @@ use Rattle.ls_world.specs.Cases.{with_found}
 use Rattle.ls_world.specs.Came.{Came}
 use Rattle.ls_line.specs.declared.line.Line.TheVariants as line
 use Rattle.ls_line.specs.Lines.{text_of_line}
-use Rattle.ls_world.specs.Lines.{Line, Begins, Ends, Configures, Tells, came}
+use Rattle.ls_world.specs.Lines.{Line, Begins, Ends, Configures, Tells, came, updated, spends_behind, limit_text}
 use Rattle.ls_world.specs.Tables.{keys_shown_at}
 use Rattle.ls_world.specs.Cutting.{Wanted, Ask, Turn, turn}
 
@@ -28,13 +32,14 @@ pub record Item : Type 0 where
   pub definition : ItemDef
   pub history : List Entry
 
--- a slot of a session: the subscription, the rank of the item in it, the item, the slot's number on the item, and what
--- the subscription wants
+-- a slot of a session: the subscription, the rank of the item in it, the item, the slot's number on the item, the
+-- greatest frequency, in thousandths of an update per second, and what the subscription wants
 pub record Live : Type 0 where
   pub sub : ℕ
   pub rank : ℕ
   pub item : ℕ
   pub number : ℕ
+  pub frequency : Option ℕ
   pub wanted : Wanted
   pub slot : Slot
 
@@ -54,10 +59,17 @@ pub data Life : Type 0 where
   Ending : ℕ → Life
   Ended : ℕ → Life
 
--- a session: its board, the number sent last, the lines owed to its stream, its streams, the newest first, and whether
--- it has ended
+-- a session's greatest bandwidth, in thousandths of a kbit per second, and how many lines were numbered when it was
+-- set. The credit is the greatest one then, so that it doesn't depend on the tick.
+pub record Rate : Type 0 where
+  pub limit : Option ℕ
+  pub behind : ℕ
+
+-- a session: its board, its bandwidth, the number sent last, the lines owed to its stream, its streams, the newest
+-- first, and whether it has ended
 pub record Session : Type 0 where
   pub board : Board
+  pub rate : Rate
   pub sent : ℕ
   pub owed : List (List ℕ)
   pub streams : List Stream
@@ -189,6 +201,7 @@ joined_all items free sub rank (a ∷ asks) =
       rank = rank;
       item = a.item;
       number = free a.item;
+      frequency = a.frequency;
       wanted = a.wanted;
       slot = joined_slot items a;
     }
@@ -214,6 +227,15 @@ abbrev pub is_filtered : Mode → Bool
 is_filtered mode.Raw = false
 is_filtered m = true
 
+-- and it has no greatest frequency either
+abbrev pub frequency_in : Mode → Option ℕ → Option ℕ
+frequency_in mode.Raw frequency = None
+frequency_in m frequency = frequency
+
+-- the greatest frequency of a subscription, by what is asked of its first item
+abbrev pub frequency_of : List Ask → Option ℕ
+frequency_of asks = option_and_then (λ a. a.frequency) (first_of asks)
+
 -- whether the updates of a subscription are filtered, by what is asked of its first item
 abbrev pub are_filtered : List Ask → Bool
 are_filtered asks = option_map_or (λ a. is_filtered a.mode) (first_of asks) true
@@ -222,7 +244,8 @@ are_filtered asks = option_map_or (λ a. is_filtered a.mode) (first_of asks) tru
 abbrev pub added : List Item → (ℕ → ℕ) → ℕ → ℕ → List Ask → Board → Board
 added items free sub fields asks b =
     record b {
-      lines = Configures sub (are_filtered asks) ∷ Begins sub (length asks) fields (keys_shown items asks) ∷ b.lines;
+      lines = Configures sub (frequency_of asks) (are_filtered asks)
+          ∷ Begins sub (length asks) fields (keys_shown items asks) ∷ b.lines;
       round = b.round ++ joined_all items free sub 1 asks;
     }
 
@@ -234,6 +257,23 @@ without sub (v ∷ vs) = if is_of sub v then without sub vs else v ∷ without s
 -- a subscription ends: UNSUB is numbered, and its slots leave
 abbrev pub removed : ℕ → Board → Board
 removed sub b = record b { lines = Ends sub ∷ b.lines; round = without sub b.round }
+
+-- the mode of a subscription is that of its first slot
+abbrev pub mode_in : ℕ → List Live → Mode
+mode_in sub round = option_map_or (λ v. v.slot.plan.mode) (live_at sub 1 round) mode.Merge
+
+-- a slot of a subscription has another greatest frequency; the tick of its last update stays
+abbrev pub with_frequency : ℕ → Option ℕ → Live → Live
+with_frequency sub frequency v = if is_of sub v then record v { frequency = frequency } else v
+
+-- a subscription has another greatest frequency: CONF is numbered
+abbrev pub reconfigured : ℕ → Option ℕ → Board → Board
+reconfigured sub frequency b =
+    let m : Mode = mode_in sub b.round in
+    record {
+      lines = Configures sub (frequency_in m frequency) (is_filtered m) ∷ b.lines;
+      round = map (with_frequency sub (frequency_in m frequency)) b.round;
+    }
 
 -- a slot takes its item's next event, if there is one
 abbrev pub enqueue_slot : List Entry → Live → Live
@@ -271,12 +311,37 @@ round_of due items lines (v ∷ vs) =
     with_found t.came (record rest { kept = record v { slot = t.slot } ∷ rest.kept })
     (λ c. record { kept = vs; came = Some (record { live = record v { slot = t.slot }; came = c }) })
 
--- the line that a round gives is numbered, and its slot goes to the round's end
-abbrev pub taken_in : (Live → Bool) → List Item → Board → Board
-taken_in due items b =
+-- the line that a round gives at a tick is numbered, and its slot goes to the round's end
+abbrev pub taken_in : (Live → Bool) → ℕ → List Item → Board → Board
+taken_in due now items b =
     let r : Round = round_of due items b.lines b.round in
     with_found r.came (record b { round = r.kept })
-    (λ t. record b { lines = Tells t.live.sub t.live.rank t.came ∷ b.lines; round = r.kept ++ t.live ∷ [] })
+    (λ t. record b { lines = Tells t.live.sub t.live.rank now t.came ∷ b.lines; round = r.kept ++ t.live ∷ [] })
+
+-- the first tick from now on at which a slot may give a line: its frequency and the session's credit allow it (General
+-- Concepts, frequency and bandwidth)
+abbrev pub due_at : ℕ → Session → Live → ℕ
+due_at now s v =
+    due_tick (frequency_tick v.frequency (updated v.sub v.rank s.board.lines))
+    (credit_tick s.rate.limit (spends_behind s.rate.behind s.board.lines) now)
+
+-- whether it may now
+abbrev pub is_due : ℕ → Session → Live → Bool
+is_due now s v = nat_le (due_at now s v) now
+
+-- whether a slot waits: something of it is pending, and it isn't due
+abbrev pub is_waiting : ℕ → List Item → Session → Live → Bool
+is_waiting now items s v = not (is_due now s v) && is_pending (history_of items v.item) v.slot
+
+-- the ticks at which the slots that wait are due
+abbrev pub waits_of : ℕ → List Item → Session → List Live → List ℕ
+waits_of now items s [] = []
+waits_of now items s (v ∷ vs) =
+    if is_waiting now items s v then due_at now s v ∷ waits_of now items s vs else waits_of now items s vs
+
+-- the least of them, if there is any
+abbrev pub least_wait : ℕ → List Item → Session → Option ℕ
+least_wait now items s = least_of (waits_of now items s s.board.round)
 
 -- a step of the board
 abbrev pub on_board : (Board → Board) → Session → Session
@@ -295,22 +360,35 @@ is_unsent s = nat_lt s.sent (length s.board.lines)
 abbrev pub given_next : Session → Session
 given_next s = if is_unsent s then record s { sent = s.sent + 1; streams = noted_in (s.sent + 1) s.streams } else s
 
+-- what tells of a bandwidth (TLCP 2.1, CONS)
+abbrev pub bandwidth_text : Option ℕ → List ℕ
+bandwidth_text limit = text_of_line (line.Cons (limit_text limit))
+
 -- what a new stream begins with: the session's name, the longest request, the keep-alive in ms and no control link; the
 -- server's name; the bandwidth (TLCP 2.1, CONOK, SERVNAME, CONS)
-abbrev pub opening_lines : ℕ → ℕ → List (List ℕ)
-opening_lines number keepalive =
+abbrev pub opening_lines : ℕ → ℕ → Option ℕ → List (List ℕ)
+opening_lines number keepalive limit =
     text_of_line (line.ConOk (codes "S" ++ decimal number) keepalive) ∷ text_of_line line.ServName
-    ∷ text_of_line (line.Cons (codes "unlimited")) ∷ []
+    ∷ bandwidth_text limit ∷ []
 
--- a session that begins, by its number from 1 and its keep-alive
-abbrev pub opened : ℕ → ℕ → Session
-opened number keepalive =
+-- a session that begins, by its number from 1, its keep-alive and its bandwidth
+abbrev pub opened : ℕ → ℕ → Option ℕ → Session
+opened number keepalive limit =
     record {
       board = record { lines = []; round = [] };
+      rate = record { limit = limit; behind = 0 };
       sent = 0;
-      owed = opening_lines number keepalive;
+      owed = opening_lines number keepalive limit;
       streams = record { from = 0; given = [] } ∷ [];
       life = Alive;
+    }
+
+-- a session has another bandwidth: CONS is owed, and the credit begins anew
+abbrev pub constrained : Option ℕ → Session → Session
+constrained limit s =
+    record s {
+      rate = record { limit = limit; behind = length s.board.lines };
+      owed = s.owed ++ bandwidth_text limit ∷ [];
     }
 
 -- a session that ends for the cause of a code: its slots leave, and its client is to be told

@@ -28,6 +28,9 @@ pub const MOST_SESSIONS: usize = 1024;
 /// How many numbered lines may wait to be given on a session's stream.
 pub const MOST_UNSENT: usize = 512;
 
+/// How many bytes a line has at most, without CR LF.
+pub const MOST_LINE: usize = 16_384;
+
 /// Why a line of a script isn't done.
 #[derive(Clone, Copy, Debug, PartialEq, Eq)]
 pub enum Refused {

@@ -36,6 +36,8 @@ counted_hub : (h : Hub) (w : World) → StandsHub h w → StandsHub h (counted w
 counted_hub h w st =
     record {
       set = st.set;
+      tick = st.tick;
+      in_range = st.in_range;
       definitions = st.definitions;
       cells = st.cells;
       sessions = st.sessions;

@@ -1,5 +1,5 @@
 //! The calls of sessions, made by hand on items of one's own, as another front end makes them: of a turn `turn`,
-//! `look`, `answer` and `pass`, until it asks no more.
+//! `look` or `pending`, `answer` and `pass`, until it asks no more.
 ghost use Rattle.std.specs.Prelude.{IfSome};
 ghost use Rattle.ls_request.specs.Ranges.{AddFits, OpFits};
 
@@ -48,6 +48,13 @@ U,1,1,1
 EOS,1,1
 U,1,1,2
 ";
+
+/// What is told of another frequency, the line that it held back, and what is told of another bandwidth.
+const CONFIGURED: &[u8] = b"CONF,1,2.0,filtered\n";
+
+const HELD: &[u8] = b"U,1,1,3\n";
+
+const CONSTRAINED: &[u8] = b"CONS,1.25\n";
 
 /// The line of a client's message, alone and behind the lines that open a session.
 const MESSAGE: &[u8] = b"MSGDONE,chat,1";
@@ -170,6 +177,18 @@ fn publishes(
 
 /// What a session asks of a slot is answered, and the slot moves past what was taken.
 fn tell(session: &mut Session, cells: &mut Cells, ask: Ask) -> Result<(), NoMemory> {
+    if !ask.due {
+        let waits = cells.pending(ask.slot.item, ask.slot.slot);
+        session.answer(
+            ask,
+            if waits {
+                Reply::Waiting
+            } else {
+                Reply::Nothing
+            },
+        )?;
+        return Ok(());
+    }
     match cells.look(ask.slot.item, ask.slot.slot)? {
         None => {
             session.answer(ask, Reply::Nothing)?;
@@ -182,29 +201,38 @@ fn tell(session: &mut Session, cells: &mut Cells, ask: Ask) -> Result<(), NoMemo
     Ok(())
 }
 
-/// A session's turn. Whether it gives a line.
-fn gives(session: &mut Session, cells: &mut Cells) -> Result<bool, NoMemory> {
+/// How a session's turn at a tick ends: with a line, or how else.
+fn turned(session: &mut Session, cells: &mut Cells, now: u64) -> Result<Turn, NoMemory> {
     for _ in 0..100 {
-        match session.turn() {
-            Turn::Send => return Ok(true),
+        match session.turn(now) {
             Turn::Ask(ask) => tell(session, cells, ask)?,
-            _ => return Ok(false),
+            turn => return Ok(turn),
         }
     }
-    Ok(false)
+    Ok(Turn::Idle)
 }
 
-/// The lines that a session's next turns give, each ended by LF.
-fn lines(alloc: Global, session: &mut Session, cells: &mut Cells) -> Result<Vec<u8>, NoMemory> {
+/// The lines that a session's next turns give at a tick, each ended by LF.
+fn lines_at(
+    alloc: Global,
+    session: &mut Session,
+    cells: &mut Cells,
+    now: u64,
+) -> Result<Vec<u8>, NoMemory> {
     let mut text = Vec::new(alloc);
     for _ in 0..100 {
-        if !gives(session, cells)? {
+        if turned(session, cells, now)? != Turn::Send {
             return Ok(text);
         }
         text.extend_from_slice(session.current())?;
         text.push(b'\n')?;
     }
     Ok(text)
+}
+
+/// Those at the first tick.
+fn lines(alloc: Global, session: &mut Session, cells: &mut Cells) -> Result<Vec<u8>, NoMemory> {
+    lines_at(alloc, session, cells, 0)
 }
 
 /// A session's slot takes its item's next event. Whether there was one.
@@ -226,7 +254,7 @@ fn session_of(alloc: Global, number: u64) -> Result<Session, NoMemory> {
         bandwidth: None,
         length: None,
     };
-    Session::new(alloc, number, &create)
+    Session::new(alloc, number, &create, 0)
 }
 
 /// A config's items and two sessions.
@@ -299,6 +327,63 @@ fn is_numbered(alloc: Global) -> Result<bool, NoMemory> {
     let kept = session.line(1) == Some(MESSAGE) && session.last() == 1 && session.sent() == 0;
     let given = lines(alloc, &mut session, &mut cells)?;
     Ok(number == 1 && kept && given.as_slice() == MESSAGE_BEHIND && session.sent() == 1)
+}
+
+/// Both sessions subscribe and have updates enqueued, and the first one is told all of it at tick 7.
+fn first_told(alloc: Global, served: &mut Served, config: &Config) -> Result<bool, NoMemory> {
+    let began = all_subscribe(alloc, served, config)?;
+    let published = all_published(alloc, served, config);
+    let enqueued = all_enqueue(served)?;
+    let told = lines_at(alloc, &mut served.one, &mut served.cells, 7)?;
+    Ok(began && published && enqueued && told.as_slice() == FIRST)
+}
+
+/// A slot gets a frequency of two updates per second, and takes a further update.
+fn limits(alloc: Global, served: &mut Served, config: &Config) -> Result<bool, NoMemory> {
+    let limited = served.one.reconf(1, Some(2000)).is_ok();
+    let published = publishes(alloc, &mut served.cells, config, 0, 2, b"x=3");
+    let moved = enqueues(&served.one, &mut served.cells, 1, 1)?;
+    Ok(limited && published && moved)
+}
+
+/// The slot waits one ms before its tick, and then gives its line.
+fn waits(alloc: Global, served: &mut Served) -> Result<bool, NoMemory> {
+    let early = lines_at(alloc, &mut served.one, &mut served.cells, 506)?;
+    let turn = turned(&mut served.one, &mut served.cells, 506)?;
+    let late = lines_at(alloc, &mut served.one, &mut served.cells, 507)?;
+    Ok(
+        early.as_slice() == CONFIGURED
+            && turn == Turn::NotDue { at: 507 }
+            && late.as_slice() == HELD,
+    )
+}
+
+/// The session gets a bandwidth, and its client is told.
+fn constrains(alloc: Global, served: &mut Served) -> Result<bool, NoMemory> {
+    let constrained = served.one.constrain(Some(1250), 508).is_ok();
+    let told = lines_at(alloc, &mut served.one, &mut served.cells, 508)?;
+    Ok(constrained && told.as_slice() == CONSTRAINED)
+}
+
+/// Whether a slot with a frequency waits for its tick.
+fn are_limited(alloc: Global, served: &mut Served, config: &Config) -> Result<bool, NoMemory> {
+    let told = first_told(alloc, served, config)? && limits(alloc, served, config)?;
+    Ok(told && waits(alloc, served)?)
+}
+
+/// Whether it does, and another bandwidth is told at once.
+fn is_limited(alloc: Global) -> Result<bool, NoMemory> {
+    let Ok(config) = read_config(alloc, ITEMS) else {
+        return Ok(false);
+    };
+    let mut served = begun(alloc, &config)?;
+    Ok(are_limited(alloc, &mut served, &config)? && constrains(alloc, &mut served)?)
+}
+
+#[test]
+fn a_slot_waits_until_it_is_due(rt: HostRuntime) -> Result<(), Fail> {
+    assert!(rt; is_limited(rt.alloc())?);
+    Ok(())
 }
 
 #[test]

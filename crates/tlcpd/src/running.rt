@@ -197,6 +197,8 @@ pub fn run<R: Wait, S: Source, K: Sink>(
 }
 
 #[cfg(test)]
+mod budgets;
+#[cfg(test)]
 mod codes;
 #[cfg(test)]
 mod longest;

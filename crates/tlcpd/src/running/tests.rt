@@ -1,5 +1,6 @@
 //! Runs over memory: worked scripts, the greatest sizes, and reads and writes that fail, each in turn.
 use super::*;
+use crate::running::budgets::{BUDGETS, CHANGES, LOST, OWED};
 use crate::running::codes::{FIELDS, LINES, REQUESTED, SESSIONS, SLOTS, SUBSCRIPTIONS};
 use crate::running::longest::{
     BACKLOG, BYTES, KEYS, Long, RAW_256, RAW_300, SILENT, WIDE, text_of,
@@ -94,6 +95,7 @@ fn worked_scripts(rt: HostRuntime) -> Result<(), Fail> {
     assert!(rt; first_unlike(&rt, rt.alloc(), &WORKED)?.is_none());
     assert!(rt; first_unlike(&rt, rt.alloc(), &REFUSED)?.is_none());
     assert!(rt; first_unlike(&rt, rt.alloc(), &REQUESTED)?.is_none());
+    assert!(rt; first_unlike(&rt, rt.alloc(), &BUDGETS)?.is_none());
     Ok(())
 }
 
@@ -199,7 +201,16 @@ fn the_greatest_sizes(rt: HostRuntime) -> Result<(), Fail> {
 
 #[test]
 fn the_limits_of_requests(rt: HostRuntime) -> Result<(), Fail> {
-    let long = [SESSIONS, SUBSCRIPTIONS, LINES, SLOTS, FIELDS];
+    let long = [
+        SESSIONS,
+        SUBSCRIPTIONS,
+        LINES,
+        SLOTS,
+        FIELDS,
+        CHANGES,
+        OWED,
+        LOST,
+    ];
     assert!(rt; first_long_unlike(&rt, rt.alloc(), &long)?.is_none());
     Ok(())
 }

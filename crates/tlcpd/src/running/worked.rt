@@ -169,7 +169,7 @@ pub(crate) const WORKED: [Row; 17] = [
 ];
 
 /// Scripts with a line that is refused, and what is printed before it.
-pub(crate) const REFUSED: [Row; 13] = [
+pub(crate) const REFUSED: [Row; 8] = [
     // Undeclared item.
     (
         b"item q MERGE x\npub 1 1 ghost x=1\n",
@@ -186,33 +186,9 @@ pub(crate) const REFUSED: [Row; 13] = [
     (b"stop\n", Status::BadScript { line: 1 }, b""),
     // Over http.
     (b"conn c http\n", Status::NotBuilt { line: 1 }, b""),
-    // A tick.
-    (b"tick 5\n", Status::NotBuilt { line: 1 }, b""),
     // A loss.
     (b"open c\nlose c\n", Status::NotBuilt { line: 2 }, b""),
-    // A frequency.
-    (
-        b"item q MERGE x\nopen c\nadd c 1 q x MERGE frequency=unlimited\n",
-        Status::NotBuilt { line: 3 },
-        b"",
-    ),
-    // A bandwidth.
-    (
-        b"conn c ws\nreq c create_session LS_requested_max_bandwidth=unlimited\n",
-        Status::NotBuilt { line: 2 },
-        b"",
-    ),
-    // A change of a frequency, of a bandwidth, of a stream, and a bind.
-    (
-        b"open c\nreq c control LS_reqId=1&LS_op=reconf&LS_subId=1&LS_requested_max_frequency=1\n",
-        Status::NotBuilt { line: 2 },
-        b"",
-    ),
-    (
-        b"open c\nreq c control LS_reqId=1&LS_op=constrain&LS_requested_max_bandwidth=1\n",
-        Status::NotBuilt { line: 2 },
-        b"",
-    ),
+    // A change of a stream, and a bind.
     (
         b"open c\nreq c control LS_reqId=1&LS_op=force_rebind\n",
         Status::NotBuilt { line: 2 },

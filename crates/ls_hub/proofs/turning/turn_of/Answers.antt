@@ -1,25 +1,53 @@
-use Rattle.std.proofs.Common.{subst}
-use Rattle.ls_session.specs.Record.{turned}
-use Rattle.ls_session.specs.Session.{AnswersTurn}
-use Rattle.ls_hub.specs.Turning.{turn_from, GoesOn, TurnEnded}
-use Rattle.ls_hub.proofs.Telling.{turn_went, question, no_question, goes_from}
+use Rattle.ls_hub.proofs.Hubs.{on_failed}
+use Rattle.ls_hub.proofs.Telling.{goes_from, turns_on, no_question, asks_this, ask_failed, goes_then}
 use Rattle.ls_hub.proofs.turning.turn_of.Goals as goal
 
 pub loop-init : goal.loop-init
-loop-init c = λ items before behind r st cells. goes_from items before behind r _ _ st cells
+loop-init c = λ items before behind r st early range cells. goes_from c.args.now items before behind r _ _ early st cells
 
 pub returns-in_default : goal.returns-in_default
-returns-in_default c = λ items before behind r st cells.
-    let g = c.loop.invariant items before behind r st cells in
-    let t = c.turn.ensures g.asking g.session in
-    subst (λ x. TurnEnded items before behind x c.turn.result c.turn.new.self c.loop.cells) g.turn
-    (no_question items before behind g.asking (turn_from items g.asking) _ _ c.turn.result c.turn.new.self c.loop.cells (turn_went items g.asking) t.0
-    c.in_default.not-Ask t.1 g.cells)
+returns-in_default c = record {
+  ok = λ items before behind r st early range cells.
+      let g = c.loop.invariant items before behind r st early range cells in
+      no_question c.args.now items before behind r c.turn.result c.turn.new.self c.loop.cells
+      (turns_on c.args.now items before behind r c.turn.result c.loop.session c.turn.new.self c.loop.cells g (c.turn.ensures g.asking g.session g.early range))
+      c.in_default.not-Ask;
+  err = tt;
+}
+
+pub returns-in_err-tell-in-Ask-clause-err : goal.returns-in_err-tell-in-Ask-clause-err
+returns-in_err-tell-in-Ask-clause-err c = on_failed c.from_residual.result (λ items before behind r st early range cells.
+    let g = c.loop.invariant items before behind r st early range cells in
+    let h = turns_on c.args.now items before behind r c.turn.result c.loop.session c.turn.new.self c.loop.cells g
+    (c.turn.ensures g.asking g.session g.early range) in
+    let a = asks_this c.args.now items before behind r c.turn.result c.turn.new.self c.loop.cells h c.in-Ask.ask c.in-Ask.is in
+    ask_failed c.args.now items before behind r c.turn.result c.turn.new.self c.loop.cells h c.in-Ask.ask a c.tell.new.session c.tell.new.cells
+    (c.in_err-tell-in-Ask.ensures.err c.args.now items before behind h.asking a.question a.asked))
 
 pub loop-preserved : goal.loop-preserved
-loop-preserved c = λ items before behind r st cells.
-    let g = c.loop.invariant items before behind r st cells in
-    let t = c.turn.ensures g.asking g.session in
-    let q = question _ c.in-Ask.ask c.turn.new.self (subst (λ x. AnswersTurn (turned g.asking).gives x c.turn.new.self) c.in-Ask.is t.0) in
-    subst (λ x. GoesOn items before behind x c.tell.new.session c.tell.new.cells) g.turn
-    (c.in_ok-tell-in-Ask.ensures items before behind g.asking q.live (record { gives = q.gives; session = t.1; cells = g.cells }) q.ask)
+loop-preserved c = λ items before behind r st early range cells.
+    let g = c.loop.invariant items before behind r st early range cells in
+    let h = turns_on c.args.now items before behind r c.turn.result c.loop.session c.turn.new.self c.loop.cells g
+    (c.turn.ensures g.asking g.session g.early range) in
+    let a = asks_this c.args.now items before behind r c.turn.result c.turn.new.self c.loop.cells h c.in-Ask.ask c.in-Ask.is in
+    goes_then c.args.now items before behind r c.turn.result c.turn.new.self c.loop.cells h c.in-Ask.ask a c.tell.new.session c.tell.new.cells
+    (c.in_ok-tell-in-Ask.ensures.ok c.args.now items before behind h.asking a.question a.asked a.is)
+
+pub returns-in-Ask-turn-clause-err : goal.returns-in-Ask-turn-clause-err
+returns-in-Ask-turn-clause-err c = λ items before behind r st early range cells.
+    let g = c.loop.invariant items before behind r st early range cells in
+    let h = turns_on c.args.now items before behind r c.turn-2.result c.loop.session c.turn-2.new.self c.loop.cells g
+    (c.turn-2.ensures g.asking g.session g.early range) in
+    let a = asks_this c.args.now items before behind r c.turn-2.result c.turn-2.new.self c.loop.cells h c.in-Ask-turn.field-0 c.in-Ask-turn.is in
+    ask_failed c.args.now items before behind r c.turn-2.result c.turn-2.new.self c.loop.cells h c.in-Ask-turn.field-0 a c.turn-2.new.self c.loop.cells
+    a.asked
+
+pub returns-in_default-turn : goal.returns-in_default-turn
+returns-in_default-turn c = record {
+  ok = λ items before behind r st early range cells.
+      let g = c.loop.invariant items before behind r st early range cells in
+      no_question c.args.now items before behind r c.turn-2.result c.turn-2.new.self c.loop.cells
+      (turns_on c.args.now items before behind r c.turn-2.result c.loop.session c.turn-2.new.self c.loop.cells g
+      (c.turn-2.ensures g.asking g.session g.early range)) c.in_default-turn.not-Ask;
+  err = tt;
+}

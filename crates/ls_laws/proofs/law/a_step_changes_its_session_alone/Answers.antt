@@ -1,4 +1,4 @@
-use Rattle.ls_laws.proofs.Others.{session_left, items_left}
+use Rattle.ls_laws.proofs.Others.{session_left, items_left, tick_left}
 use Rattle.ls_laws.proofs.law.a_step_changes_its_session_alone.Goals as goal
 
 pub returns-clause-sessions : goal.returns-clause-sessions
@@ -6,3 +6,6 @@ returns-clause-sessions c = session_left
 
 pub returns-clause-items : goal.returns-clause-items
 returns-clause-items c = items_left
+
+pub returns-clause-clock : goal.returns-clause-clock
+returns-clause-clock c = tick_left

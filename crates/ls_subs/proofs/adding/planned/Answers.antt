@@ -24,6 +24,7 @@ returns c =
       items = subst (λ (ns : List ℕ). ArePlanItems defs a.sub 1 (map (ask_at defs a) ns) c.in_ok-items.items.items) c.requires.group c.in_ok-items.ensures;
       begins = c.in_ok-begins.ensures ∙ begins_are defs a c.args.group.now c.in_ok-items.items.items _ _ _ c.requires.group refl c.len.ensures
           (c.first_keys.ensures ∙ ap first_keys c.deref.ensures.value) c.in_ok-items.ensures;
-      configures = c.in_ok-configures.ensures ∙ configures_are defs a c.args.group.now _ c.requires.group
-          (subst (λ (ns : List ℕ). 1 ≤ length ns) (sym c.requires.group) (group_some defs a.group c.requires.is_group)) c.is_filtered.ensures;
+      configures = c.in_ok-configures.ensures ∙ configures_are defs a c.args.group.now _ _ c.requires.group
+          (subst (λ (ns : List ℕ). 1 ≤ length ns) (sym c.requires.group) (group_some defs a.group c.requires.is_group)) c.frequency_in.ensures
+          c.is_filtered.ensures;
     }

@@ -11,11 +11,11 @@ returns-then-len-ge-GREATEST_NUMBER-clause-code c = λ w st.
     sym (codes_are w c.args.create.now true false true (sym (c.has_set.ensures w st.set) ∙ c.if-not-has_set.false)
     (few MOST_SESSIONS (alive w.sessions) (omega (arith, c.if-self-ge-MOST_SESSIONS.false, st.alive)))
     (many GREATEST_NUMBER (length w.sessions)
-    (omega (arith, c.if-len-ge-GREATEST_NUMBER.true, c.len.ensures, c.args.self.now.sessions.ok.0, as_many _ _ st.sessions))))
+    (omega (arith, c.if-len-ge-GREATEST_NUMBER.true, c.len.ensures, c.args.self.now.sessions.ok.0, as_many _ _ _ st.sessions))))
 
 pub returns-else-len-ge-GREATEST_NUMBER-clause-code : goal.returns-else-len-ge-GREATEST_NUMBER-clause-code
 returns-else-len-ge-GREATEST_NUMBER-clause-code c = λ w st.
     sym (codes_are w c.args.create.now true false false (sym (c.has_set.ensures w st.set) ∙ c.if-not-has_set.false)
     (few MOST_SESSIONS (alive w.sessions) (omega (arith, c.if-self-ge-MOST_SESSIONS.false, st.alive)))
     (few GREATEST_NUMBER (length w.sessions)
-    (omega (arith, c.if-len-ge-GREATEST_NUMBER.false, c.len.ensures, c.args.self.now.sessions.ok.0, as_many _ _ st.sessions))))
+    (omega (arith, c.if-len-ge-GREATEST_NUMBER.false, c.len.ensures, c.args.self.now.sessions.ok.0, as_many _ _ _ st.sessions))))

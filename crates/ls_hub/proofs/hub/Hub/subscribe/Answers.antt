@@ -9,7 +9,7 @@ use Rattle.ls_hub.proofs.hub.Hub.subscribe.Goals as goal
 pub returns-in-Err-Code-clause-did : goal.returns-in-Err-Code-clause-did
 returns-in-Err-Code-clause-did c = λ w s st living.
     add_refused c.args.self.now _ w s c.args.place c.index_mut.result.now c.prepare_add.new.self c.args.add.now c.free-free.result c.in-Err-Code.code st living
-    (record { low = c.requires.place; at = c.index_mut.ensures.value; config = refl; connections = refl; sessions = refl }) refl refl
+    (record { low = c.requires.place; at = c.index_mut.ensures.value; config = refl; tick = refl; connections = refl; sessions = refl }) refl refl
     (c.free-free.ensures w.items _ st.cells) (c.in-Err-Code.ensures.refused c.in-Err-Code.code (ap (λ x. Err x) c.in-Err-Code.field-0-is))
     c.in-Err-Code.ensures.same
 
@@ -24,6 +24,7 @@ returns-in_ok-numbers-in-Ok-clause-did c = λ w s st living.
       low = c.requires.place;
       at = c.index_mut.ensures.value;
       config = refl;
+      tick = refl;
       connections = refl;
       sessions = set-set ks c.args.place c.prepare_add.new.self c.finish_add.new.self;
     }) refl (c.free-free.ensures w.items _ st.cells) c.in-Ok.ensures.accepted

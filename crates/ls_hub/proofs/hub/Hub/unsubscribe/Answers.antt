@@ -1,20 +1,20 @@
 use Rattle.std.proofs.Common.{refl, ap}
 use Rattle.std.specs.Prelude.{Err}
-use Rattle.ls_world.specs.Acting.{delete_code}
+use Rattle.ls_world.specs.Acting.{change_code}
 use Rattle.ls_world.specs.World.{on_board, removed}
 use Rattle.ls_hub.proofs.Operated.{refused, unsubscribed}
 use Rattle.ls_hub.proofs.hub.Hub.unsubscribe.Goals as goal
 
 pub returns-in-Err-Code-clause-did : goal.returns-in-Err-Code-clause-did
 returns-in-Err-Code-clause-did c = λ w s st living.
-    refused c.args.self.now _ w s c.args.place c.index_mut.result.now c.delete.new.self (λ x. delete_code x c.args.sub) c.in-Err-Code.code
+    refused c.args.self.now _ w s c.args.place c.index_mut.result.now c.delete.new.self (λ x. change_code x c.args.sub) c.in-Err-Code.code
     (on_board (removed c.args.sub)) st living
-    (record { low = c.requires; at = c.index_mut.ensures.value; config = refl; connections = refl; sessions = refl }) refl refl
+    (record { low = c.requires; at = c.index_mut.ensures.value; config = refl; tick = refl; connections = refl; sessions = refl }) refl refl
     (c.in-Err-Code.ensures.refused c.in-Err-Code.code (ap (λ x. Err x) c.in-Err-Code.field-0-is)) c.in-Err-Code.ensures.err
 
 pub returns-in-Ok-clause-did : goal.returns-in-Ok-clause-did
 returns-in-Ok-clause-did c = λ w s st living.
     unsubscribed c.args.self.now _ w s c.args.place c.index_mut.result.now c.delete.new.self c.args.sub c.in-Ok.slots.items st living
-    (record { low = c.requires; at = c.index_mut.ensures.value; config = refl; connections = refl; sessions = refl }) refl
+    (record { low = c.requires; at = c.index_mut.ensures.value; config = refl; tick = refl; connections = refl; sessions = refl }) refl
     c.in-Ok.ensures.accepted
     (λ items lives left vs cells is. c.leave_all.ensures items lives left vs cells (rw c.deref.ensures.value is))

@@ -1,8 +1,23 @@
-use Rattle.std.proofs.Common.{◌≡◌, ap, true, false}
+use Rattle.std.proofs.Common.{◌≡◌, Some, ap, true, false, refl, sym, ◌∙◌}
+use Rattle.ls_world.specs.World.{due_at}
+use Rattle.ls_session.specs.declared.asking.Asked.{Asked}
 use Rattle.ls_session.specs.declared.session.Ask.{Ask}
-use Rattle.ls_session.proofs.Answering.{standing_is}
+use Rattle.ls_session.proofs.Replies.{kept_same, kept_asked, not_due_at, waited_stands, ok_then}
 use Rattle.ls_session.proofs.session.Session.answer.Goals as goal
 
+pub returns-then-is_asked-clause-waiting : goal.returns-then-is_asked-clause-waiting
+returns-then-is_asked-clause-waiting c =
+    ok_then _ _ c.answer_asked.result
+    (λ told f. λ r v st is named waits.
+    let kept : c.args.self.now.asking.question ≡ Some c.in-Some.asked = sym c.question.ensures.asked ∙ c.in-Some.is in
+    let same = kept_same c.args.self.now r (record { live = v; due = false }) c.in-Some.asked st is kept in
+    let due = not_due_at c.in-Some.asked.due (due_at r.tick r.session v) r.tick (ap (λ (a : Asked). a.due) same)
+    (ap (λ (a : Ask). a.due) (kept_asked c.args.self.now r v false c.in-Some.asked st is kept)) in
+    let did = f (due_at r.tick r.session v) waits due in
+    (did.0, waited_stands c.args.self.now c.answer_asked.new.self r v (due_at r.tick r.session v) st refl did.1))
+    c.answer_asked.ensures.waiting
+
 pub returns-else-is_asked-clause-taken : goal.returns-else-is_asked-clause-taken
-returns-else-is_asked-clause-taken c = λ r v t st is named took suits.
-    absurd (let x : false ≡ true = c.if-is_asked.ensures.1 (standing_is c.args.self.now r v c.args.ask.slot st is (ap (λ (a : Ask). a.slot) named)) in cc)
+returns-else-is_asked-clause-taken c = λ r v t st is named took suits light.
+    absurd (let x : false ≡ true = c.if-is_asked.ensures.1 (kept_asked c.args.self.now r v true c.in-Some.asked st is
+    (sym c.question.ensures.asked ∙ c.in-Some.is) ∙ sym named) in cc)

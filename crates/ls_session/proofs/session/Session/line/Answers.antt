@@ -15,5 +15,5 @@ returns-in-None-clause-kept c = λ r st.
       c.if-n-sent.false,
       c.if-n-self.false,
       waiting c.args.self.now r st,
-      st.last,
+      st.lines.last,
     )) in cc)

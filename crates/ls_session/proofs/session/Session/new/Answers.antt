@@ -1,19 +1,19 @@
-use Rattle.std.proofs.Common.{◌≡◌, ◌∙◌, refl, [], true, false, arith}
+use Rattle.std.proofs.Common.{◌≡◌, ◌∙◌, ◌≤◌, map, ap, refl, sym, subst, [], arith}
+use Rattle.ls_world.specs.World.{opened}
+use Rattle.ls_session.specs.Record.{begun_anew}
+use Rattle.ls_session.specs.Asking.{Asking}
+use Rattle.ls_session.specs.Session.{StandsRound}
+use Rattle.ls_session.proofs.Moves.{round_anew}
 use Rattle.ls_session.proofs.session.Session.new.Goals as goal
 
 pub returns : goal.returns
-returns c = record {
-  owed = c.from_vec-owed.ensures.items ∙ c.in_ok-opening.ensures;
-  unsent = c.new.ensures.items;
-  last = refl;
-  most = omega arith;
-  sent = omega arith;
-  epoch = refl;
-  life = refl;
-  end = (c.in_ok-destroyed.ensures, c.in_ok-timed_out.ensures);
-  round = c.new-5.ensures.items;
-  subs = c.new-4.ensures [];
-  asked = refl;
-  asks = refl;
-  left = λ e. absurd (let x : false ≡ true = e in cc);
+returns c = λ most. record {
+  lines = c.in_ok-lines.ensures.stands;
+  short = c.in_ok-lines.ensures.short;
+  round = subst (λ (x : Asking). StandsRound x (begun_anew c.args.now (opened c.args.id c.args.create.now.keepalive c.args.create.now.bandwidth)))
+      (sym c.in_ok-asking.ensures.1)
+      (round_anew c.in_ok-asking.asking c.args.now (opened c.args.id c.args.create.now.keepalive c.args.create.now.bandwidth) most
+      (ap (λ ss. map (λ s. s.slot) ss) c.in_ok-asking.ensures.0));
+  subs = c.new-3.ensures [];
+  rate = record { latest = omega (arith, c.new-4.ensures.latest); behind = omega arith; spends = c.new-4.ensures.stands };
 }

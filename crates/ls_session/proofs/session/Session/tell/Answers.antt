@@ -1,37 +1,67 @@
-use Rattle.std.proofs.Common.{◌∙◌, ap, refl, sym, subst, Some, List, ℕ, arith, false}
-use Rattle.std.proofs.lemmas.Option.{slice_get_within}
-use Rattle.ls_subs.specs.Standing.{ref_of}
-use Rattle.ls_session.specs.Record.{Record}
-use Rattle.ls_session.specs.Session.{StandsSession, NumbersLine}
+use Rattle.std.proofs.Common.{◌≡◌, ◌≤◌, ◌<◌, ◌^◌, ℕ, List, ap, sym, ◌∙◌, subst, true}
+use Rattle.ls_budget.specs.declared.limits.TheConstants.{GREATEST_TICK}
+use Rattle.ls_turns.specs.Round.{gave}
+use Rattle.ls_turns.specs.declared.slot_ref.SlotRef.{SlotRef}
+use Rattle.ls_subs.specs.declared.told.Told.TheVariants as tells
+use Rattle.ls_session.specs.Asking.{with_turns}
+use Rattle.ls_session.specs.Record.{answered}
+use Rattle.ls_session.specs.Session.{StandsSession, NumbersLine, SpendsText}
 use Rattle.ls_session.specs.declared.session.Session.{Session as Kept}
-use Rattle.ls_session.proofs.Moves.{on_err, stands_same, unmoved_board}
-use Rattle.ls_session.proofs.Answering.{asked_of, asked_found, answered_silent, answered_line}
+use Rattle.ls_session.proofs.Replies.{asked_slot, question_parts, answered_silent, answered_line, tells_short, update_rate, other_rate}
 use Rattle.ls_session.proofs.session.Session.tell.Goals as goal
 
-pub slot_to_back-requires : goal.slot_to_back-requires
-slot_to_back-requires c =
-    omega (arith, slice_get_within c.args.self.now.round.items c.args.self.now.asked c.args.slot c.requires.named, c.args.self.now.round.ok.0)
+pub returns-in-Nothing-clause-told : goal.returns-in-Nothing-clause-told
+returns-in-Nothing-clause-told c = λ r v st is named suits light.
+    let parts = question_parts r (record { live = v; due = true }) is in
+    let tick : c.tick.result ≡ r.tick = c.tick.ensures ∙ st.round.tick in
+    answered_silent c.args.self.now c.reserve.new.self c.accept.new.self c.again.new.self r v c.args.taken
+    (record { told = c.in_ok-told.told; before = c.in_ok-text.text.items; after = c.accept.new.text.items }) st
+    (record { same = c.in_ok-reserve.ensures.unsent; rest = c.in_ok-reserve.ensures.rest }) c.again.ensures c.in-Nothing.is
+    (c.in_ok-told.ensures.accepted (asked_slot r v) parts.0 (sym named) (sym tick) (subst (λ (n : ℕ). n ≤ GREATEST_TICK) (sym tick) st.round.most) suits
+    st.subs)
 
-pub returns-in_err-told-clause-err : goal.returns-in_err-told-clause-err
-returns-in_err-told-clause-err c =
-    let k' : Kept = record c.args.self.now { unsent = c.reserve.new.self; subs = c.accept.new.self } in
-    on_err ((r : Record) → StandsSession c.args.self.now r → StandsSession k' r) _ (λ r st.
-    stands_same c.args.self.now k' r st (unmoved_board c.args.self.now k' refl) c.reserve.ensures.items refl refl
-    (c.in_err-told.ensures.stands r.session.board.lines r.session.board.round st.subs) refl refl)
+pub returns-in-Update-clause-told : goal.returns-in-Update-clause-told
+returns-in-Update-clause-told c = λ r v st is named suits light.
+    let parts = question_parts r (record { live = v; due = true }) is in
+    let tick : c.tick.result ≡ r.tick = c.tick.ensures ∙ st.round.tick in
+    let k₁ : Kept = record c.args.self.now { lines = c.reserve.new.self; subs = c.accept.new.self } in
+    let whole : c.note.new.self ≡ record k₁ {
+      lines = c.note.new.self.lines;
+      asking = c.note.new.self.asking;
+      bandwidth = c.spend.new.self.bandwidth;
+    } = c.note.ensures.rest ∙ ap (λ (x : Kept). record x { lines = c.note.new.self.lines; asking = c.note.new.self.asking }) c.spend.ensures.rest in
+    let p = answered_line c.args.self.now c.reserve.new.self c.note.new.self.lines c.accept.new.self c.note.new.self.asking c.spend.new.self.bandwidth r v
+    c.args.taken (record { told = c.in_ok-told.told; before = c.in_ok-text.text.items; after = c.accept.new.text.items }) st
+    (record { same = c.in_ok-reserve.ensures.unsent; rest = c.in_ok-reserve.ensures.rest })
+    (subst (λ (x : Kept). NumbersLine x.lines c.accept.new.text.items c.note.new.self.lines) c.spend.ensures.rest c.note.ensures.line)
+    c.in_ok-text.ensures.items c.if-self-ge-GREATEST_NUMBER.false parts.0
+    (c.note.ensures.back ∙ ap (λ (x : Kept). with_turns (gave c.args.slot.sub c.args.slot.place x.asking.turns) x.asking) c.spend.ensures.rest
+    ∙ ap (λ (s : SlotRef). with_turns (gave s.sub s.place c.args.self.now.asking.turns) c.args.self.now.asking) named)
+    (λ e. absurd (let x : tells.Update ≡ tells.Nothing = sym c.in-Update.is ∙ e in cc))
+    (λ what e. tells_short c.args.self.now r v c.args.taken what st parts.0 light
+    (subst (λ (s : SlotRef). s.sub < 2 ^ 32) named c.are_small.ensures.0) (subst (λ (s : SlotRef). s.place < 2 ^ 32) named c.are_small.ensures.1) e)
+    (λ what told text few. update_rate c.args.self.now c.spend.new.self.bandwidth r v c.args.taken what c.accept.new.text.items st (sym parts.1)
+    (subst (λ (t : List ℕ). SpendsText t c.args.self.now.asking.tick c.args.self.now.bandwidth c.spend.new.self.bandwidth) c.deref.ensures.value
+    c.spend.ensures.spent) (sym c.in-Update.is ∙ told) text few)
+    (c.in_ok-told.ensures.accepted (asked_slot r v) parts.0 (sym named) (sym tick) (subst (λ (n : ℕ). n ≤ GREATEST_TICK) (sym tick) st.round.most) suits
+    st.subs) in
+    (p.0, subst (λ (x : Kept). StandsSession x (answered r v c.args.taken)) (sym whole) p.1)
 
-pub returns-else-told-clause-told : goal.returns-else-told-clause-told
-returns-else-told-clause-told c = λ r v st is named suits.
-    answered_silent c.args.self.now (record c.args.self.now { unsent = c.reserve.new.self; subs = c.accept.new.self; asks = false }) r v c.args.taken
-    (record { line = c.in_ok-told.told; before = c.in_ok-text.text.items; after = c.accept.new.text.items }) st refl c.reserve.ensures.items refl refl refl refl
-    c.if-told.false
-    (c.in_ok-told.ensures.accepted (asked_of r v) (asked_found c.args.self.now r v st c.requires.asks is) (sym named) suits st.subs)
-
-pub returns-then-told-clause-told : goal.returns-then-told-clause-told
-returns-then-told-clause-told c = λ r v st is named suits.
-    let k₂ = record c.args.self.now { unsent = c.reserve.new.self; subs = c.accept.new.self; round = c.slot_to_back.new.round; asks = false } in
-    answered_line c.args.self.now k₂ c.number.new.self c.begin_round.new.self r v c.args.taken
-    (record { line = c.in_ok-told.told; before = c.in_ok-text.text.items; after = c.accept.new.text.items }) st refl c.reserve.ensures.items refl
-    c.requires.left (c.slot_to_back.ensures (ref_of v) (c.requires.named ∙ ap Some named))
-    (subst (λ (t : List ℕ). NumbersLine k₂ t c.number.new.self) c.from_vec.ensures c.number.ensures) c.begin_round.ensures c.in_ok-text.ensures.items
-    c.if-told.true
-    (c.in_ok-told.ensures.accepted (asked_of r v) (asked_found c.args.self.now r v st c.requires.asks is) (sym named) suits st.subs)
+pub returns-in-Other-clause-told : goal.returns-in-Other-clause-told
+returns-in-Other-clause-told c = λ r v st is named suits light.
+    let parts = question_parts r (record { live = v; due = true }) is in
+    let tick : c.tick.result ≡ r.tick = c.tick.ensures ∙ st.round.tick in
+    let p = answered_line c.args.self.now c.reserve.new.self c.note-in-Other.new.self.lines c.accept.new.self c.note-in-Other.new.self.asking
+    c.args.self.now.bandwidth r v
+    c.args.taken (record { told = c.in_ok-told.told; before = c.in_ok-text.text.items; after = c.accept.new.text.items }) st
+    (record { same = c.in_ok-reserve.ensures.unsent; rest = c.in_ok-reserve.ensures.rest }) c.note-in-Other.ensures.line
+    c.in_ok-text.ensures.items c.if-self-ge-GREATEST_NUMBER.false parts.0
+    (c.note-in-Other.ensures.back
+    ∙ ap (λ (s : SlotRef). with_turns (gave s.sub s.place c.args.self.now.asking.turns) c.args.self.now.asking) named)
+    (λ e. absurd (let x : tells.Other ≡ tells.Nothing = sym c.in-Other.is ∙ e in cc))
+    (λ what e. tells_short c.args.self.now r v c.args.taken what st parts.0 light
+    (subst (λ (s : SlotRef). s.sub < 2 ^ 32) named c.are_small.ensures.0) (subst (λ (s : SlotRef). s.place < 2 ^ 32) named c.are_small.ensures.1) e)
+    (λ what told text few. other_rate c.args.self.now r v c.args.taken what st (sym c.in-Other.is ∙ told))
+    (c.in_ok-told.ensures.accepted (asked_slot r v) parts.0 (sym named) (sym tick) (subst (λ (n : ℕ). n ≤ GREATEST_TICK) (sym tick) st.round.most) suits
+    st.subs) in
+    (p.0, subst (λ (x : Kept). StandsSession x (answered r v c.args.taken)) (sym c.note-in-Other.ensures.rest) p.1)

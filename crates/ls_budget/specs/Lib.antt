@@ -1,0 +1,4 @@
+pub mod Budget
+pub mod Due
+pub mod Kept
+pub mod Window

@@ -1,0 +1,56 @@
+-- What a turn leaves that gave no line: slots may have moved past cuts that make none.
+use Rattle.std.specs.Prelude.{◌≡◌, ◌<◌, ℕ, zero, suc, List, [], ◌∷◌, Bool, true, ◌&&◌, None, Some}
+use Rattle.ls_event.specs.declared.event.Taken.{Taken}
+use Rattle.ls_event.specs.Cuts.{cut}
+use Rattle.ls_world.specs.Lines.{Line}
+use Rattle.ls_world.specs.World.{World, Item, Live, Session, history_of, on_board, is_alive, is_unsent}
+use Rattle.ls_subs.specs.Standing.{what_of, passed_live}
+use Rattle.ls_world.specs.Steps.{Once}
+use Rattle.ls_hub.specs.Repeats.{nth_world, all_go_on}
+use Rattle.ls_hub.specs.Hub.{StandsHub}
+use Rattle.ls_hub.specs.declared.hub.Hub.{Hub}
+
+-- a slot moved past so many cuts that make no line
+abbrev pub IsPast : ℕ → List Item → List Line → Live → Live → Type 0
+IsPast zero items lines v w = w ≡ v
+IsPast (suc n) items lines v w =
+    (u : Live) × (t : Taken) × IsPast n items lines v u × (cut (history_of items u.item) u.slot ≡ Some t)
+    × (what_of lines u t ≡ None) × (w ≡ passed_live t u)
+
+-- each slot of a round did, and they stand in their order
+abbrev pub ArePast : List Item → List Line → List Live → List Live → Type 0
+ArePast items lines [] [] = Unit {0}
+ArePast items lines [] (w ∷ ws) = ⊥
+ArePast items lines (v ∷ vs) [] = ⊥
+ArePast items lines (v ∷ vs) (w ∷ ws) = ((n : ℕ) × IsPast n items lines v w) × ArePast items lines vs ws
+
+-- no line of a session was numbered or given, and all else of it is as before, but that slots moved so
+pub record IsQuiet (items : List Item) (s s' : Session) : Type 0 where
+  pub rest : s' ≡ on_board (λ b. record b { round = s'.board.round }) s
+  pub round : ArePast items s.board.lines s.board.round s'.board.round
+
+-- nor of any session
+abbrev pub AreQuiet : List Item → List Session → List Session → Type 0
+AreQuiet items [] [] = Unit {0}
+AreQuiet items [] (t ∷ ts) = ⊥
+AreQuiet items (s ∷ ss) [] = ⊥
+AreQuiet items (s ∷ ss) (t ∷ ts) = IsQuiet items s t × AreQuiet items ss ts
+
+-- a hub stands for a world in which no line was numbered or given, and all else is as before, but that slots moved so
+pub record StandsQuiet (w : World) (h : Hub) : Type 0 where
+  pub after : World
+  pub rest : after ≡ record w { sessions = after.sessions }
+  pub quiet : AreQuiet w.items w.sessions after.sessions
+  pub stands : StandsHub h after
+
+-- some of so many like steps were done, each of which asks for a next one, and the one behind them failed: in it no
+-- line was numbered or given
+pub record FailedBehind (f : World → Once) (w : World) (times : ℕ) (h : Hub) : Type 0 where
+  pub done : ℕ
+  pub fewer : done < times
+  pub goes : all_go_on f done w ≡ true
+  pub quiet : StandsQuiet (nth_world f done w) h
+
+-- whether a session has a numbered line to give next
+abbrev pub has_line : Session → Bool
+has_line s = is_alive s.life && is_unsent s

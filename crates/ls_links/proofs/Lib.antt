@@ -1,0 +1,9 @@
+pub mod Chaining
+pub mod Writes
+pub mod Rings
+pub mod Shifts
+pub mod Growing
+pub mod Views
+pub mod Places
+pub mod Calls
+pub mod Linked

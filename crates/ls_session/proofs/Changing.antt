@@ -1,0 +1,150 @@
+-- A line is numbered, and with it a subscription ends or has another frequency; and a session has another bandwidth.
+use Rattle.std.proofs.Common.{◌≡◌, ◌==◌, ◌≤◌, ◌<◌, ◌+◌, ◌++◌, ℕ, Bool, Option, List, [], ◌∷◌, length, map, true, false, None, Some, refl, sym, ◌∙◌, ap, subst}
+use Rattle.std.proofs.Common.{cond, arith, option_map, unwrap_or}
+use Rattle.std.specs.Option.{ForSome, option_map_or}
+use Rattle.ls_world.specs.Lawful.{Each}
+use Rattle.ls_value.specs.declared.limits.TheConstants.{GREATEST_NUMBER}
+use Rattle.ls_budget.specs.Kept.{KeptCredit, StandsBandwidth}
+use Rattle.ls_budget.specs.Budget.{Spend}
+use Rattle.ls_budget.specs.declared.limits.TheConstants.{GREATEST_TICK}
+use Rattle.ls_event.specs.declared.event.Mode.{Mode}
+use Rattle.ls_event.specs.declared.event.Mode.TheVariants as mode
+use Rattle.ls_turns.specs.Round.{Round, slots_of, left}
+use Rattle.ls_world.specs.Lines.{Line, Ends, Configures, line_text, spent_by, spends_behind}
+use Rattle.ls_world.specs.World.{Live, Session, on_board, removed, without, constrained, bandwidth_text, with_frequency, frequency_in}
+use Rattle.ls_subs.specs.declared.subs.Subs.{Subs}
+use Rattle.ls_subs.specs.Standing.{ref_of, StandsSubs}
+use Rattle.ls_session.specs.Asking.{Asking, begun, with_turns}
+use Rattle.ls_session.specs.Record.{Record, begun_anew}
+use Rattle.ls_session.specs.Record.{slots_of as slots_in}
+use Rattle.ls_session.specs.Session.{StandsSession, StandsLines, StandsRound, StandsRate, AreShort, IsShort, NumbersLine, refs_of, configured}
+use Rattle.ls_session.specs.declared.lines.Lines.{Lines as KeptLines}
+use Rattle.ls_session.specs.declared.session.Session.{Session as Kept}
+use Rattle.ls_session.proofs.Moves.{lines_numbered, lines_reserved, short_numbered, short_reserved, round_anew, rate_numbered, each_behind}
+use Rattle.ls_session.proofs.Seats.{left_slots, named_limited}
+use Rattle.ls_session.proofs.Waiting.{not_below}
+
+-- more room for lines
+pub record Reserved (k k' : KeptLines) : Type 0 where
+  pub same : k'.unsent.items ≡ k.unsent.items
+  pub rest : k' ≡ record k { unsent = k'.unsent }
+
+-- the round begins anew with other slots, at the same tick
+pub round_with : (k k' : Asking) (turns : Round) (tick : ℕ) (s : Session) → tick ≤ GREATEST_TICK → k.tick ≡ tick → k' ≡ with_turns turns k
+    → slots_of turns ≡ map ref_of s.board.round → StandsRound k' (begun_anew tick s)
+round_with k k' turns tick s most same is slots =
+    subst (λ (x : Asking). StandsRound x (begun_anew tick s)) (sym is)
+    (subst (λ (n : ℕ). StandsRound (begun n (record k { turns = turns })) (begun_anew tick s)) (sym same)
+    (round_anew (record k { turns = turns }) tick s most slots))
+
+-- a line is numbered, and the round begins anew with other slots
+pub numbered_stands : (k : Kept) (lines₁ lines' : KeptLines) (subs' : Subs) (asking' : Asking) (bandwidth' : KeptCredit) (turns : Round) (r : Record) (l : Line)
+    (round : List Live) (text : List ℕ) → StandsSession k r → Reserved k.lines lines₁ → NumbersLine lines₁ text lines'
+    → text ≡ line_text r.session.board.lines l
+    → IsShort text → k.lines.last + 1 ≤ GREATEST_NUMBER → StandsSubs subs' (l ∷ r.session.board.lines) round → asking' ≡ with_turns turns k.asking
+    → slots_of turns ≡ map ref_of round → StandsRate bandwidth' r.session.rate (l ∷ r.session.board.lines) r.tick
+    → StandsSession (record k { lines = lines'; subs = subs'; asking = asking'; bandwidth = bandwidth' })
+    (begun_anew r.tick (record r.session { board = record { lines = l ∷ r.session.board.lines; round = round } }))
+numbered_stands k lines₁ lines' subs' asking' bandwidth' turns r l round text st room numbers is short low subs anew slots rate =
+    let last : lines₁.last + 1 ≤ GREATEST_NUMBER = subst (λ (x : KeptLines). x.last + 1 ≤ GREATEST_NUMBER) (sym room.rest) low in
+    record {
+      lines = lines_numbered lines₁ lines' r.session l round text (lines_reserved k.lines lines₁ r.session st.lines room.same room.rest) numbers is last;
+      short = short_numbered lines₁ lines' text (short_reserved k.lines lines₁ st.short room.same room.rest) numbers short;
+      round = round_with k.asking asking' turns r.tick (record r.session { board = record { lines = l ∷ r.session.board.lines; round = round } })
+          st.round.most st.round.tick anew slots;
+      subs = subs;
+      rate = rate;
+    }
+
+-- a subscription's slots by their names
+pub named_of : (sub : ℕ) (vs : List Live) → refs_of sub (map ref_of vs) ≡ map ref_of (slots_in sub vs)
+named_of sub [] = refl
+named_of sub (v ∷ vs) = by_test (sub == v.sub) (named_of sub vs)
+  where
+    by_test : (b : Bool) → refs_of sub (map ref_of vs) ≡ map ref_of (slots_in sub vs)
+        → cond b (ref_of v ∷ refs_of sub (map ref_of vs)) (refs_of sub (map ref_of vs)) ≡ map ref_of (cond b (v ∷ slots_in sub vs) (slots_in sub vs))
+    by_test true more = ap (λ xs. ref_of v ∷ xs) more
+    by_test false more = more
+
+-- they leave, and UNSUB is numbered
+pub deleted : (k : Kept) (lines₁ lines' : KeptLines) (subs' : Subs) (asking' : Asking) (r : Record) (sub : ℕ) (text : List ℕ) → StandsSession k r
+    → Reserved k.lines lines₁ → NumbersLine lines₁ text lines' → text ≡ line_text [] (Ends sub) → IsShort text → k.lines.last + 1 ≤ GREATEST_NUMBER
+    → StandsSubs subs' (Ends sub ∷ r.session.board.lines) (without sub r.session.board.round) → asking' ≡ with_turns (left sub k.asking.turns) k.asking
+    → StandsSession (record k { lines = lines'; subs = subs'; asking = asking' }) (begun_anew r.tick (on_board (removed sub) r.session))
+deleted k lines₁ lines' subs' asking' r sub text st room numbers is short low subs anew =
+    numbered_stands k lines₁ lines' subs' asking' k.bandwidth (left sub k.asking.turns) r (Ends sub) (without sub r.session.board.round) text st room numbers is
+    short low subs anew (left_slots sub k.asking.turns r.session.board.round st.round.slots)
+    (rate_numbered k.bandwidth r.session.rate r.session.board.lines r.tick (Ends sub) st.rate refl)
+
+-- a subscription has another frequency, and CONF is numbered
+pub limited : (k : Kept) (lines₁ lines' : KeptLines) (subs' : Subs) (asking' : Asking) (r : Record) (sub : ℕ) (frequency : Option ℕ) (filtered : Bool)
+    (text : List ℕ) → StandsSession k r → Reserved k.lines lines₁ → NumbersLine lines₁ text lines' → text ≡ line_text [] (Configures sub frequency filtered)
+    → IsShort text → k.lines.last + 1 ≤ GREATEST_NUMBER
+    → StandsSubs subs' (Configures sub frequency filtered ∷ r.session.board.lines) (map (with_frequency sub frequency) r.session.board.round)
+    → asking' ≡ begun k.asking.tick k.asking
+    → StandsSession (record k { lines = lines'; subs = subs'; asking = asking' })
+    (begun_anew r.tick (on_board (configured sub frequency filtered) r.session))
+limited k lines₁ lines' subs' asking' r sub frequency filtered text st room numbers is short low subs anew =
+    numbered_stands k lines₁ lines' subs' asking' k.bandwidth k.asking.turns r (Configures sub frequency filtered)
+    (map (with_frequency sub frequency) r.session.board.round) text st room numbers is short low subs anew
+    (st.round.slots ∙ sym (named_limited sub frequency r.session.board.round))
+    (rate_numbered k.bandwidth r.session.rate r.session.board.lines r.tick (Configures sub frequency filtered) st.rate refl)
+
+-- a frequency in a mode is above 0, where there is one
+pub some_in : (m : Mode) (frequency : Option ℕ) → ForSome frequency (λ f. 0 < f) → ForSome (frequency_in m frequency) (λ f. 0 < f)
+some_in mode.Raw frequency some = λ f e. absurd (let x : None ≡ Some f = e in cc)
+some_in mode.Merge frequency some = some
+some_in mode.Distinct frequency some = some
+some_in mode.Command frequency some = some
+
+-- nothing was spent behind the last line
+pub spends_none : (n : ℕ) (lines : List Line) → length lines ≤ n → spends_behind n lines ≡ []
+spends_none n [] high = refl
+spends_none n (l ∷ lines) high = ap (λ v. cond v (spent_by lines l ++ spends_behind n lines) []) (not_below n (length lines + 1) (omega (arith, high)))
+
+-- a session has another bandwidth
+pub constrained_stands : (k : Kept) (lines' : KeptLines) (asking' : Asking) (bandwidth' : KeptCredit) (r : Record) (limit : Option ℕ) (now : ℕ) (text : List ℕ)
+    → StandsSession k r → r.tick ≤ now → now ≤ GREATEST_TICK → lines'.owed.items ≡ k.lines.owed.items ++ text ∷ [] → lines'
+    ≡ record k.lines { owed = lines'.owed }
+    → text ≡ bandwidth_text limit → IsShort text → asking' ≡ begun now k.asking → bandwidth'.latest ≡ now → StandsBandwidth bandwidth' limit []
+    → StandsSession (record k { lines = lines'; asking = asking'; bandwidth = bandwidth' }) (begun_anew now (constrained limit r.session))
+constrained_stands k lines' asking' bandwidth' r limit now text st later most owed rest is short anew latest stands =
+    let all : lines'.owed.items ≡ r.session.owed ++ bandwidth_text limit ∷ [] =
+    owed ∙ ap (λ xs. xs ++ text ∷ []) st.lines.owed ∙ ap (λ t. r.session.owed ++ t ∷ []) is in
+    record {
+      lines = subst (λ (x : KeptLines). StandsLines x (constrained limit r.session)) (sym rest)
+          (record {
+            owed = all;
+            unsent = st.lines.unsent;
+            last = st.lines.last;
+            most = st.lines.most;
+            sent = st.lines.sent;
+            epoch = st.lines.epoch;
+            life = st.lines.life;
+            end = st.lines.end;
+          });
+      short = subst (λ (x : KeptLines). AreShort x) (sym rest)
+          (record {
+            owed = subst (λ (ts : List (List ℕ)). Each IsShort ts) (sym owed) (each_behind IsShort text k.lines.owed.items st.short.owed short);
+            unsent = st.short.unsent;
+            current = st.short.current;
+            destroyed = st.short.destroyed;
+            timed_out = st.short.timed_out;
+            end = st.short.end;
+          });
+      round = subst (λ (x : Asking). StandsRound x (begun_anew now (constrained limit r.session))) (sym anew)
+          (round_anew k.asking now (constrained limit r.session) most st.round.slots);
+      subs = st.subs;
+      rate = record {
+        latest = omega (arith, latest);
+        behind = omega arith;
+        spends = subst (λ (spends : List Spend). StandsBandwidth bandwidth' limit spends)
+            (sym (spends_none (length r.session.board.lines) r.session.board.lines (omega arith))) stands;
+      };
+    }
+
+-- the mode of a subscription, by what is kept of it
+pub mode_is : (o : Option Live)
+    → unwrap_or (option_map (λ (v : Live). v.slot.plan.mode) o) mode.Merge ≡ option_map_or (λ (v : Live). v.slot.plan.mode) o mode.Merge
+mode_is None = refl
+mode_is (Some v) = refl

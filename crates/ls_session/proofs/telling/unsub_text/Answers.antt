@@ -1,0 +1,7 @@
+use Rattle.std.proofs.Common.{arith}
+use Rattle.ls_session.specs.Session.{IsShort}
+use Rattle.ls_session.proofs.Limits.{ok_is, unsub_short}
+use Rattle.ls_session.proofs.telling.unsub_text.Goals as goal
+
+pub returns-clause-short : goal.returns-clause-short
+returns-clause-short c = ok_is (λ t. IsShort t) c.text.result _ (unsub_short c.args.sub (omega (arith, c.ranges.sub.fits))) c.text.ensures.text

@@ -1,0 +1,63 @@
+-- The round of a session's slots at a tick, and how far it was asked.
+use Rattle.std.specs.Prelude.{◌≡◌, ◌≤◌, ℕ, ◌+◌, length, Bool, true, false, Option, None, Some, is_some, nat_eq}
+use Rattle.std.specs.Prelude.{if◌then◌else◌, min}
+use Rattle.std.specs.Option.{ForSome, option_map_or}
+use Rattle.ls_budget.specs.declared.due.Due.{Due}
+use Rattle.ls_budget.specs.declared.due.Due.TheVariants as due
+use Rattle.ls_turns.specs.Round.{Round, IsSeated, node_of_place, has_slot}
+use Rattle.ls_session.specs.declared.session.Ask.{Ask}
+use Rattle.ls_session.specs.declared.asking.Asked.{Asked}
+
+-- the slots in the order in which they are asked; the tick at which they are; the node of the slot that is asked, or
+-- that is asked next; the question that stands; the least tick at which one of those that wait is due; and for how many
+-- slots there is room when they leave
+pub record Asking : Type 0 where
+  pub turns : Round
+  pub tick : ℕ
+  pub next : Option ℕ
+  pub question : Option Asked
+  pub wait : Option ℕ
+  pub room : ℕ
+
+-- whether a question was of a slot that is due, and the question as it was asked
+abbrev pub is_now : Due → Bool
+is_now due.Now = true
+is_now (due.At tick) = false
+
+abbrev pub ask_of : Asked → Ask
+ask_of a = record { slot = a.slot; due = is_now a.due }
+
+-- no question stands, and the round begins anew at a tick
+abbrev pub begun : ℕ → Asking → Asking
+begun tick a = record a { tick = tick; next = node_of_place a.turns 0; question = None; wait = None }
+
+-- it goes on at the same tick, where no question stands, and else begins anew
+abbrev pub resumed : ℕ → Asking → Asking
+resumed now a = if is_some a.question then begun now a else if nat_eq a.tick now then a else begun now a
+
+-- a question stands
+abbrev pub questioned : Asked → Asking → Asking
+questioned q a = record a { question = Some q }
+
+-- it was answered that the slot waits until a tick
+abbrev pub waiting : ℕ → Asking → Asking
+waiting tick a = record a { wait = Some (option_map_or (min tick) a.wait tick) }
+
+-- the question was answered, and the slot is asked again
+abbrev pub unasked : Asking → Asking
+unasked a = record a { question = None }
+
+-- the question was answered in vain, and the next slot is asked next
+pub record Passes (old new : Asking) : Type 0 where
+  pub next : (i : ℕ) → old.next ≡ node_of_place old.turns i → new.next ≡ node_of_place old.turns (i + 1)
+  pub rest : new ≡ record old { next = new.next; question = None }
+
+-- the slots are others, and the round begins anew
+abbrev pub with_turns : Round → Asking → Asking
+with_turns turns a = begun a.tick (record a { turns = turns })
+
+-- the next slot is in the round, and so is the slot of a question; and there is room for all slots when they leave
+pub record Holds (turns : Round) (node : Option ℕ) (asked : Option Asked) (most : ℕ) : Type 0 where
+  pub next : ForSome node (IsSeated turns)
+  pub question : ForSome asked (λ q. has_slot q.slot.sub q.slot.place turns ≡ true)
+  pub room : length turns.seats ≤ most

@@ -1,0 +1,7 @@
+use Rattle.std.proofs.Common.{◌≡◌}
+use Rattle.ls_turns.specs.Round.{node_of_place}
+use Rattle.ls_tests.proofs.round.node_of.Given as goal
+
+-- the node at the place so far
+abbrev pub invariant-loop : goal.invariant-loop
+invariant-loop l = l.next ≡ node_of_place l.turns l.counter

@@ -1,0 +1,6 @@
+pub mod Members
+pub mod Reading
+pub mod Leaving
+pub mod Joining
+pub mod Rounds
+pub mod Passing
