@@ -63,6 +63,15 @@ impl Bandwidth {
         *self = Bandwidth::new(r, now);
     }
 
+    /// The rate, in thousandths of a kbit per second, or none.
+    pub fn rate(&self) -> Option<u64>
+        ensures stands { (rate : Option ℕ) (spends : List Spend) → StandsBandwidth self.now rate spends
+            → result ≡ rate }
+        ensures some { ForSome result (λ r. 0 < r) }
+    {
+        self.rate
+    }
+
     /// Whether an update may be given now, and else at which tick first. There is credit at that tick, if only a
     /// thousandth of a bit, and none at any tick from now to before it. With no rate it may be given now.
     pub fn due(&self, now: u64) -> Due

@@ -4,25 +4,21 @@ use Rattle.std.proofs.Common.{Some, None, nat_le}
 use Rattle.std.proofs.lemmas.Bool.Decides.{nat_tests}
 use Rattle.std.proofs.lemmas.List.{length-map}
 use Rattle.ls_value.specs.declared.limits.TheConstants.{GREATEST_NUMBER}
-use Rattle.ls_line.specs.declared.line.Line.TheVariants as line
-use Rattle.ls_line.specs.Lines.{text_of_line}
 use Rattle.ls_request.specs.declared.request.Create.{Create}
-use Rattle.ls_step.specs.Notes.{text_of_out}
-use Rattle.ls_step.specs.declared.out.Out.TheVariants as out
-use Rattle.ls_world.specs.World.{World, Live, Connection, alive, all_live, opened, change}
-use Rattle.ls_world.specs.Acting.{create_code, is_set_of, message_of}
+use Rattle.ls_world.specs.World.{World, Live, alive, all_live, opened, change}
+use Rattle.ls_world.specs.Acting.{create_code, is_set_of}
 use Rattle.ls_world.specs.Cases.{with_found}
-use Rattle.ls_world.specs.Steps.{Stepped, stays, creates, created, on}
+use Rattle.ls_world.specs.Steps.{Stepped, stays, creates, created, refuses_stream}
 use Rattle.ls_world.specs.declared.TheConstants.{MOST_SESSIONS}
 use Rattle.ls_cells.specs.Cells.{StandsCells}
 use Rattle.ls_cells.proofs.Lives.{all_live_more}
 use Rattle.ls_session.specs.Record.{begun_anew}
 use Rattle.ls_session.specs.Session.{StandsSession}
 use Rattle.ls_session.specs.declared.session.Session.{Session as Kept}
-use Rattle.ls_hub.specs.Hub.{StandsHub, Prints, seen, name_at}
+use Rattle.ls_hub.specs.Hub.{StandsHub, Prints, seen, living_from}
 use Rattle.ls_hub.specs.declared.hub.Hub.{Hub}
-use Rattle.ls_hub.proofs.Alive.{alive_more}
-use Rattle.ls_hub.proofs.Connected.{line_printed}
+use Rattle.ls_hub.proofs.Alive.{living_count, living_next}
+use Rattle.ls_hub.proofs.Connected.{linked_to}
 use Rattle.ls_hub.proofs.Sessions.{as_many, kept_more, anew_is}
 
 pub few : (m n : ℕ) → n < m → nat_le m n ≡ false
@@ -30,6 +26,10 @@ few m n low = grind (arith, nat_tests)
 
 pub many : (m n : ℕ) → m ≤ n → nat_le m n ≡ true
 many m n high = grind (arith, nat_tests)
+
+-- as many places are kept as there are sessions that haven't ended
+pub living_are : (h : Hub) (w : World) → StandsHub h w → length h.living.items ≡ alive w.sessions
+living_are h w st = ap length st.living ∙ living_count 0 w.sessions
 
 -- the code by its conditions
 pub codes_are : (w : World) (c : Create) (set full spent : Bool) → is_set_of w c.set ≡ set → nat_le MOST_SESSIONS (alive w.sessions) ≡ full
@@ -42,39 +42,38 @@ codes_are w c set full spent a b d =
     ∙ ap (λ x. cond (not set) (Some 2) (cond full (Some 8) (cond x (Some 74) None))) d
 
 -- a create that is refused
-pub refused_printed : (h : Hub) (w : World) (n : ℕ) (c : Create) (code : ℕ) (before after : List ℕ) → StandsHub h w → create_code w c ≡ Some code
-    → after ≡ before ++ text_of_out (out.Line (name_at h.connections.items n) (text_of_line (line.ConErr code (message_of code))))
-    → Prints (creates w n c) before after h
-refused_printed h w n c code before after st some is =
-    subst (λ (s : Stepped). Prints s before after h)
-    (sym (ap (λ o. with_found o (stays (created w n c) []) (λ k. stays w (on w n (text_of_line (line.ConErr k (message_of k)))))) some))
-    (line_printed h h w w n (text_of_line (line.ConErr code (message_of code))) before after st st is)
+pub refused_printed : (h : Hub) (w : World) (n : ℕ) (c : Create) (code : ℕ) (before after : List ℕ) → create_code w c ≡ Some code
+    → Prints (refuses_stream w n code) before after h → Prints (creates w n c) before after h
+refused_printed h w n c code before after some did =
+    subst (λ (s : Stepped). Prints s before after h) (sym (ap (λ o. with_found o (stays (created w n c) []) (refuses_stream w n)) some)) did
 
 -- a hub with a session more
 pub begun : (h h' : Hub) (w : World) (n : ℕ) (c : Create) (place : ℕ) (k : Kept) → StandsHub h w → h'.config ≡ h.config → h'.tick ≡ h.tick
     → h'.cells ≡ h.cells
-    → h'.alive ≡ h.alive + 1 → place ≡ length h.sessions.items → h'.sessions.items ≡ h.sessions.items ++ k ∷ []
-    → StandsSession k (begun_anew h.tick (opened (place + 1) c.keepalive c.bandwidth))
-    → map seen h'.connections.items ≡ change n (λ (x : Connection). record x { session = Some place }) (map seen h.connections.items)
+    → h'.living.items ≡ h.living.items ++ place ∷ [] → place ≡ length h.sessions.items → h'.sessions.items ≡ h.sessions.items ++ k ∷ []
+    → StandsSession k (begun_anew h.tick (opened (place + 1) c.keepalive c.bandwidth c.length))
+    → map seen h'.connections.items ≡ change n (linked_to place 1) (map seen h.connections.items)
     → StandsHub h' (created w n c)
 begun h h' w n c place k st config tick cells living last more stands given =
     subst (λ (m : ℕ). StandsHub h' (record w {
-      sessions = w.sessions ++ opened (m + 1) c.keepalive c.bandwidth ∷ [];
-      connections = change n (λ (x : Connection). record x { session = Some m }) w.connections;
+      sessions = w.sessions ++ opened (m + 1) c.keepalive c.bandwidth c.length ∷ [];
+      connections = change n (linked_to m 1) w.connections;
     })) (last ∙ as_many w.tick h.sessions.items w.sessions st.sessions)
     (record {
       set = ap (λ x. x.set) config ∙ st.set;
       tick = tick ∙ st.tick;
       in_range = st.in_range;
       definitions = ap (λ x. x.items) config ∙ st.definitions;
-      cells = subst (λ x. StandsCells x w.items (all_live (w.sessions ++ opened (place + 1) c.keepalive c.bandwidth ∷ []))) (sym cells)
+      cells = subst (λ x. StandsCells x w.items (all_live (w.sessions ++ opened (place + 1) c.keepalive c.bandwidth c.length ∷ []))) (sym cells)
           (subst (λ (vs : List Live). StandsCells h.cells w.items vs)
-          (sym (all_live_more w.sessions (opened (place + 1) c.keepalive c.bandwidth) refl)) st.cells);
+          (sym (all_live_more w.sessions (opened (place + 1) c.keepalive c.bandwidth c.length) refl)) st.cells);
       sessions = rw more
-          (kept_more w.tick h.sessions.items w.sessions k (opened (place + 1) c.keepalive c.bandwidth) st.sessions
-          (anew_is w.tick h.tick k (opened (place + 1) c.keepalive c.bandwidth) (omega (arith, st.tick)) stands));
-      alive = living ∙ ap (λ x. x + 1) st.alive ∙ sym (alive_more w.sessions (opened (place + 1) c.keepalive c.bandwidth) refl);
-      connections = given ∙ ap (change n (λ (x : Connection). record x { session = Some place })) st.connections;
+          (kept_more w.tick h.sessions.items w.sessions k (opened (place + 1) c.keepalive c.bandwidth c.length) st.sessions
+          (anew_is w.tick h.tick k (opened (place + 1) c.keepalive c.bandwidth c.length) (omega (arith, st.tick)) stands));
+      living = living ∙ ap (λ ns. ns ++ place ∷ []) st.living
+          ∙ ap (λ m. living_from 0 w.sessions ++ m ∷ []) (last ∙ as_many w.tick h.sessions.items w.sessions st.sessions)
+          ∙ sym (living_next w.sessions (opened (place + 1) c.keepalive c.bandwidth c.length) refl);
+      connections = given ∙ ap (change n (linked_to place 1)) st.connections;
     })
 
 -- the place of a new connection

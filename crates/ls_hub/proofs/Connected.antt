@@ -10,8 +10,8 @@ use Rattle.ls_step.specs.declared.out.Out.TheVariants as out
 use Rattle.ls_world.specs.World.{World, Connection, change}
 use Rattle.ls_world.specs.Acting.{message_of}
 use Rattle.ls_world.specs.Cases.{with_found}
-use Rattle.ls_world.specs.Steps.{Stepped, stays, on, session_of, name_of, link_of, is_opening, malformed, refuses}
-use Rattle.ls_hub.specs.Hub.{StandsHub, Prints, seen, session_at, name_at, link_at}
+use Rattle.ls_world.specs.Steps.{Stepped, stays, on, session_of, epoch_of, name_of, link_of, is_opening, malformed, refuses, refuses_stream}
+use Rattle.ls_hub.specs.Hub.{StandsHub, Prints, seen, session_at, epoch_at, name_at, link_at}
 use Rattle.ls_hub.specs.Requests.{malformed_line}
 use Rattle.ls_hub.proofs.Repeats.{text_one}
 use Rattle.ls_hub.specs.declared.hub.Hub.{Hub}
@@ -43,18 +43,29 @@ link_is cs w n is = by_one (slice_get cs n) ∙ ap (λ o. option_map_or (λ (c :
     by_one None = refl
     by_one (Some c) = refl
 
--- a connection that is given a session
-pub given_seen : (cs : List Linked) (n place : ℕ) (c : Linked) → n < length cs → c ≡ slice_index_or cs n c
-    → map seen (slice_set cs n (record { name = c.name; link = c.link; session = Some place }))
-    ≡ change n (λ (x : Connection). record x { session = Some place }) (map seen cs)
-given_seen [] n place c low at = absurd (omega (arith, low))
-given_seen (x ∷ cs) zero place c low at = ap (λ (y : Linked). record { name = y.name; link = y.link; session = Some place } ∷ map seen cs) at
-given_seen (x ∷ cs) (suc n) place c low at = ap (λ t. seen x ∷ t) (given_seen cs n place c (omega (arith, low)) at)
+pub epoch_is : (cs : List Linked) (w : World) (n : ℕ) → map seen cs ≡ w.connections → epoch_at cs n ≡ epoch_of w n
+epoch_is cs w n is = by_one (slice_get cs n) ∙ ap (λ o. option_map_or (λ (c : Connection). c.epoch) o 0) (sym (seen_at cs n) ∙ ap (λ xs. slice_get xs n) is)
+  where
+    by_one : (o : Option Linked) → option_map_or (λ (c : Linked). c.epoch) o 0 ≡ option_map_or (λ (c : Connection). c.epoch) (option_map seen o) 0
+    by_one None = refl
+    by_one (Some c) = refl
 
-pub given_none : (cs : List Linked) (n place : ℕ) → length cs ≤ n → map seen cs ≡ change n (λ (x : Connection). record x { session = Some place }) (map seen cs)
-given_none [] n place high = refl
-given_none (x ∷ cs) zero place high = absurd (omega (arith, high))
-given_none (x ∷ cs) (suc n) place high = ap (λ t. seen x ∷ t) (given_none cs n place (omega (arith, high)))
+-- a connection that is given a session and a stream of it
+abbrev pub linked_to : ℕ → ℕ → Connection → Connection
+linked_to place epoch c = record c { session = Some place; epoch = epoch }
+
+pub given_seen : (cs : List Linked) (n place epoch : ℕ) (c : Linked) → n < length cs → c ≡ slice_index_or cs n c
+    → map seen (slice_set cs n (record { name = c.name; link = c.link; session = Some place; epoch = epoch }))
+    ≡ change n (linked_to place epoch) (map seen cs)
+given_seen [] n place epoch c low at = absurd (omega (arith, low))
+given_seen (x ∷ cs) zero place epoch c low at =
+    ap (λ (y : Linked). record { name = y.name; link = y.link; session = Some place; epoch = epoch } ∷ map seen cs) at
+given_seen (x ∷ cs) (suc n) place epoch c low at = ap (λ t. seen x ∷ t) (given_seen cs n place epoch c (omega (arith, low)) at)
+
+pub given_none : (cs : List Linked) (n place epoch : ℕ) → length cs ≤ n → map seen cs ≡ change n (linked_to place epoch) (map seen cs)
+given_none [] n place epoch high = refl
+given_none (x ∷ cs) zero place epoch high = absurd (omega (arith, high))
+given_none (x ∷ cs) (suc n) place epoch high = ap (λ t. seen x ∷ t) (given_none cs n place epoch (omega (arith, high)))
 
 -- a line on a connection was appended
 pub line_printed : (h h' : Hub) (w w' : World) (n : ℕ) (t before after : List ℕ) → StandsHub h w → StandsHub h' w'
@@ -72,7 +83,7 @@ malformed_is : (w : World) (n : ℕ) (name : List ℕ) (req : Option (List ℕ))
 malformed_is w n name req = by_name (is_opening name) req
   where
     by_name : (b : Bool) (o : Option (List ℕ))
-        → cond b (stays w (on w n (text_of_line (line.ConErr 65 (message_of 65)))))
+        → cond b (refuses_stream w n 65)
         (with_found o (stays w (on w n (text_of_line (line.Error 65 (message_of 65))))) (λ r. refuses w n r 65))
         ≡ stays w
         (on w n (text_of_line (cond b (line.ConErr 65 (message_of 65)) (with_found o (line.Error 65 (message_of 65))

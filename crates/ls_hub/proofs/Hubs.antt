@@ -1,40 +1,34 @@
--- A hub's steps on a connection's session are those of the world.
-use Rattle.std.proofs.Common.{◌≡◌, ℕ, ◌+◌, ◌<◌, ◌≤◌, List, [], ◌∷◌, ◌++◌, length, map, get_or, set, refl, sym, ◌∙◌, ap, subst, cond, Bool, true, false}
-use Rattle.ls_step.specs.declared.step.Step.TheVariants as step
-use Rattle.ls_step.specs.declared.step.Step.{Step}
-use Rattle.ls_step.specs.Ranges.{Fits, LaterTick}
-use Rattle.ls_world.specs.Built.{is_built}
-use Rattle.ls_world.specs.Script.{known_of}
-use Rattle.ls_world.specs.Steps.{does}
-use Rattle.std.proofs.Common.{append_assoc, append-nil, Result, Ok, Err, OnErr, arith, nat_le, ◌&&◌, slice_get, Option, Some, None}
+-- A hub's turns on a connection's session are those of the world.
+use Rattle.std.proofs.Common.{◌≡◌, ℕ, zero, suc, ◌+◌, ◌<◌, ◌≤◌, List, [], ◌∷◌, ◌++◌, length, map, get_or, set, refl, sym, ◌∙◌, ap, subst, cond}
+use Rattle.std.proofs.Common.{Bool, true, false, append_assoc, Result, Ok, Err, OnErr, arith, nat_lt, nat_le, ◌&&◌, slice_get, Option, Some, None}
 use Rattle.std.specs.List.{list_any}
 use Rattle.ls_budget.specs.declared.limits.TheConstants.{GREATEST_TICK}
 use Rattle.ls_value.specs.declared.limits.TheConstants.{GREATEST_NUMBER}
-use Rattle.ls_step.specs.declared.out.Out.{Out}
 use Rattle.ls_step.specs.declared.out.Out.TheVariants as out
 use Rattle.ls_step.specs.Notes.{text_of_out}
 use Rattle.ls_world.specs.Cases.{with_found}
+use Rattle.ls_world.specs.Lines.{text_at}
 use Rattle.ls_world.specs.World.{World, Item, Live, Session, Life, Alive, Ending, Ended, RoundLine, change, is_alive, round_of, taken_in, on_board}
-use Rattle.ls_world.specs.World.{is_unsent, noted_in, is_due, least_wait}
-use Rattle.ls_world.specs.Steps.{Once, SessionTurn, TurnGives, Gave, Idle, NotDue, Spent, Over, waits_until, session_of}
-use Rattle.ls_world.specs.Steps.{name_of, next_given, round_turn, turn_owing, turn_living, session_turn, took, take_once}
-use Rattle.ls_world.specs.Steps.{with_session, ends}
+use Rattle.ls_world.specs.World.{numbered, trimmed, on_stream, with_line, is_unsent, is_to_loop, is_bound, unbound_at, is_due, least_wait}
+use Rattle.ls_world.specs.Steps.{Once, SessionTurn, TurnGives, Gave, Idle, NotDue, Spent, Superseded, Unbound, Over, waits_until, session_of}
+use Rattle.ls_world.specs.Steps.{epoch_of, name_of, next_given, round_turn, turn_owing, turn_bound, session_turn, took, take_once, loop_text}
+use Rattle.ls_world.specs.Steps.{gives_unbound, with_session, ends}
 use Rattle.ls_session.specs.Record.{Record, begun_anew}
 use Rattle.ls_session.specs.declared.session.Session.{Session as Kept}
 use Rattle.ls_hub.specs.declared.hub.Hub.{Hub}
 use Rattle.ls_cells.specs.Cells.{AllCells, StandsCells}
 use Rattle.ls_session.specs.Session.{StandsSession, current_of}
 use Rattle.ls_session.specs.declared.session.Turn.{Turn}
-use Rattle.ls_hub.specs.Hub.{StandsHub, Prints, DidOnce, IsSession, AreSessions, seen, session_at, name_at}
+use Rattle.ls_hub.specs.Hub.{StandsHub, DidOnce, IsSession, AreSessions, seen, session_at, place_in, name_at}
 use Rattle.ls_hub.specs.Quiet.{StandsQuiet}
 use Rattle.ls_hub.specs.Turning.{turn_from, EndsAs, TurnEnded, TurnFailed, out_of_turn, gave_line}
 use Rattle.ls_hub.proofs.Quieted.{quiet_all, quiet_at}
 use Rattle.ls_session.specs.declared.session.Turn.TheVariants as turn
 use Rattle.ls_hub.proofs.Telling.{turn_begun}
 use Rattle.ls_cells.proofs.Lives.{SessionAt, session_at as session_at_place}
-use Rattle.ls_hub.proofs.Alive.{alive_changed}
+use Rattle.ls_hub.proofs.Alive.{living_changed}
 use Rattle.ls_hub.proofs.Connected.{session_is, name_is}
-use Rattle.ls_hub.proofs.Sessions.{none_kept, kept_read, kept_changed, anew_is, are_later}
+use Rattle.ls_hub.proofs.Sessions.{as_many, none_kept, kept_read, kept_changed, anew_is}
 use Rattle.ls_hub.proofs.KeptSessions.{change_same}
 
 -- a connection has no session, or the one of a place
@@ -57,12 +51,51 @@ some_at h w connection place s none f st is found =
     ap (λ o. with_session w.sessions o none f) (sym (session_is h.connections.items w connection st.connections) ∙ is)
     ∙ ap (λ o. with_found o none (f place)) found
 
+-- the place of a connection's session, if it is there
+below : (sessions : List Session) (n : ℕ) → n < length sessions → (s : Session) × (slice_get sessions n ≡ Some s)
+below [] n low = absurd (omega (arith, low))
+below (s ∷ sessions) zero low = (s, refl)
+below (s ∷ sessions) (suc n) low = below sessions n (omega (arith, low))
+
+pub place_there : (h : Hub) (w : World) (connection place : ℕ) → StandsHub h w → session_at h.connections.items connection ≡ Some place
+    → place < length h.sessions.items → Some place ≡ place_in w.sessions (session_of w connection)
+place_there h w connection place st is low =
+    let at = below w.sessions place (omega (arith, low, as_many w.tick h.sessions.items w.sessions st.sessions)) in
+    sym (some_at h w connection place at.0 None (λ n s. Some n) st is at.1)
+
+-- what is done with the session of a place, where none is there, and where one is
+pub not_there : {A : Type 0} (sessions : List Session) (o : Option ℕ) (none : A) (f : ℕ → Session → A) → None ≡ place_in sessions o
+    → with_session sessions o none f ≡ none
+not_there sessions None none f is = refl
+not_there sessions (Some n) none f is = by_found (slice_get sessions n) is
+  where
+    by_found : (o : Option Session) → None ≡ with_found o None (λ (s : Session). Some n) → with_found o none (f n) ≡ none
+    by_found None e = refl
+    by_found (Some s) e = absurd (let x : None ≡ Some n = e in cc)
+
+pub record There {A : Type 0} (sessions : List Session) (o : Option ℕ) (n : ℕ) (none : A) (f : ℕ → Session → A) : Type 0 where
+  pub session : Session
+  pub found : slice_get sessions n ≡ Some session
+  pub is : with_session sessions o none f ≡ f n session
+
+pub is_there : {A : Type 0} (sessions : List Session) (o : Option ℕ) (n : ℕ) (none : A) (f : ℕ → Session → A) → Some n ≡ place_in sessions o
+    → There sessions o n none f
+is_there sessions None n none f is = absurd (let x : Some n ≡ None = is in cc)
+is_there sessions (Some m) n none f is = by_found (slice_get sessions m) refl is
+  where
+    by_found : (o : Option Session) → slice_get sessions m ≡ o → Some n ≡ with_found o None (λ (s : Session). Some m) → There sessions (Some m) n none f
+    by_found None at e = absurd (let x : Some n ≡ None = e in cc)
+    by_found (Some s) at e =
+        let same : m ≡ n = cc in
+        subst (λ (k : ℕ). There sessions (Some m) k none f) same
+        (record { session = s; found = at; is = ap (λ o. with_found o none (f m)) at })
+
 -- a hub of which one session changed, and the slots with it
 pub record ChangedAt (h h' : Hub) (place : ℕ) (k : Kept) : Type 0 where
   pub config : h'.config ≡ h.config
   pub tick : h'.tick ≡ h.tick
   pub connections : h'.connections ≡ h.connections
-  pub alive : h'.alive ≡ h.alive
+  pub living : h'.living ≡ h.living
   pub sessions : h'.sessions.items ≡ set h.sessions.items place k
 
 pub changed_at : (h h' : Hub) (w : World) (place : ℕ) (k : Kept) (s s' : Session) (at : SessionAt w.sessions place s) → StandsHub h w
@@ -79,7 +112,7 @@ changed_at h h' w place k s s' at st found same is lives cells =
       cells = subst (StandsCells h'.cells w.items) (append_assoc at.before s'.board.round at.after ∙ sym (at.changed (λ x. s'))) cells;
       sessions = subst (λ ks. AreSessions w.tick ks (change place (λ x. s') w.sessions)) (sym same.sessions)
           (kept_changed w.tick h.sessions.items w.sessions place k s (λ x. s') st.sessions found is);
-      alive = same.alive ∙ st.alive ∙ sym (alive_changed w.sessions place s (λ x. s') found lives);
+      living = ap (λ x. x.items) same.living ∙ st.living ∙ sym (living_changed 0 w.sessions place s (λ x. s') found lives);
       connections = ap (λ cs. map seen cs.items) same.connections ∙ st.connections;
     }
 
@@ -87,23 +120,29 @@ changed_at h h' w place k s s' at st found same is lives cells =
 next_alive : (s : Session) → is_alive (next_given s).session.life ≡ is_alive s.life
 next_alive s = by_test (is_unsent s)
   where
-    by_test : (b : Bool) → is_alive (cond b (record s { sent = s.sent + 1; streams = noted_in (s.sent + 1) s.streams }) s).life ≡ is_alive s.life
+    by_test : (b : Bool)
+        → is_alive (cond b (trimmed (on_stream (with_line (s.sent + 1) (text_at s.board.lines (s.sent + 1))) (record s { sent = s.sent + 1 }))) s).life
+        ≡ is_alive s.life
     by_test true = refl
     by_test false = refl
 
 -- by what came in the round
-came_alive : (s board : Session) (wait : Option ℕ) (o : Option RoundLine) → is_alive board.life ≡ is_alive s.life
-    → is_alive (with_found o (record { session = board; gives = waits_until wait }) (λ t. next_given board)).session.life ≡ is_alive s.life
-came_alive s board wait None same = same
-came_alive s board wait (Some t) same = next_alive board ∙ same
+came_alive : (s waiting told : Session) (wait : Option ℕ) (o : Option RoundLine) → is_alive waiting.life ≡ is_alive s.life
+    → is_alive told.life ≡ is_alive s.life
+    → is_alive (with_found o (record { session = waiting; gives = waits_until wait }) (λ t. next_given told)).session.life ≡ is_alive s.life
+came_alive s waiting told wait None same after = same
+came_alive s waiting told wait (Some t) same after = next_alive told ∙ after
 
-abbrev taken : ℕ → List Item → Session → Session
-taken now items s = on_board (taken_in (is_due now s) now items) s
+abbrev waiting_on : ℕ → List Item → Session → Session
+waiting_on now items s = on_board (taken_in (is_due now s) now items) s
+
+abbrev told_in : ℕ → List Item → Session → Session
+told_in now items s = numbered (taken_in (is_due now s) now items) s
 
 abbrev came_in : ℕ → List Item → Session → SessionTurn
 came_in now items s =
     with_found (round_of (is_due now s) items s.board.lines s.board.round).came
-    (record { session = taken now items s; gives = waits_until (least_wait now items s) }) (λ t. next_given (taken now items s))
+    (record { session = waiting_on now items s; gives = waits_until (least_wait now items s) }) (λ t. next_given (told_in now items s))
 
 round_alive : (now : ℕ) (items : List Item) (s : Session) → is_alive (round_turn now items s).session.life ≡ is_alive s.life
 round_alive now items s = by_left (list_any (is_due now s) s.board.round && nat_le GREATEST_NUMBER (length s.board.lines))
@@ -111,41 +150,66 @@ round_alive now items s = by_left (list_any (is_due now s) s.board.round && nat_
     by_left : (b : Bool) → is_alive (cond b (record { session = s; gives = Spent }) (came_in now items s)).session.life ≡ is_alive s.life
     by_left true = refl
     by_left false =
-        came_alive s (taken now items s) (least_wait now items s) (round_of (is_due now s) items s.board.lines s.board.round).came refl
+        came_alive s (waiting_on now items s) (told_in now items s) (least_wait now items s)
+        (round_of (is_due now s) items s.board.lines s.board.round).came refl refl
+
+abbrev looped : ℕ → Session → SessionTurn
+looped now s = record { session = unbound_at now s; gives = Gave loop_text }
 
 owing_alive : (now : ℕ) (items : List Item) (s : Session) (owed : List (List ℕ))
     → is_alive (turn_owing now items s owed).session.life ≡ is_alive s.life
 owing_alive now items s (text ∷ owed) = refl
-owing_alive now items s [] = by_unsent (is_unsent s)
+owing_alive now items s [] = by_over (is_to_loop s.streams)
   where
     by_unsent : (b : Bool) → is_alive (cond b (next_given s) (round_turn now items s)).session.life ≡ is_alive s.life
     by_unsent true = next_alive s
     by_unsent false = round_alive now items s
 
-pub turn_alive : (now : ℕ) (items : List Item) (s : Session) → is_alive (session_turn now items s).session.life ≡ is_alive s.life
-turn_alive now items s = by_life s.life refl
+    by_over : (b : Bool) → is_alive (cond b (looped now s) (cond (is_unsent s) (next_given s) (round_turn now items s))).session.life ≡ is_alive s.life
+    by_over true = refl
+    by_over false = by_unsent (is_unsent s)
+
+abbrev superseded : Session → SessionTurn
+superseded s = record { session = s; gives = Superseded (length s.streams) }
+
+abbrev unbound : Session → SessionTurn
+unbound s = record { session = s; gives = gives_unbound s.life }
+
+pub turn_alive : (now : ℕ) (items : List Item) (epoch : ℕ) (s : Session) → is_alive (session_turn now items epoch s).session.life ≡ is_alive s.life
+turn_alive now items epoch s = by_newer (nat_lt epoch (length s.streams))
   where
-    by_life : (l : Life) → s.life ≡ l → is_alive (turn_living now items s l).session.life ≡ is_alive s.life
+    by_life : (l : Life) → s.life ≡ l → is_alive (turn_bound now items s l).session.life ≡ is_alive s.life
     by_life Alive is = owing_alive now items s s.owed
     by_life (Ending code) is = ap is_alive (sym is)
     by_life (Ended code) is = refl
 
--- where no number is left, or the session had ended before, it stays as it is
+    by_bound : (b : Bool) → is_alive (cond b (turn_bound now items s s.life) (unbound s)).session.life ≡ is_alive s.life
+    by_bound true = by_life s.life refl
+    by_bound false = refl
+
+    by_newer : (b : Bool)
+        → is_alive (cond b (superseded s) (cond (is_bound s) (turn_bound now items s s.life) (unbound s))).session.life ≡ is_alive s.life
+    by_newer true = refl
+    by_newer false = by_bound (is_bound s)
+
+-- where no number is left, it has a newer stream, none is bound, or it had ended before, it stays as it is
 abbrev Stays : Session → SessionTurn → TurnGives → Type 0
 Stays s st (Gave text) = Unit {0}
 Stays s st Idle = Unit {0}
 Stays s st (NotDue tick) = Unit {0}
 Stays s st Spent = st.session ≡ s
+Stays s st (Superseded epoch) = st.session ≡ s
+Stays s st Unbound = st.session ≡ s
 Stays s st (Over code) = st.session ≡ s
 
 waits_stay : (s board : Session) (wait : Option ℕ) → Stays s (record { session = board; gives = waits_until wait }) (waits_until wait)
 waits_stay s board None = tt
 waits_stay s board (Some tick) = tt
 
-came_stays : (s board : Session) (wait : Option ℕ) (o : Option RoundLine) (st : SessionTurn)
-    → st ≡ with_found o (record { session = board; gives = waits_until wait }) (λ t. next_given board) → Stays s st st.gives
-came_stays s board wait None st is = subst (λ (x : SessionTurn). Stays s x x.gives) (sym is) (waits_stay s board wait)
-came_stays s board wait (Some t) st is = subst (λ (x : SessionTurn). Stays s x x.gives) (sym is) tt
+came_stays : (s waiting told : Session) (wait : Option ℕ) (o : Option RoundLine) (st : SessionTurn)
+    → st ≡ with_found o (record { session = waiting; gives = waits_until wait }) (λ t. next_given told) → Stays s st st.gives
+came_stays s waiting told wait None st is = subst (λ (x : SessionTurn). Stays s x x.gives) (sym is) (waits_stay s waiting wait)
+came_stays s waiting told wait (Some t) st is = subst (λ (x : SessionTurn). Stays s x x.gives) (sym is) tt
 
 round_stays : (now : ℕ) (items : List Item) (s : Session) → Stays s (round_turn now items s) (round_turn now items s).gives
 round_stays now items s = by_left (list_any (is_due now s) s.board.round && nat_le GREATEST_NUMBER (length s.board.lines))
@@ -154,24 +218,51 @@ round_stays now items s = by_left (list_any (is_due now s) s.board.round && nat_
         (cond b (record { session = s; gives = Spent }) (came_in now items s)).gives
     by_left true = refl
     by_left false =
-        came_stays s (taken now items s) (least_wait now items s) (round_of (is_due now s) items s.board.lines s.board.round).came (came_in now items s) refl
+        came_stays s (waiting_on now items s) (told_in now items s) (least_wait now items s)
+        (round_of (is_due now s) items s.board.lines s.board.round).came (came_in now items s) refl
 
 owing_stays : (now : ℕ) (items : List Item) (s : Session) (owed : List (List ℕ))
     → Stays s (turn_owing now items s owed) (turn_owing now items s owed).gives
 owing_stays now items s (text ∷ owed) = tt
-owing_stays now items s [] = by_unsent (is_unsent s)
+owing_stays now items s [] = by_over (is_to_loop s.streams)
   where
     by_unsent : (b : Bool) → Stays s (cond b (next_given s) (round_turn now items s)) (cond b (next_given s) (round_turn now items s)).gives
     by_unsent true = tt
     by_unsent false = round_stays now items s
 
-turn_stays : (now : ℕ) (items : List Item) (s : Session) → Stays s (session_turn now items s) (session_turn now items s).gives
-turn_stays now items s = by_life s.life
+    by_over : (b : Bool) → Stays s (cond b (looped now s) (cond (is_unsent s) (next_given s) (round_turn now items s)))
+        (cond b (looped now s) (cond (is_unsent s) (next_given s) (round_turn now items s))).gives
+    by_over true = tt
+    by_over false = by_unsent (is_unsent s)
+
+unbound_stays : (s : Session) (l : Life) → Stays s (record { session = s; gives = gives_unbound l }) (gives_unbound l)
+unbound_stays s Alive = refl
+unbound_stays s (Ending code) = refl
+unbound_stays s (Ended code) = refl
+
+turn_stays : (now : ℕ) (items : List Item) (epoch : ℕ) (s : Session)
+    → Stays s (session_turn now items epoch s) (session_turn now items epoch s).gives
+turn_stays now items epoch s = by_newer (nat_lt epoch (length s.streams))
   where
-    by_life : (l : Life) → Stays s (turn_living now items s l) (turn_living now items s l).gives
+    by_life : (l : Life) → Stays s (turn_bound now items s l) (turn_bound now items s l).gives
     by_life Alive = owing_stays now items s s.owed
     by_life (Ending code) = tt
     by_life (Ended code) = refl
+
+    by_bound : (b : Bool) → Stays s (cond b (turn_bound now items s s.life) (unbound s)) (cond b (turn_bound now items s s.life) (unbound s)).gives
+    by_bound true = by_life s.life
+    by_bound false = unbound_stays s s.life
+
+    by_newer : (b : Bool) → Stays s (cond b (superseded s) (cond (is_bound s) (turn_bound now items s s.life) (unbound s)))
+        (cond b (superseded s) (cond (is_bound s) (turn_bound now items s s.life) (unbound s))).gives
+    by_newer true = refl
+    by_newer false = by_bound (is_bound s)
+
+-- a session that is as it was
+pub stayed : (h : Hub) (w : World) (place : ℕ) (s s' : Session) → slice_get w.sessions place ≡ Some s → s' ≡ s
+    → StandsHub h (record w { sessions = change place (λ x. s') w.sessions }) → StandsHub h w
+stayed h w place s s' found same st =
+    subst (λ ss. StandsHub h (record w { sessions = ss })) (ap (λ x. change place (λ y. x) w.sessions) same ∙ change_same place w.sessions s found) st
 
 -- what a turn prints is what the world's gives
 took_did : (h : Hub) (w : World) (connection place : ℕ) (s s' : Session) (gives : TurnGives) (name current : List ℕ) (t : Turn) (before after : List ℕ)
@@ -193,23 +284,33 @@ took_did h w connection place s s' Spent name current t before after found same 
     record {
       more = ap gave_line (sym e);
       text = text ∙ ap (λ u. before ++ text_of_out (out_of_turn name current u)) e;
-      stands = subst (λ ss. StandsHub h (record w { sessions = ss })) (ap (λ x. change place (λ y. x) w.sessions) same
-          ∙ change_same place w.sessions s found) st;
+      stands = stayed h w place s s' found same st;
+    }
+took_did h w connection place s s' (Superseded epoch) name current t before after found same e is text st =
+    record {
+      more = ap gave_line (sym e);
+      text = text ∙ ap (λ u. before ++ text_of_out (out_of_turn name current u)) e;
+      stands = stayed h w place s s' found same st;
+    }
+took_did h w connection place s s' Unbound name current t before after found same e is text st =
+    record {
+      more = ap gave_line (sym e);
+      text = text ∙ ap (λ u. before ++ text_of_out (out_of_turn name current u)) e;
+      stands = stayed h w place s s' found same st;
     }
 took_did h w connection place s s' (Over code) name current t before after found same e is text st =
     record {
       more = ap gave_line (sym e);
       text = text ∙ ap (λ u. before ++ text_of_out (out_of_turn name current u)) e;
-      stands = subst (λ ss. StandsHub h (record w { sessions = ss })) (ap (λ x. change place (λ y. x) w.sessions) same
-          ∙ change_same place w.sessions s found) st;
+      stands = stayed h w place s s' found same st;
     }
 
 -- a turn of the session of a place
-pub record TurnThere (w : World) (place : ℕ) (t : Turn) (k : Kept) (c : AllCells) : Type 0 where
+pub record TurnThere (w : World) (epoch place : ℕ) (t : Turn) (k : Kept) (c : AllCells) : Type 0 where
   pub session : Session
   pub found : slice_get w.sessions place ≡ Some session
   pub at : SessionAt w.sessions place session
-  pub ended : TurnEnded w.tick w.items at.before at.after session (session_turn w.tick w.items session) t k c
+  pub ended : TurnEnded w.tick w.items at.before at.after session (session_turn w.tick w.items epoch session) t k c
 
 -- what is kept of it, and the slots of all sessions around those of its round
 record RoundThere (h : Hub) (w : World) (place : ℕ) (k : Kept) : Type 0 where
@@ -237,13 +338,13 @@ round_there h w place k st low is =
           ∙ ap (λ (x : Session). at.before ++ x.board.round ++ at.after) (sym kept.stands.session)) st.cells;
     }
 
-pub turn_there : (h : Hub) (w : World) (place : ℕ) (k k' : Kept) (t : Turn) (c : AllCells) → StandsHub h w → place < length h.sessions.items
+pub turn_there : (h : Hub) (w : World) (epoch place : ℕ) (k k' : Kept) (t : Turn) (c : AllCells) → StandsHub h w → place < length h.sessions.items
     → k ≡ get_or h.sessions.items place k
     → ((items : List Item) (first others : List Live) (r : Record) → StandsSession k r → r.tick ≤ h.tick → h.tick ≤ GREATEST_TICK
     → StandsCells h.cells items (first ++ r.session.board.round ++ others)
-    → TurnEnded h.tick items first others r.session (turn_from h.tick items r) t k' c)
-    → TurnThere w place t k' c
-turn_there h w place k k' t c st low is turned =
+    → TurnEnded h.tick items first others r.session (turn_from h.tick items epoch r) t k' c)
+    → TurnThere w epoch place t k' c
+turn_there h w epoch place k k' t c st low is turned =
     let x : RoundThere h w place k = round_there h w place k st low is in
     let s : Session = x.session in
     let r : Record = x.kept.asking in
@@ -251,40 +352,48 @@ turn_there h w place k k' t c st low is turned =
       session = s;
       found = x.found;
       at = x.at;
-      ended = subst (λ (y : Session). TurnEnded w.tick w.items x.at.before x.at.after y (session_turn w.tick w.items s) t k' c) x.kept.session
+      ended = subst (λ (y : Session). TurnEnded w.tick w.items x.at.before x.at.after y (session_turn w.tick w.items epoch s) t k' c) x.kept.session
           (subst (λ (y : SessionTurn). TurnEnded w.tick w.items x.at.before x.at.after r.session y t k' c)
-          (turn_begun w.tick w.items r s x.kept.session x.kept.first)
-          (subst (λ n. TurnEnded n w.items x.at.before x.at.after r.session (turn_from n w.items r) t k' c) st.tick
+          (turn_begun w.tick w.items epoch r s x.kept.session x.kept.first)
+          (subst (λ n. TurnEnded n w.items x.at.before x.at.after r.session (turn_from n w.items epoch r) t k' c) st.tick
           (turned w.items x.at.before x.at.after r x.kept.stands x.early x.in_range x.cells)));
     }
 
-pub kept_there : (w : World) (place : ℕ) (t : Turn) (k : Kept) (c : AllCells) → (x : TurnThere w place t k c) → (k' : Kept) → k' ≡ k
-    → StandsSession k' (begun_anew w.tick (session_turn w.tick w.items x.session).session)
-kept_there w place t k c x k' same =
-    subst (λ (y : Kept). StandsSession y (begun_anew w.tick (session_turn w.tick w.items x.session).session)) (sym same) x.ended.session
+pub kept_there : (w : World) (epoch place : ℕ) (t : Turn) (k : Kept) (c : AllCells) → (x : TurnThere w epoch place t k c) → (k' : Kept) → k' ≡ k
+    → StandsSession k' (begun_anew w.tick (session_turn w.tick w.items epoch x.session).session)
+kept_there w epoch place t k c x k' same =
+    subst (λ (y : Kept). StandsSession y (begun_anew w.tick (session_turn w.tick w.items epoch x.session).session)) (sym same) x.ended.session
 
 -- the hub after it
-pub turned_stands : (h h' : Hub) (w : World) (place : ℕ) (k' : Kept) (t : Turn) → StandsHub h w → ChangedAt h h' place k'
-    → (x : TurnThere w place t k' h'.cells)
-    → StandsHub h' (record w { sessions = change place (λ y. (session_turn w.tick w.items x.session).session) w.sessions })
-turned_stands h h' w place k' t st same x =
-    let s' : Session = (session_turn w.tick w.items x.session).session in
+pub turned_stands : (h h' : Hub) (w : World) (epoch place : ℕ) (k' : Kept) (t : Turn) → StandsHub h w → ChangedAt h h' place k'
+    → (x : TurnThere w epoch place t k' h'.cells)
+    → StandsHub h' (record w { sessions = change place (λ y. (session_turn w.tick w.items epoch x.session).session) w.sessions })
+turned_stands h h' w epoch place k' t st same x =
+    let s' : Session = (session_turn w.tick w.items epoch x.session).session in
     changed_at h h' w place k' x.session s' x.at st x.found same (anew_is w.tick w.tick k' s' (omega arith) x.ended.session)
-    (turn_alive w.tick w.items x.session) x.ended.cells
+    (turn_alive w.tick w.items epoch x.session) x.ended.cells
 
 -- a turn on a connection
-pub take_did : (h h' : Hub) (w : World) (connection place : ℕ) (k' : Kept) (name : List ℕ) (t : Turn) (text last : List ℕ) → StandsHub h w
-    → session_at h.connections.items connection ≡ Some place → ChangedAt h h' place k' → name ≡ name_at h.connections.items connection
-    → TurnThere w place t k' h'.cells → last ≡ text ++ text_of_out (out_of_turn name (current_of k') t)
+abbrev turn_on : World → ℕ → ℕ → ℕ → Session → Once
+turn_on w connection epoch n s = took w connection n (session_turn w.tick w.items epoch s).session (session_turn w.tick w.items epoch s).gives
+
+pub take_did : (h h' : Hub) (w : World) (connection epoch place : ℕ) (k' : Kept) (name : List ℕ) (t : Turn) (text last : List ℕ) → StandsHub h w
+    → Some place ≡ place_in w.sessions (session_of w connection) → epoch ≡ epoch_of w connection → ChangedAt h h' place k'
+    → name ≡ name_at h.connections.items connection
+    → TurnThere w epoch place t k' h'.cells → last ≡ text ++ text_of_out (out_of_turn name (current_of k') t)
     → DidOnce (take_once connection w) (gave_line t) text last h'
-take_did h h' w connection place k' name t text last st linked same named x said =
+take_did h h' w connection epoch place k' name t text last st linked newest same named x said =
     let s : Session = x.session in
-    subst (λ (o : Once). DidOnce o (gave_line t) text last h') (sym
-    (some_at h w connection place s (ends w out.NoSession)
-    (λ n y. took w connection n (session_turn w.tick w.items y).session (session_turn w.tick w.items y).gives) st linked x.found))
-    (took_did h' w connection place s (session_turn w.tick w.items s).session (session_turn w.tick w.items s).gives name (current_of k') t text last x.found
-    (turn_stays w.tick w.items s) x.ended.ends (named ∙ name_is h.connections.items w connection st.connections) said
-    (turned_stands h h' w place k' t st same x))
+    let there : There w.sessions (session_of w connection) place (ends w out.NoSession) (turn_on w connection epoch) =
+    is_there w.sessions (session_of w connection) place (ends w out.NoSession) (turn_on w connection epoch) linked in
+    let e : Some there.session ≡ Some s = sym there.found ∙ x.found in
+    let is : there.session ≡ s = cc in
+    subst (λ (o : Once). DidOnce o (gave_line t) text last h')
+    (sym (ap (λ (n : ℕ). with_session w.sessions (session_of w connection) (ends w out.NoSession) (turn_on w connection n)) (sym newest) ∙ there.is
+    ∙ ap (turn_on w connection epoch place) is))
+    (took_did h' w connection place s (session_turn w.tick w.items epoch s).session (session_turn w.tick w.items epoch s).gives name (current_of k') t text
+    last x.found (turn_stays w.tick w.items epoch s) x.ended.ends (named ∙ name_is h.connections.items w connection st.connections) said
+    (turned_stands h h' w epoch place k' t st same x))
 
 -- what is true is so where a call failed
 pub on_failed : {A E P : Type 0} (r : Result A E) → P → OnErr r P
@@ -296,14 +405,14 @@ on_failed (Err e) p = p
 pub nothing_failed : (h : Hub) (w : World) → StandsHub h w → StandsQuiet w h
 nothing_failed h w st = record { after = w; rest = refl; quiet = quiet_all w.items w.sessions; stands = st }
 
-pub text_failed : (h h' : Hub) (w : World) (place : ℕ) (k' : Kept) (t : Turn) → StandsHub h w → ChangedAt h h' place k'
-    → (x : TurnThere w place t k' h'.cells) → (t ≡ turn.Send → ⊥) → StandsQuiet w h'
-text_failed h h' w place k' t st same x none =
+pub text_failed : (h h' : Hub) (w : World) (epoch place : ℕ) (k' : Kept) (t : Turn) → StandsHub h w → ChangedAt h h' place k'
+    → (x : TurnThere w epoch place t k' h'.cells) → (t ≡ turn.Send → ⊥) → StandsQuiet w h'
+text_failed h h' w epoch place k' t st same x none =
     record {
-      after = record w { sessions = change place (λ y. (session_turn w.tick w.items x.session).session) w.sessions };
+      after = record w { sessions = change place (λ y. (session_turn w.tick w.items epoch x.session).session) w.sessions };
       rest = refl;
-      quiet = quiet_at w.items w.sessions place x.session (session_turn w.tick w.items x.session).session x.found (x.ended.quiet none);
-      stands = turned_stands h h' w place k' t st same x;
+      quiet = quiet_at w.items w.sessions place x.session (session_turn w.tick w.items epoch x.session).session x.found (x.ended.quiet none);
+      stands = turned_stands h h' w epoch place k' t st same x;
     }
 
 pub turn_failed : (h h' : Hub) (w : World) (place : ℕ) (k k' : Kept) → StandsHub h w → place < length h.sessions.items
@@ -327,43 +436,9 @@ turn_failed h h' w place k k' st low is same failed =
     }
 
 -- a turn without a session
-ends_said : (h : Hub) (w : World) (o : Out) (once : Once) (text last : List ℕ) → once ≡ ends w o → StandsHub h w → last ≡ text ++ text_of_out o
-    → DidOnce once false text last h
-ends_said h w o once text last is st said = subst (λ (x : Once). DidOnce x false text last h) (sym is) (record { more = refl; text = said; stands = st })
-
-pub no_session : (h : Hub) (w : World) (connection : ℕ) (text last : List ℕ) → StandsHub h w → session_at h.connections.items connection ≡ None
+pub no_session : (h : Hub) (w : World) (connection : ℕ) (text last : List ℕ) → StandsHub h w → None ≡ place_in w.sessions (session_of w connection)
     → last ≡ text ++ text_of_out out.NoSession → DidOnce (take_once connection w) false text last h
 no_session h w connection text last st none said =
-    ends_said h w out.NoSession (take_once connection w) text last
-    (none_at h w connection (ends w out.NoSession)
-    (λ n x. took w connection n (session_turn w.tick w.items x).session (session_turn w.tick w.items x).gives) st none) st said
-
-pub past_session : (h : Hub) (w : World) (connection place : ℕ) (text last : List ℕ) → StandsHub h w
-    → session_at h.connections.items connection ≡ Some place → length h.sessions.items ≤ place
-    → last ≡ text ++ text_of_out out.NoSession → DidOnce (take_once connection w) false text last h
-past_session h w connection place text last st linked past said =
-    ends_said h w out.NoSession (take_once connection w) text last
-    (past_at h w connection place (ends w out.NoSession)
-    (λ n x. took w connection n (session_turn w.tick w.items x).session (session_turn w.tick w.items x).gives) st linked past) st said
-
--- a tick
-pub ticked : (h : Hub) (w : World) (s : Step) (ms times : ℕ) (text : List ℕ) → StandsHub h w → s ≡ step.Tick ms → Fits (known_of w) s
-    → (is_built w s ≡ true) × Prints (does w s times) text text (record h { tick = ms })
-ticked h w s ms times text st is fits =
-    let later : LaterTick (known_of w) ms = subst (λ (x : Step). Fits (known_of w) x) is fits in
-    subst (λ (x : Step). (is_built w x ≡ true) × Prints (does w x times) text text (record h { tick = ms })) (sym is) (
-      refl,
-      record {
-        text = sym (append-nil text);
-        stands = record {
-          set = st.set;
-          tick = refl;
-          in_range = omega (arith, later.most);
-          definitions = st.definitions;
-          cells = st.cells;
-          sessions = are_later w.tick ms h.sessions.items w.sessions later.later st.sessions;
-          alive = st.alive;
-          connections = st.connections;
-        };
-      },
-    )
+    subst (λ (o : Once). DidOnce o false text last h)
+    (sym (not_there w.sessions (session_of w connection) (ends w out.NoSession) (turn_on w connection (epoch_of w connection)) none))
+    (record { more = refl; text = said; stands = st })

@@ -17,7 +17,7 @@ use Rattle.ls_world.specs.Cutting.{Ask, schema_of}
 use Rattle.ls_world.specs.Lawful.{Each}
 use Rattle.ls_world.specs.Light.{IsNarrow}
 use Rattle.ls_world.specs.World.{World, Item, Live, Session, definitions, shape_at, history_of, joined_slot, joined_all, keys_in, free_number, is_of, without}
-use Rattle.ls_world.specs.World.{on_board}
+use Rattle.ls_world.specs.World.{numbered}
 use Rattle.ls_world.specs.World.{all_live}
 use Rattle.ls_world.specs.Acting.{asks_of, subscribed}
 use Rattle.ls_world.proofs.Each.{each_both, each_map}
@@ -155,7 +155,7 @@ add_in_order w a ps before after are may can is =
 
 -- the session after it
 pub subscribed_is : (w : World) (a : Add) (s : Session)
-    → on_board (with_plan (definitions w.items) a (joined_all w.items (free_number w.sessions) a.sub 1 (asks_of (definitions w.items) a))) s
+    → numbered (with_plan (definitions w.items) a (joined_all w.items (free_number w.sessions) a.sub 1 (asks_of (definitions w.items) a))) s
     ≡ subscribed w a s
 subscribed_is w a s = refl
 

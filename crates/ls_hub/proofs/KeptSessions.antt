@@ -24,6 +24,14 @@ change_same n [] x found = refl
 change_same zero (y ∷ xs) x found = let same : y ≡ x = cc in ap (λ z. z ∷ xs) (sym same)
 change_same (suc n) (y ∷ xs) x found = ap (λ ys. y ∷ ys) (change_same n xs x found)
 
+-- a change of the n-th by what becomes of it
+pub change_as : {A : Type 0} (n : ℕ) (xs : List A) (x : A) (f g : A → A) → slice_get xs n ≡ Some x → f x ≡ g x → change n f xs ≡ change n g xs
+change_as n [] x f g found is = refl
+change_as zero (y ∷ xs) x f g found is =
+    let same : y ≡ x = cc in
+    ap (λ z. f z ∷ xs) same ∙ ap (λ z. z ∷ xs) is ∙ ap (λ z. g z ∷ xs) (sym same)
+change_as (suc n) (y ∷ xs) x f g found is = ap (λ ys. y ∷ ys) (change_as n xs x f g found is)
+
 -- the slot of a rank in a subscription, among those of a round
 pub record LiveAt (vs : List Live) (sub rank : ℕ) (v : Live) : Type 0 where
   pub before : List Live

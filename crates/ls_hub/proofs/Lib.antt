@@ -16,3 +16,5 @@ pub mod Lights
 pub mod KeptSessions
 pub mod Hubs
 pub mod Publishing
+pub mod Streams
+pub mod Ticked

@@ -26,15 +26,15 @@ kept_of : (o : Option PlanItem) (lines : List Line) (v : Live) → StandsKeptAt 
 kept_of None lines v st = absurd st
 kept_of (Some k) lines v st = record { item = k; stands = st }
 
-pub told_light : (now : ℕ) (items : List Item) (first others : List Live) (r : Record) (q : Question) (k : Kept) (c : AllCells)
-    → HasAsked now items first others r q k c → (t : Taken) → cut (history_of items q.live.item) q.live.slot ≡ Some t
+pub told_light : (now : ℕ) (items : List Item) (epoch : ℕ) (first others : List Live) (r : Record) (q : Question) (k : Kept) (c : AllCells)
+    → HasAsked now items epoch first others r q k c → (t : Taken) → cut (history_of items q.live.item) q.live.slot ≡ Some t
     → IsLight q.live.wanted.places t
-told_light now items first others r q k c h t is =
-    let a = told_asking now items first others r q k c h in
+told_light now items epoch first others r q k c h t is =
+    let a = told_asking now items epoch first others r q k c h in
     let subs : StandsSubs k.subs r.session.board.lines r.session.board.round =
     subst (λ (x : Record). StandsSubs k.subs x.session.board.lines x.session.board.round) a.after h.session.subs in
     let kept = kept_of (kept_at k.subs q.live.sub q.live.rank) r.session.board.lines q.live
     (subst (StandsKeptAt (kept_at k.subs q.live.sub q.live.rank) r.session.board.lines)
     (found_live (from_place now r) r.session.board.round q.live subs.apart a.found) (subs.at q.live.sub q.live.rank)) in
     cut_is_light q.live.slot.plan.shape (history_of items q.live.item) q.live.slot q.live.wanted.places t
-    (slot_history c items _ _ q.live (told_slot now items first others r q k c h)) refl kept.stands.allowed kept.stands.narrow is
+    (slot_history c items _ _ q.live (told_slot now items epoch first others r q k c h)) refl kept.stands.allowed kept.stands.narrow is

@@ -31,7 +31,7 @@ use Rattle.ls_cells.specs.Cells.{AllCells, StandsCells, far_in}
 use Rattle.ls_session.specs.Session.{StandsSession}
 use Rattle.ls_hub.specs.Hub.{StandsHub, Prints, DidOnce, IsSession, AreSessions, seen, session_at, slot_in, outs_published, out_enqueued, has_moved}
 use Rattle.ls_cells.proofs.Lives.{SessionAt, session_at as session_at_place, middle}
-use Rattle.ls_hub.proofs.Alive.{alive_changed}
+use Rattle.ls_hub.proofs.Alive.{living_changed}
 use Rattle.ls_hub.proofs.Sessions.{kept_read}
 use Rattle.ls_hub.proofs.KeptSessions.{LiveAt, are_same, apart_at, live_found}
 use Rattle.ls_hub.proofs.Hubs.{none_at, past_at, some_at}
@@ -42,7 +42,7 @@ pub record ChangedCells (h h' : Hub) : Type 0 where
   pub config : h'.config ≡ h.config
   pub tick : h'.tick ≡ h.tick
   pub connections : h'.connections ≡ h.connections
-  pub alive : h'.alive ≡ h.alive
+  pub living : h'.living ≡ h.living
   pub sessions : h'.sessions ≡ h.sessions
 
 -- the items have the definitions that they had
@@ -60,7 +60,7 @@ with_cells h h' w same st cells =
       definitions = ap (λ c. c.items) same.config ∙ st.definitions;
       cells = cells;
       sessions = subst (λ ks. AreSessions w.tick ks.items w.sessions) (sym same.sessions) st.sessions;
-      alive = same.alive ∙ st.alive;
+      living = ap (λ x. x.items) same.living ∙ st.living;
       connections = ap (λ cs. map seen cs.items) same.connections ∙ st.connections;
     }
 
@@ -74,7 +74,7 @@ with_event h h' w n e same st cells =
       definitions = ap (λ c. c.items) same.config ∙ st.definitions ∙ sym (grown_definitions w.items n e);
       cells = cells;
       sessions = subst (λ ks. AreSessions w.tick ks.items w.sessions) (sym same.sessions) st.sessions;
-      alive = same.alive ∙ st.alive;
+      living = ap (λ x. x.items) same.living ∙ st.living;
       connections = ap (λ cs. map seen cs.items) same.connections ∙ st.connections;
     }
 
@@ -288,7 +288,7 @@ enqueue_at_place h h' w connection place sub rank s v answer text last st same l
       sessions = subst (λ ks. AreSessions w.tick ks.items (change place (on_board (enqueued_in w.items sub rank)) w.sessions)) (sym same.sessions)
           (are_same w.tick h.sessions.items w.sessions place s (on_board (enqueued_in w.items sub rank)) found
           (keeps_enqueued w.tick w.items sub rank s) st.sessions);
-      alive = same.alive ∙ st.alive ∙ sym (alive_changed w.sessions place s (on_board (enqueued_in w.items sub rank)) found refl);
+      living = ap (λ x. x.items) same.living ∙ st.living ∙ sym (living_changed 0 w.sessions place s (on_board (enqueued_in w.items sub rank)) found refl);
       connections = ap (λ cs. map seen cs.items) same.connections ∙ st.connections;
     }
 

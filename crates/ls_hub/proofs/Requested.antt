@@ -1,7 +1,6 @@
 -- Requests by the cases of their definitions: which session one names, and what it does.
 use Rattle.std.proofs.Common.{◌≡◌, ◌⊎◌, ℕ, ◌<◌, ◌≤◌, List, ◌++◌, length, refl, sym, ◌∙◌, ap, subst, cond, inl, inr}
 use Rattle.std.proofs.Common.{Bool, true, false, Option, Some, None, slice_get, slice_index_or}
-use Rattle.std.specs.Option.{option_map_or}
 use Rattle.ls_form.specs.declared.form.Pair.{Pair}
 use Rattle.ls_line.specs.Lines.{text_of_line}
 use Rattle.ls_request.specs.declared.request.LinkKind.{LinkKind}
@@ -19,13 +18,12 @@ use Rattle.ls_session.specs.Session.{StandsSession}
 use Rattle.ls_session.specs.declared.session.Session.{Session as Kept}
 use Rattle.ls_hub.proofs.Sessions.{KeptAt, kept_read, none_kept}
 use Rattle.ls_world.specs.Cases.{with_found}
-use Rattle.ls_world.specs.Built.{are_built, is_built_request}
-use Rattle.ls_world.specs.Steps.{Stepped, with_living, session_named, refuses, operates, operated, acts, malformed, request_on, requests}
+use Rattle.ls_world.specs.Steps.{Stepped, with_living, session_named, refuses, operates, operated, acts, malformed, request_over, requests}
 use Rattle.ls_world.proofs.Rules.{found_none}
-use Rattle.ls_hub.specs.Hub.{StandsHub, Prints, link_at, name_at}
+use Rattle.ls_hub.specs.Hub.{StandsHub, Prints, name_at}
 use Rattle.ls_hub.specs.Requests.{living_place, IsLiving, DidOperate, unless_refused, answer_line}
 use Rattle.ls_hub.specs.declared.hub.Hub.{Hub}
-use Rattle.ls_hub.proofs.Connected.{link_is, line_printed}
+use Rattle.ls_hub.proofs.Connected.{line_printed}
 
 -- no session that hasn't ended
 pub living_none : {A : Type 0} (sessions : List Session) (place : Option ℕ) (none : A) (f : ℕ → Session → A) → living_place sessions place ≡ None
@@ -119,31 +117,18 @@ operated_printed h h' w n req place code f answer before after st same did is = 
 
 -- a request that is refused in reading
 pub unread_printed : (h : Hub) (w : World) (n : ℕ) (l : LinkKind) (name : List ℕ) (ps : List Pair) (e : RequestRefused) (req : Option (List ℕ))
-    (before after : List ℕ) → StandsHub h w → l ≡ link_at h.connections.items n
+    (before after : List ℕ)
     → (e ≡ unread.NoMemory) ⊎ ((request_of l name ps ≡ None) × (e ≡ unread.Malformed (req_behind name ps))) → e ≡ unread.Malformed req
-    → Prints (malformed w n name req) before after h
-    → (are_built w n name (Some ps) ≡ true) × Prints (requests w n name (Some ps)) before after h
-unread_printed h w n l name ps e req before after st at (inl none) is did = absurd (let x : unread.NoMemory ≡ unread.Malformed req = sym none ∙ is in cc)
-unread_printed h w n l name ps e req before after st at (inr x) is did =
+    → Prints (malformed w n name req) before after h → Prints (requests w n l name (Some ps)) before after h
+unread_printed h w n l name ps e req before after (inl none) is did = absurd (let x : unread.NoMemory ≡ unread.Malformed req = sym none ∙ is in cc)
+unread_printed h w n l name ps e req before after (inr x) is did =
     let named : unread.Malformed (req_behind name ps) ≡ unread.Malformed req = sym x.1 ∙ is in
     let same : req_behind name ps ≡ req = cc in
-    let unread_on : request_on w n name (Some ps) ≡ None = ap (λ k. request_of k name ps) (sym (at ∙ link_is h.connections.items w n st.connections)) ∙ x.0 in (
-      ap (λ o. option_map_or is_built_request o true) unread_on,
-      subst (λ (s : Stepped). Prints s before after h) (sym (found_none (request_on w n name (Some ps)) _ _ unread_on ∙ ap (malformed w n name) same)) did,
-    )
+    subst (λ (s : Stepped). Prints s before after h)
+    (sym (found_none (request_over l name (Some ps)) (malformed w n name (req_behind name ps)) (acts w n) x.0 ∙ ap (malformed w n name) same)) did
 
 -- one that was read
-pub read_printed : (h h' : Hub) (w : World) (n : ℕ) (l : LinkKind) (name : List ℕ) (ps : List Pair) (r : Request) (before after : List ℕ) → StandsHub h w
-    → l ≡ link_at h.connections.items n → request_of l name ps ≡ Some r
-    → (is_built_request r ≡ true) × Prints (acts w n r) before after h'
-    → (are_built w n name (Some ps) ≡ true) × Prints (requests w n name (Some ps)) before after h'
-read_printed h h' w n l name ps r before after st at is did =
-    let read_on : request_on w n name (Some ps) ≡ Some r = ap (λ k. request_of k name ps) (sym (at ∙ link_is h.connections.items w n st.connections)) ∙ is in (
-      ap (λ o. option_map_or is_built_request o true) read_on ∙ did.0,
-      subst (λ (s : Stepped). Prints s before after h') (sym (ap (λ o. with_found o (malformed w n name (req_behind name ps)) (acts w n)) read_on)) did.1,
-    )
-
-pub read_unbuilt : (h : Hub) (w : World) (n : ℕ) (l : LinkKind) (name : List ℕ) (ps : List Pair) (r : Request) → StandsHub h w
-    → l ≡ link_at h.connections.items n → request_of l name ps ≡ Some r → is_built_request r ≡ false → are_built w n name (Some ps) ≡ false
-read_unbuilt h w n l name ps r st at is unbuilt =
-    ap (λ o. option_map_or is_built_request o true) (ap (λ k. request_of k name ps) (sym (at ∙ link_is h.connections.items w n st.connections)) ∙ is) ∙ unbuilt
+pub read_printed : (h' : Hub) (w : World) (n : ℕ) (l : LinkKind) (name : List ℕ) (ps : List Pair) (r : Request) (before after : List ℕ)
+    → request_of l name ps ≡ Some r → Prints (acts w n r) before after h' → Prints (requests w n l name (Some ps)) before after h'
+read_printed h' w n l name ps r before after is did =
+    subst (λ (s : Stepped). Prints s before after h') (sym (ap (λ o. with_found o (malformed w n name (req_behind name ps)) (acts w n)) is)) did

@@ -1,6 +1,6 @@
 -- A session's turn in steps: a slot has nothing or waits, its cut makes no line, or its cut makes one.
 use Rattle.std.proofs.Common.{◌≡◌, ℕ, zero, suc, ◌+◌, ◌≤◌, List, [], ◌∷◌, ◌++◌, length, take, drop, refl, sym, ◌∙◌, ap, arith, subst, cond, Bool, true, false}
-use Rattle.std.proofs.Common.{append_assoc, append-nil, nat_le, slice_get, Option, Some, None, not, ◌&&◌, ◌||◌, min}
+use Rattle.std.proofs.Common.{append_assoc, append-nil, nat_lt, nat_le, slice_get, Option, Some, None, not, ◌&&◌, ◌||◌, min}
 use Rattle.std.specs.List.{list_any}
 use Rattle.std.specs.Option.{option_map_or}
 use Rattle.ls_event.specs.declared.event.Entry.{Entry}
@@ -14,12 +14,13 @@ use Rattle.ls_world.specs.Cases.{with_found}
 use Rattle.ls_world.specs.Cutting.{Wanted, Turn, what_of_cut, turn_within, turn}
 use Rattle.ls_world.specs.Lines.{Tells, came}
 use Rattle.ls_world.specs.World.{Item, Live, Session, Life, Alive, Ending, Ended, RoundLine, Round, history_of, change, live_turn, round_of}
-use Rattle.ls_world.specs.World.{on_board, is_unsent}
+use Rattle.ls_world.specs.World.{on_board, numbered, trimmed, is_unsent, is_to_loop, is_bound, unbound_at}
 use Rattle.ls_world.specs.World.{is_due, due_at, is_waiting, waits_of, least_of, least_wait}
-use Rattle.ls_world.specs.Steps.{SessionTurn, Spent, waits_until, next_given, round_turn, turn_owing, turn_living, session_turn}
+use Rattle.ls_world.specs.Steps.{SessionTurn, Gave, Spent, Superseded, waits_until, next_given, round_turn, turn_owing, turn_bound, session_turn}
+use Rattle.ls_world.specs.Steps.{loop_text, gives_unbound}
 use Rattle.ls_world.proofs.Parts.{turn_or, turn_by, given_by}
 use Rattle.ls_world.proofs.Turns.{turn_ends}
-use Rattle.ls_hub.specs.Turning.{before_ticks, given_behind, round_behind, rest_of_round, owing_from, living_from}
+use Rattle.ls_hub.specs.Turning.{before_ticks, given_behind, round_behind, rest_of_round, owing_from, bound_from, epoch_from}
 
 -- the place of an element in a list
 pub drop_at : {A : Type 0} (xs : List A) (n : ℕ) (x : A) → slice_get xs n ≡ Some x → drop n xs ≡ x ∷ drop (suc n) xs
@@ -308,7 +309,7 @@ module _ (now : ℕ) (items : List Item) (s : Session) (n : ℕ) (wait : Option 
 
   -- a due slot's cut makes a line: it is given, and the slot goes to the back
   pub line_told : (what : What) → what_of_cut v.wanted v.slot (came v.sub v.rank s.board.lines) t ≡ Some what
-      → rest_of_round now items s n wait ≡ next_given (on_board (λ b. record {
+      → rest_of_round now items s n wait ≡ next_given (numbered (λ b. record {
         lines = Tells v.sub v.rank now (came_by v.slot t what) ∷ b.lines;
         round = (take n b.round ++ drop (n + 1) b.round) ++ moved t v ∷ [];
       }) s)
@@ -318,7 +319,7 @@ module _ (now : ℕ) (items : List Item) (s : Session) (n : ℕ) (wait : Option 
       (met v rest (round_of (is_due now s) items s.board.lines rest) u))
       (ap (λ b. cond b (turn (history_of items v.item) v.wanted v.slot (came v.sub v.rank s.board.lines)) (nothing v)) due
       ∙ turn_told (history_of items v.item) v.wanted v.slot (came v.sub v.rank s.board.lines) t what is some)
-      ∙ ap (λ (m : ℕ). next_given (on_board (λ b. record {
+      ∙ ap (λ (m : ℕ). next_given (numbered (λ b. record {
         lines = Tells v.sub v.rank now (came_by v.slot t what) ∷ b.lines;
         round = (take n b.round ++ drop m b.round) ++ moved t v ∷ [];
       }) s)) {x = suc n} {y = n + 1} (omega arith)
@@ -327,12 +328,14 @@ module _ (now : ℕ) (items : List Item) (s : Session) (n : ℕ) (wait : Option 
 whole_round : (now : ℕ) (s : Session) (wait : Option ℕ) (kept : List Live) (o : Option RoundLine)
     → given_behind now s [] wait (record { kept = kept; came = o })
     ≡ with_found o (record { session = record s { board = given_by now s.board kept o }; gives = waits_until wait })
-    (λ t. next_given (record s { board = given_by now s.board kept o }))
+    (λ t. next_given (trimmed (record s { board = given_by now s.board kept o })))
 whole_round now s wait kept None = refl
 whole_round now s wait kept (Some t) = refl
 
-pub from_first : (now : ℕ) (items : List Item) (s : Session) → living_from now items s 0 None s.life ≡ session_turn now items s
-from_first now items s = by_life s.life refl
+pub from_first : (now : ℕ) (items : List Item) (epoch : ℕ) (s : Session) → epoch_from now items epoch s 0 None ≡ session_turn now items epoch s
+from_first now items epoch s =
+    ap (λ (t : SessionTurn). cond (nat_lt epoch (length s.streams)) (record { session = s; gives = Superseded (length s.streams) })
+    (cond (is_bound s) t (record { session = s; gives = gives_unbound s.life }))) (by_life s.life)
   where
     met_all : Round
     met_all = round_of (is_due now s) items s.board.lines s.board.round
@@ -344,9 +347,11 @@ from_first now items s = by_life s.life refl
 
     by_owed : (owed : List (List ℕ)) → owing_from now items s 0 None owed ≡ turn_owing now items s owed
     by_owed (text ∷ owed) = refl
-    by_owed [] = ap (λ (t : SessionTurn). cond (is_unsent s) (next_given s) t) by_round
+    by_owed [] =
+        ap (λ (t : SessionTurn). cond (is_to_loop s.streams) (record { session = unbound_at now s; gives = Gave loop_text })
+        (cond (is_unsent s) (next_given s) t)) by_round
 
-    by_life : (l : Life) → s.life ≡ l → living_from now items s 0 None l ≡ turn_living now items s l
-    by_life Alive is = by_owed s.owed
-    by_life (Ending code) is = ap (λ (l : Life). turn_living now items s l) is
-    by_life (Ended code) is = ap (λ (l : Life). turn_living now items s l) is
+    by_life : (l : Life) → bound_from now items s 0 None l ≡ turn_bound now items s l
+    by_life Alive = by_owed s.owed
+    by_life (Ending code) = refl
+    by_life (Ended code) = refl

@@ -1,6 +1,6 @@
 -- What a hub keeps stands for a world, and what its steps do.
-use Rattle.std.specs.Prelude.{◌≡◌, ◌≤◌, ℕ, List, [], ◌∷◌, ◌++◌, map, Bool, true, false, Option, None, Some}
-use Rattle.std.specs.Prelude.{Result, Ok, Err, slice_get, option_and_then}
+use Rattle.std.specs.Prelude.{◌≡◌, ◌≤◌, ℕ, ◌+◌, List, [], ◌∷◌, ◌++◌, map, Bool, true, false, Option, None, Some}
+use Rattle.std.specs.Prelude.{Result, Ok, Err, slice_get, option_and_then, if◌then◌else◌}
 use Rattle.std.specs.Option.{option_map_or}
 use Rattle.ls_budget.specs.declared.limits.TheConstants.{GREATEST_TICK}
 use Rattle.ls_cell.specs.declared.cell.Enqueued.{Enqueued}
@@ -14,7 +14,7 @@ use Rattle.ls_step.specs.declared.out.Out.TheVariants as out
 use Rattle.ls_step.specs.Notes.{text_of_out}
 use Rattle.ls_step.specs.declared.step.Step.{Step}
 use Rattle.ls_step.specs.declared.step.Step.TheVariants as step
-use Rattle.ls_world.specs.World.{World, Connection, Live, Session, definitions, all_live, alive, live_at}
+use Rattle.ls_world.specs.World.{World, Connection, Live, Session, definitions, all_live, is_alive, live_at}
 use Rattle.ls_world.specs.Steps.{Once, Stepped, refused_out, with_session, session_of}
 use Rattle.ls_world.specs.Script.{text_of_outs}
 use Rattle.ls_session.specs.declared.session.Session.{Session as Kept}
@@ -26,7 +26,7 @@ use Rattle.ls_session.specs.Record.{Record, from_place, wait_from}
 
 -- a connection as it is kept
 abbrev pub seen : Linked → Connection
-seen c = record { name = c.name; link = c.link; session = c.session }
+seen c = record { name = c.name; link = c.link; session = c.session; epoch = c.epoch }
 
 -- the next turn begins at the round's first slot, at whatever tick
 abbrev pub BeginsAnew : Record → Type 0
@@ -47,6 +47,12 @@ AreSessions now [] (s ∷ sessions) = ⊥
 AreSessions now (k ∷ kept) [] = ⊥
 AreSessions now (k ∷ kept) (s ∷ sessions) = IsSession now k s × AreSessions now kept sessions
 
+-- the places of the sessions that haven't ended, where the first session is of this place
+abbrev pub living_from : ℕ → List Session → List ℕ
+living_from n [] = []
+living_from n (s ∷ sessions) =
+    if is_alive s.life then n ∷ living_from (n + 1) sessions else living_from (n + 1) sessions
+
 -- a hub stands for a world
 pub record StandsHub (h : Hub) (w : World) : Type 0 where
   pub set : h.config.set ≡ w.set
@@ -55,7 +61,7 @@ pub record StandsHub (h : Hub) (w : World) : Type 0 where
   pub definitions : h.config.items ≡ definitions w.items
   pub cells : StandsCells h.cells w.items (all_live w.sessions)
   pub sessions : AreSessions w.tick h.sessions.items w.sessions
-  pub alive : h.alive ≡ alive w.sessions
+  pub living : h.living.items ≡ living_from 0 w.sessions
   pub connections : map seen h.connections.items ≡ w.connections
 
 -- a hub did a step, whose text was appended, and stands for the world after it
@@ -69,15 +75,22 @@ pub record DidOnce (o : Once) (again : Bool) (before after : List ℕ) (h : Hub)
   pub text : after ≡ before ++ text_of_out o.out
   pub stands : StandsHub h o.after
 
--- what is known of the connection of a place; where there is none it has no session and no name
+-- what is known of the connection of a place; where there is none it has no session, the epoch 0 and no name
 abbrev pub session_at : List Linked → ℕ → Option ℕ
 session_at connections n = option_and_then (λ c. c.session) (slice_get connections n)
+
+abbrev pub epoch_at : List Linked → ℕ → ℕ
+epoch_at connections n = option_map_or (λ c. c.epoch) (slice_get connections n) 0
 
 abbrev pub name_at : List Linked → ℕ → List ℕ
 name_at connections n = option_map_or (λ c. c.name) (slice_get connections n) []
 
 abbrev pub link_at : List Linked → ℕ → LinkKind
 link_at connections n = option_map_or (λ c. c.link) (slice_get connections n) link.Ws
+
+-- the place of a session, if it is there
+abbrev pub place_in : List Session → Option ℕ → Option ℕ
+place_in sessions place = with_session sessions place None (λ n s. Some n)
 
 -- what a publish prints
 abbrev pub outs_published : Result ℕ PublishRefused → List Out

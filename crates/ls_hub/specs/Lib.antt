@@ -3,3 +3,4 @@ pub mod Quiet
 pub mod Turning
 pub mod Repeats
 pub mod Requests
+pub mod Clock

@@ -1,9 +1,10 @@
 -- What a turn leaves that gave no line: slots may have moved past cuts that make none.
-use Rattle.std.specs.Prelude.{◌≡◌, ◌<◌, ℕ, zero, suc, List, [], ◌∷◌, Bool, true, ◌&&◌, None, Some}
+use Rattle.std.specs.Prelude.{◌≡◌, ◌<◌, ℕ, zero, suc, List, [], ◌∷◌, length, Bool, true, not, ◌&&◌, nat_lt, None, Some}
 use Rattle.ls_event.specs.declared.event.Taken.{Taken}
 use Rattle.ls_event.specs.Cuts.{cut}
 use Rattle.ls_world.specs.Lines.{Line}
 use Rattle.ls_world.specs.World.{World, Item, Live, Session, history_of, on_board, is_alive, is_unsent}
+use Rattle.ls_world.specs.World.{is_bound, is_to_loop}
 use Rattle.ls_subs.specs.Standing.{what_of, passed_live}
 use Rattle.ls_world.specs.Steps.{Once}
 use Rattle.ls_hub.specs.Repeats.{nth_world, all_go_on}
@@ -51,6 +52,12 @@ pub record FailedBehind (f : World → Once) (w : World) (times : ℕ) (h : Hub)
   pub goes : all_go_on f done w ≡ true
   pub quiet : StandsQuiet (nth_world f done w) h
 
--- whether a session has a numbered line to give next
-abbrev pub has_line : Session → Bool
-has_line s = is_alive s.life && is_unsent s
+-- whether a session is alive and gives lines on the stream of an epoch: it has no newer one, and this one is bound and
+-- isn't over
+abbrev pub is_open : ℕ → Session → Bool
+is_open epoch s =
+    not (nat_lt epoch (length s.streams)) && is_bound s && is_alive s.life && not (is_to_loop s.streams)
+
+-- whether it has a numbered line to give there next
+abbrev pub has_line : ℕ → Session → Bool
+has_line epoch s = is_open epoch s && is_unsent s

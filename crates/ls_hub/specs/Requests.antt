@@ -7,10 +7,15 @@ use Rattle.ls_event.specs.declared.limits.TheConstants.{MOST_SLOTS}
 use Rattle.ls_line.specs.declared.line.Line.{Line}
 use Rattle.ls_line.specs.declared.line.Line.TheVariants as line
 use Rattle.ls_world.specs.Cases.{with_found}
-use Rattle.ls_world.specs.Acting.{message_of}
-use Rattle.ls_world.specs.Steps.{with_living, is_opening}
+use Rattle.ls_request.specs.declared.request.Bind.{Bind}
+use Rattle.ls_step.specs.declared.out.Out.{Out}
+use Rattle.ls_step.specs.declared.out.Out.TheVariants as out
+use Rattle.ls_world.specs.Acting.{message_of, bind_code}
+use Rattle.ls_world.specs.Steps.{Stepped, stays, bound, refuses_stream, with_living, is_opening}
 use Rattle.ls_world.specs.World.{World, Item, Live, Session, definitions, shape_at, history_of, is_alive, change}
 use Rattle.ls_cells.specs.Cells.{StandsCells, AllCells, free_in}
+use Rattle.ls_session.specs.declared.session.Lost.{Lost}
+use Rattle.ls_session.specs.declared.session.Lost.TheVariants as lost
 use Rattle.ls_subs.specs.declared.plan.PlanItem.{PlanItem}
 use Rattle.ls_subs.specs.Plans.{MayJoin}
 use Rattle.ls_hub.specs.declared.hub.Hub.{Hub}
@@ -40,6 +45,17 @@ pub record DidOperate (w : World) (place : ℕ) (code : Option ℕ) (f : Session
     : Type 0 where
   pub answered : answer ≡ code
   pub stands : StandsHub h (unless_refused code place f w)
+
+-- a bind_session of the session of a place, which hasn't ended
+abbrev pub binds_living : World → ℕ → Bind → ℕ → Session → Stepped
+binds_living w connection b n s =
+    with_found (bind_code s b) (stays (bound w connection n s b) []) (refuses_stream w connection)
+
+-- what the loss of a stream prints
+abbrev pub out_of_loss : Lost → Out
+out_of_loss lost.Unbound = out.Lost
+out_of_loss (lost.Superseded epoch) = out.Superseded epoch
+out_of_loss lost.NotBound = out.Unbound
 
 -- the answer to a control request: REQOK, or REQERR with the code of a refusal
 abbrev pub answer_line : List ℕ → Option ℕ → Line

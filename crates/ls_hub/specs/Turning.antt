@@ -1,6 +1,6 @@
 -- A session's turn at a tick, from where the asking of its round stands.
 use Rattle.std.specs.Prelude.{◌≡◌, ◌≤◌, ℕ, List, [], ◌∷◌, ◌++◌, length, take, drop, Bool, true, false, ◌&&◌}
-use Rattle.std.specs.Prelude.{Option, None, Some, nat_le, if◌then◌else◌}
+use Rattle.std.specs.Prelude.{Option, None, Some, nat_lt, nat_le, if◌then◌else◌}
 use Rattle.std.specs.List.{list_any}
 use Rattle.ls_step.specs.declared.out.Out.{Out}
 use Rattle.ls_step.specs.declared.out.Out.TheVariants as out
@@ -8,9 +8,9 @@ use Rattle.ls_value.specs.declared.limits.TheConstants.{GREATEST_NUMBER}
 use Rattle.ls_world.specs.Cases.{with_found}
 use Rattle.ls_world.specs.Lines.{Tells}
 use Rattle.ls_world.specs.World.{Item, Live, Session, Life, Alive, Ending, Ended, Round, round_of, on_board, is_unsent}
-use Rattle.ls_world.specs.World.{is_due, waits_of, least_of}
-use Rattle.ls_world.specs.Steps.{SessionTurn, TurnGives, Gave, Idle, NotDue, Spent, Over, waits_until, next_given}
-use Rattle.ls_world.specs.Steps.{turn_owing, session_turn}
+use Rattle.ls_world.specs.World.{is_due, waits_of, least_of, numbered, is_to_loop, is_bound, unbound_at}
+use Rattle.ls_world.specs.Steps.{SessionTurn, TurnGives, Gave, Idle, NotDue, Spent, Superseded, Unbound, Over}
+use Rattle.ls_world.specs.Steps.{waits_until, next_given, turn_owing, turn_bound, loop_text, gives_unbound}
 use Rattle.ls_session.specs.Record.{Record, Question, Asks, from_place, wait_from, begun_anew, turned}
 use Rattle.ls_session.specs.declared.session.Session.{Session as Kept}
 use Rattle.ls_cells.specs.Cells.{AllCells, StandsCells}
@@ -31,7 +31,7 @@ abbrev pub given_behind : ℕ → Session → List Live → Option ℕ → Round
 given_behind now s first wait r =
     with_found r.came
     (record { session = on_board (λ b. record b { round = first ++ r.kept }) s; gives = waits_until wait })
-    (λ t. next_given (on_board (λ b. record {
+    (λ t. next_given (numbered (λ b. record {
       lines = Tells t.live.sub t.live.rank now t.came ∷ b.lines;
       round = (first ++ r.kept) ++ t.live ∷ [];
     }) s))
@@ -50,20 +50,30 @@ abbrev pub rest_of_round : ℕ → List Item → Session → ℕ → Option ℕ 
 rest_of_round now items s n wait =
     round_behind now items s (take n s.board.round) wait (drop n s.board.round)
 
--- by what is owed and what is unsent
+-- by what is owed, whether the stream is over, and what is unsent
 abbrev pub owing_from : ℕ → List Item → Session → ℕ → Option ℕ → List (List ℕ) → SessionTurn
 owing_from now items s n wait (text ∷ owed) = turn_owing now items s (text ∷ owed)
-owing_from now items s n wait [] = if is_unsent s then next_given s else rest_of_round now items s n wait
+owing_from now items s n wait [] =
+    if is_to_loop s.streams then record { session = unbound_at now s; gives = Gave loop_text }
+    else if is_unsent s then next_given s
+    else rest_of_round now items s n wait
 
--- how the turn of a session ends, of whose round the first n slots were asked
-abbrev pub living_from : ℕ → List Item → Session → ℕ → Option ℕ → Life → SessionTurn
-living_from now items s n wait Alive = owing_from now items s n wait s.owed
-living_from now items s n wait (Ending code) = session_turn now items s
-living_from now items s n wait (Ended code) = session_turn now items s
+-- how the turn of a session ends on the stream that is bound, where the first n slots of its round were asked
+abbrev pub bound_from : ℕ → List Item → Session → ℕ → Option ℕ → Life → SessionTurn
+bound_from now items s n wait Alive = owing_from now items s n wait s.owed
+bound_from now items s n wait (Ending code) = turn_bound now items s (Ending code)
+bound_from now items s n wait (Ended code) = turn_bound now items s (Ended code)
+
+-- on the stream of an epoch
+abbrev pub epoch_from : ℕ → List Item → ℕ → Session → ℕ → Option ℕ → SessionTurn
+epoch_from now items epoch s n wait =
+    if nat_lt epoch (length s.streams) then record { session = s; gives = Superseded (length s.streams) }
+    else if is_bound s then bound_from now items s n wait s.life
+    else record { session = s; gives = gives_unbound s.life }
 
 -- how the turn ends, at a tick, that a record stands in
-abbrev pub turn_from : ℕ → List Item → Record → SessionTurn
-turn_from now items r = living_from now items r.session (from_place now r) (wait_from now r) r.session.life
+abbrev pub turn_from : ℕ → List Item → ℕ → Record → SessionTurn
+turn_from now items epoch r = epoch_from now items epoch r.session (from_place now r) (wait_from now r)
 
 -- how a session's turn ended, by what it gives; a line is the one that the session has as its current one
 abbrev pub EndsAs : TurnGives → Turn → List ℕ → Type 0
@@ -71,35 +81,37 @@ EndsAs (Gave text) t current = (t ≡ turn.Send) × (current ≡ text)
 EndsAs Idle t current = t ≡ turn.Idle
 EndsAs (NotDue tick) t current = t ≡ turn.NotDue tick
 EndsAs Spent t current = t ≡ turn.Spent
+EndsAs (Superseded epoch) t current = t ≡ turn.Superseded epoch
+EndsAs Unbound t current = t ≡ turn.Unbound
 EndsAs (Over code) t current = t ≡ turn.Ended code
 
--- a session gave a question in its turn at a tick, where the slots of other sessions stand before and behind those of
--- its round
-pub record HasAsked (now : ℕ) (items : List Item) (before behind : List Live) (r : Record) (q : Question) (k : Kept)
-    (c : AllCells) : Type 0 where
-  pub gives : (turned now r).gives ≡ Asks q
-  pub session : StandsSession k (turned now r).after
+-- a session gave a question in its turn at a tick on the stream of an epoch, where the slots of other sessions stand
+-- before and behind those of its round
+pub record HasAsked (now : ℕ) (items : List Item) (epoch : ℕ) (before behind : List Live) (r : Record) (q : Question)
+    (k : Kept) (c : AllCells) : Type 0 where
+  pub gives : (turned now epoch r).gives ≡ Asks q
+  pub session : StandsSession k (turned now epoch r).after
   pub cells : StandsCells c items (before ++ r.session.board.round ++ behind)
 
 -- after the answer its turn is as it was to be from a record on; a line was numbered only where it gives one next
-pub record GoesOn (now : ℕ) (items : List Item) (before behind : List Live) (r : Record) (k : Kept) (c : AllCells)
-    : Type 0 where
+pub record GoesOn (now : ℕ) (items : List Item) (epoch : ℕ) (before behind : List Live) (r : Record) (k : Kept)
+    (c : AllCells) : Type 0 where
   pub asking : Record
   pub early : asking.tick ≤ now
   pub session : StandsSession k asking
   pub cells : StandsCells c items (before ++ asking.session.board.round ++ behind)
-  pub turn : turn_from now items asking ≡ turn_from now items r
-  pub quiet : has_line asking.session ≡ false → IsQuiet items r.session asking.session
+  pub turn : turn_from now items epoch asking ≡ turn_from now items epoch r
+  pub quiet : has_line epoch asking.session ≡ false → IsQuiet items r.session asking.session
 
 -- a session gave this in its turn at a tick, which is as it was to be from a record on
-pub record HasTurned (now : ℕ) (items : List Item) (before behind : List Live) (r : Record) (t : Turn) (k : Kept)
-    (c : AllCells) : Type 0 where
+pub record HasTurned (now : ℕ) (items : List Item) (epoch : ℕ) (before behind : List Live) (r : Record) (t : Turn)
+    (k : Kept) (c : AllCells) : Type 0 where
   pub asking : Record
-  pub answers : AnswersTurn (turned now asking).gives t k
-  pub session : StandsSession k (turned now asking).after
+  pub answers : AnswersTurn (turned now epoch asking).gives t k
+  pub session : StandsSession k (turned now epoch asking).after
   pub cells : StandsCells c items (before ++ asking.session.board.round ++ behind)
-  pub turn : turn_from now items asking ≡ turn_from now items r
-  pub quiet : has_line asking.session ≡ false → IsQuiet items r.session asking.session
+  pub turn : turn_from now items epoch asking ≡ turn_from now items epoch r
+  pub quiet : has_line epoch asking.session ≡ false → IsQuiet items r.session asking.session
 
 -- a session's turn at a tick ended, and the next one begins at its round's first slot; without a line no other was
 -- numbered either
@@ -128,6 +140,8 @@ out_of_turn name current (turn.Ask a) = out.Idle
 out_of_turn name current turn.Idle = out.Idle
 out_of_turn name current (turn.NotDue tick) = out.NotDue tick
 out_of_turn name current (turn.Ended code) = out.Ended code
+out_of_turn name current (turn.Superseded epoch) = out.Superseded epoch
+out_of_turn name current turn.Unbound = out.Unbound
 out_of_turn name current turn.Spent = out.Spent
 
 abbrev pub gave_line : Turn → Bool
@@ -136,4 +150,6 @@ gave_line (turn.Ask a) = false
 gave_line turn.Idle = false
 gave_line (turn.NotDue tick) = false
 gave_line (turn.Ended code) = false
+gave_line (turn.Superseded epoch) = false
+gave_line turn.Unbound = false
 gave_line turn.Spent = false

@@ -77,6 +77,7 @@ fn message_of(code: u16) -> &'static str
 {
     match code {
         2 => "Unknown adapter set",
+        4 => "Recovery not possible",
         8 => "Too many sessions",
         19 => "Unknown subscription",
         20 => "Unknown session",

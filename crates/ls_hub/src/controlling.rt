@@ -1,68 +1,45 @@
 //! Control requests: a subscription is added, ended or gets another frequency, and a session gets another bandwidth or
 //! is ended (TLCP 2.1, control).
-ghost use Rattle.std.specs.Prelude.{◌≡◌, ◌<◌, ◌++◌, length, map, None, IfOk, IfSome, OnOk, IsErrOf, true, false};
+ghost use Rattle.std.specs.Prelude.{◌≡◌, ◌<◌, ◌⊎◌, ◌++◌, length, map, None, IfOk, IfSome, OnOk};
 ghost use Rattle.std.specs.Option.{ForSome};
 ghost use Rattle.ls_line.specs.Lines.{text_of_line};
 ghost use Rattle.ls_request.specs.Ranges.{OpFits, AddFits};
 ghost use Rattle.ls_request.specs.declared.request.Request.TheVariants as request;
 ghost use Rattle.ls_step.specs.Notes.{text_of_out};
 ghost use Rattle.ls_step.specs.declared.out.Out.TheVariants as out;
-ghost use Rattle.ls_world.specs.World.{World, Session as ASession, on_board, removed, reconfigured, constrained, ended};
+ghost use Rattle.ls_world.specs.World.{World, Session as ASession, numbered, removed, reconfigured, constrained, ended};
+ghost use Rattle.ls_world.specs.World.{timed_out};
 ghost use Rattle.ls_world.specs.Acting.{add_code, subscribed, change_code, constrain_code, destroyed};
 ghost use Rattle.ls_world.specs.Steps.{acts, operates, session_named};
-ghost use Rattle.ls_world.specs.Built.{is_built_request, is_built_op};
 ghost use Rattle.ls_hub.specs.Hub.{StandsHub, Prints, name_at, seen};
 ghost use Rattle.ls_hub.specs.Requests.{living_place, place_of_number, IsLiving, DidOperate, answer_line};
 
 use crate::answers::answer;
-use crate::hub::{Hub, StepRefused};
+use crate::hub::Hub;
 use crate::slots::{join_all, leave_all};
+use crate::ticking::leave_out;
 use ls_request::{Add, Control, Op};
 use ls_session::DESTROYED;
 use ls_subs::Refusal;
 use ls_value::{NoMemory, Text};
 
 /// The code of a session that isn't there, or has ended.
-const UNKNOWN_SESSION: u16 = 20;
+pub(crate) const UNKNOWN_SESSION: u16 = 20;
 
 impl Hub {
-    /// A control request on the session that it names, or else on the connection's.
+    /// A control request on the session that it names, or else on the connection's: REQERR where that isn't there or
+    /// has ended.
     pub(crate) fn control(
         &mut self,
-        connection: u32,
+        connection: usize,
         control: Control,
         text: &mut Vec<u8>,
-    ) -> Result<(), StepRefused>
+    ) -> Result<(), NoMemory>
         requires { OpFits control.op }
-        ensures ok { OnOk result ((w : World) → StandsHub self.old w
-            → (is_built_request (request.Control control) ≡ true)
-            × Prints (acts w connection (request.Control control)) text.old.items text.new.items self.new) }
-        ensures refused { IsErrOf result StepRefused.NotBuilt → is_built_request (request.Control control) ≡ false }
+        ensures { OnOk result ((w : World) → StandsHub self.old w
+            → Prints (acts w connection (request.Control control)) text.old.items text.new.items self.new) }
     {
         let Control { req, session, op } = control;
-        if is_built(&op) {
-            self.control_named(connection as usize, req, session, op, text)?;
-            Ok(())
-        } else {
-            Err(StepRefused::NotBuilt)
-        }
-    }
-
-    /// An operation on the session of a number from 1, or else on the connection's: REQERR where it isn't there or has
-    /// ended.
-    fn control_named(
-        &mut self,
-        connection: usize,
-        req: Text,
-        session: Option<u64>,
-        op: Op,
-        text: &mut Vec<u8>,
-    ) -> Result<(), NoMemory>
-        requires { OpFits op }
-        ensures { OnOk result ((w : World) → StandsHub self.old w
-            → Prints (acts w connection (request.Control (record { req = req; session = session; op = op })))
-            text.old.items text.new.items self.new) }
-    {
         match self.living(self.named(connection, session)) {
             None => self.answer(connection, req, Some(UNKNOWN_SESSION), text),
             Some(place) => self.operate(connection, req, place, op, text),
@@ -70,7 +47,7 @@ impl Hub {
     }
 
     /// The place of the session of a number from 1, or else of the connection's.
-    fn named(&self, connection: usize, session: Option<u64>) -> Option<usize>
+    pub(crate) fn named(&self, connection: usize, session: Option<u64>) -> Option<usize>
         ensures { (w : World) → map seen self.now.connections.items ≡ w.connections
             → result ≡ session_named w connection session }
     {
@@ -81,7 +58,7 @@ impl Hub {
     }
 
     /// The session of a place, if there is one that hasn't ended.
-    fn living(&self, place: Option<usize>) -> Option<usize>
+    pub(crate) fn living(&self, place: Option<usize>) -> Option<usize>
         ensures within { IfSome result (λ n. n < length self.now.sessions.items) }
         ensures living { (w : World) → StandsHub self.now w → result ≡ living_place w.sessions place }
     {
@@ -94,7 +71,7 @@ impl Hub {
         }
     }
 
-    /// An operation on the session of a place, which hasn't ended, and its answer. What isn't built does nothing.
+    /// An operation on the session of a place, which hasn't ended, and its answer.
     fn operate(
         &mut self,
         connection: usize,
@@ -126,10 +103,13 @@ impl Hub {
                 self.answer(connection, req, code, text)
             }
             Op::Destroy => {
-                self.destroy(place);
+                self.end(place, DESTROYED);
                 self.answer(connection, req, None, text)
             }
-            Op::ForceRebind => Ok(()),
+            Op::ForceRebind => {
+                let code = self.force_rebind(place)?;
+                self.answer(connection, req, code, text)
+            }
         }
     }
 
@@ -159,7 +139,7 @@ impl Hub {
         requires { place < length self.old.sessions.items }
         ensures connections { self.new.connections ≡ self.old.connections }
         ensures did { IfOk result (λ code. (w : World) (s : ASession) → StandsHub self.old w → IsLiving w place s
-            → DidOperate w place (change_code s sub) (on_board (removed sub)) code self.new) }
+            → DidOperate w place (change_code s sub) (numbered (removed sub)) code self.new) }
     {
         match self.sessions[place].delete(sub) {
             Err(Refusal::Code(code)) => Ok(Some(code)),
@@ -183,7 +163,7 @@ impl Hub {
         requires some { ForSome frequency (λ f. 0 < f) }
         ensures connections { self.new.connections ≡ self.old.connections }
         ensures did { IfOk result (λ code. (w : World) (s : ASession) → StandsHub self.old w → IsLiving w place s
-            → DidOperate w place (change_code s sub) (on_board (reconfigured sub frequency)) code self.new) }
+            → DidOperate w place (change_code s sub) (numbered (reconfigured sub frequency)) code self.new) }
     {
         match self.sessions[place].reconf(sub, frequency) {
             Err(Refusal::Code(code)) => Ok(Some(code)),
@@ -209,16 +189,18 @@ impl Hub {
         }
     }
 
-    /// The end of the session of a place, which hasn't ended: its slots leave.
-    fn destroy(&mut self, place: usize)
-        requires { place < length self.old.sessions.items }
+    /// The session of a place, which hasn't ended, ends for the cause of a code, by a request or by time: its slots
+    /// leave. No memory is taken.
+    pub(crate) fn end(&mut self, place: usize, code: u16)
+        requires place { place < length self.old.sessions.items }
+        requires cause { (code ≡ destroyed) ⊎ (code ≡ timed_out) }
         ensures connections { self.new.connections ≡ self.old.connections }
         ensures did { (w : World) (s : ASession) → StandsHub self.old w → IsLiving w place s
-            → DidOperate w place None (ended destroyed) None self.new }
+            → DidOperate w place None (ended code) None self.new }
     {
-        let slots = self.sessions[place].finish(DESTROYED);
+        let slots = self.sessions[place].finish(code);
         leave_all(&mut self.cells, &slots);
-        self.alive = self.alive.saturating_sub(1);
+        leave_out(&mut self.living, place);
     }
 
     /// The answer to a control request on a connection.
@@ -234,16 +216,6 @@ impl Hub {
     {
         let line = answer(self.alloc, req, code)?;
         self.line(connection, &line, text)
-    }
-}
-
-/// Whether an operation is built: not yet the end of a stream.
-fn is_built(op: &Op) -> bool
-    ensures { result ≡ is_built_op op.now }
-{
-    match op {
-        Op::ForceRebind => false,
-        _ => true,
     }
 }
 

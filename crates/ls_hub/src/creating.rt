@@ -4,7 +4,7 @@ ghost use Rattle.std.specs.Option.{ForSome};
 ghost use Rattle.ls_value.specs.declared.limits.TheConstants.{GREATEST_NUMBER};
 ghost use Rattle.ls_world.specs.World.{World, change};
 ghost use Rattle.ls_world.specs.Acting.{is_set_of, create_code};
-ghost use Rattle.ls_world.specs.Steps.{creates, created};
+ghost use Rattle.ls_world.specs.Steps.{creates, created, refuses_stream};
 ghost use Rattle.ls_world.specs.declared.TheConstants.{MOST_SESSIONS};
 ghost use Rattle.ls_hub.specs.Hub.{StandsHub, Prints, seen};
 
@@ -28,10 +28,7 @@ impl Hub {
             → Prints (creates w connection create.now) text.old.items text.new.items self.new) }
     {
         match self.create_code(create) {
-            Some(code) => {
-                let line = session_refused(self.alloc, code)?;
-                self.line(connection, &line, text)
-            }
+            Some(code) => self.refuse_stream(connection, code, text),
             None => self.begin(connection, create),
         }
     }
@@ -39,12 +36,12 @@ impl Hub {
     /// What a create_session is refused for: another adapter set, too many sessions, or that no number is left for one.
     fn create_code(&self, create: &Create) -> Option<u16>
         ensures code { (w : World) → StandsHub self.now w → result ≡ create_code w create.now }
-        ensures room { result ≡ None → (self.now.alive < MOST_SESSIONS)
+        ensures room { result ≡ None → (length self.now.living.items < MOST_SESSIONS)
             × (length self.now.sessions.items < GREATEST_NUMBER) }
     {
         if !self.has_set(&create.set) {
             Some(2)
-        } else if self.alive >= MOST_SESSIONS {
+        } else if self.living.len() >= MOST_SESSIONS {
             Some(8)
         } else if self.sessions.len() as u64 >= GREATEST_NUMBER {
             Some(74)
@@ -65,7 +62,7 @@ impl Hub {
 
     /// A new session, which is the connection's. After `NoMemory` all is as before.
     fn begin(&mut self, connection: usize, create: &Create) -> Result<(), NoMemory>
-        requires alive { self.old.alive < MOST_SESSIONS }
+        requires living { length self.old.living.items < MOST_SESSIONS }
         requires number { length self.old.sessions.items < GREATEST_NUMBER }
         requires bandwidth { ForSome create.now.bandwidth (λ limit. 0 < limit) }
         ensures ok { OnOk result ((w : World) → StandsHub self.old w
@@ -73,19 +70,40 @@ impl Hub {
     {
         let place = self.sessions.len();
         let session = Session::new(self.alloc, place as u64 + 1, create, self.tick)?;
+        self.living.reserve(1)?;
         self.sessions.push(session)?;
-        self.alive += 1;
-        give_session(&mut self.connections, connection, place);
+        self.living.push_reserved(place);
+        give_session(&mut self.connections, connection, place, 1);
         Ok(())
+    }
+
+    /// CONERR on a connection: a request for a session or a stream is refused for the cause of a code.
+    pub(crate) fn refuse_stream(
+        &self,
+        connection: usize,
+        code: u16,
+        text: &mut Vec<u8>,
+    ) -> Result<(), NoMemory>
+        ensures { OnOk result ((w : World) → StandsHub self.now w
+            → Prints (refuses_stream w connection code) text.old.items text.new.items self.now) }
+    {
+        let line = session_refused(self.alloc, code)?;
+        self.line(connection, &line, text)
     }
 }
 
-/// Gives a connection the session of a place.
-fn give_session(connections: &mut Vec<Connection>, connection: usize, place: usize)
-    ensures { map seen connections.new.items ≡ change connection (λ c. record c { session = Some place })
-        (map seen connections.old.items) }
+/// Gives a connection the session of a place, and the stream of an epoch.
+pub(crate) fn give_session(
+    connections: &mut Vec<Connection>,
+    connection: usize,
+    place: usize,
+    epoch: u64,
+)
+    ensures { map seen connections.new.items
+        ≡ change connection (λ c. record c { session = Some place; epoch = epoch }) (map seen connections.old.items) }
 {
     if let Some(connection) = connections.get_mut(connection) {
         connection.session = Some(place);
+        connection.epoch = epoch;
     }
 }

@@ -1,17 +1,14 @@
 //! The hub, and its steps.
-ghost use Rattle.std.specs.Prelude.{◌≡◌, ◌<◌, ◌++◌, ℕ, [], ◌∷◌, IfOk, OnOk, IsErrOf, true, false, codes};
-ghost use Rattle.ls_form.specs.Forms.{form_of};
-ghost use Rattle.ls_step.specs.Adding.{add_pairs};
+ghost use Rattle.std.specs.Prelude.{◌≡◌, ◌<◌, ◌++◌, ℕ, [], ◌∷◌, length, IfOk, IfSome, OnOk, OnErr, true};
 ghost use Rattle.ls_step.specs.Ranges.{Fits};
 ghost use Rattle.ls_step.specs.declared.step.Step.TheVariants as steps;
 ghost use Rattle.ls_config.specs.Items.{may_follow};
 ghost use Rattle.ls_event.specs.Shapes.{IsShape, shape_of};
 ghost use Rattle.ls_world.specs.World.{World, empty, definitions};
-ghost use Rattle.ls_world.specs.Steps.{does, stays, connects, take_once};
+ghost use Rattle.ls_world.specs.Steps.{does, connects, take_once, session_of};
 ghost use Rattle.ls_world.specs.Script.{known_of};
-ghost use Rattle.ls_world.specs.Built.{is_built, is_ws};
 ghost use Rattle.ls_world.specs.Ranges.{StepInRange};
-ghost use Rattle.ls_hub.specs.Hub.{StandsHub, Prints, HasAdapter, session_at, name_at, link_at};
+ghost use Rattle.ls_hub.specs.Hub.{StandsHub, Prints, HasAdapter, session_at, place_in, epoch_at, name_at, link_at};
 ghost use Rattle.ls_hub.specs.Quiet.{FailedBehind};
 
 use ls_cells::Cells;
@@ -23,37 +20,19 @@ use ls_step::Step;
 use ls_value::{NoMemory, Text};
 use std::alloc::Global;
 
-/// Why a step isn't done.
-#[derive(Clone, Copy, Debug, PartialEq, Eq)]
-pub enum StepRefused {
-    /// It isn't built yet.
-    NotBuilt,
-    /// Memory was refused.
-    NoMemory,
-}
-
-impl From<NoMemory> for StepRefused {
-    ghost use Rattle.std.specs.Prelude.{◌≡◌};
-    ghost use Rattle.ls_hub.specs.declared.hub.StepRefused.TheVariants as refused;
-
-    ghost from_gives = { λ _ e. e ≡ refused.NoMemory };
-
-    fn from(_: NoMemory) -> StepRefused {
-        StepRefused::NoMemory
-    }
-}
-
-/// A connection: its name, what it goes over, and the place of its session, from 0, if it ever had one.
+/// A connection: its name, what it goes over, and the place of its session, from 0, if it ever had one, with the epoch
+/// of the stream that the session had on it last; before the first one that is 0.
 #[derive(Drop)]
 pub struct Connection {
     pub name: Text,
     pub link: LinkKind,
     pub session: Option<usize>,
+    pub epoch: u64,
 }
 
 /// The adapter set's name and the items' definitions, the last tick in ms, the items, the connections and the sessions,
-/// each in the order in which they came, and how many sessions haven't ended. It keeps the allocator that its
-/// constructor took.
+/// each in the order in which they came, and the places of the sessions that haven't ended, in their order. It keeps
+/// the allocator that its constructor took.
 #[derive(Drop)]
 pub struct Hub {
     pub(crate) alloc: Global,
@@ -62,7 +41,7 @@ pub struct Hub {
     pub(crate) cells: Cells,
     pub(crate) connections: Vec<Connection>,
     pub(crate) sessions: Vec<Session>,
-    pub(crate) alive: usize,
+    pub(crate) living: Vec<usize>,
 }
 
 impl Hub {
@@ -81,50 +60,41 @@ impl Hub {
             cells: Cells::new(alloc),
             connections: Vec::new(alloc),
             sessions: Vec::new(alloc),
-            alive: 0,
+            living: Vec::new(alloc),
         })
     }
 
     /// Does a step of the script's line of this number, at most so often, and appends what it prints. After `NoMemory`
     /// in a take some of its turns were taken, and in the one behind these no line was numbered or given, while slots
-    /// may have moved past cuts that make none. After another error nothing is known of the hub, and after each nothing
-    /// of the text.
+    /// may have moved past cuts that make none. After another `NoMemory` nothing is known of the hub, and after each
+    /// nothing of the text.
     pub fn step(
         &mut self,
         line: u64,
         step: Step,
         times: u32,
         text: &mut Vec<u8>,
-    ) -> Result<(), StepRefused>
+    ) -> Result<(), NoMemory>
         requires range { StepInRange step }
         requires adapter { HasAdapter step }
         requires times { 0 < times }
         ensures ok { OnOk result ((w : World) → StandsHub self.old w → line ≡ w.line → Fits (known_of w) step
-            → (is_built w step ≡ true) × Prints (does w step times) text.old.items text.new.items self.new) }
-        ensures refused { IsErrOf result StepRefused.NotBuilt → (w : World) → StandsHub self.old w → line ≡ w.line
-            → is_built w step ≡ false }
-        ensures take { IsErrOf result StepRefused.NoMemory → (w : World) (connection : ℕ) → StandsHub self.old w
-            → step ≡ steps.Take connection → FailedBehind (take_once connection) w times self.new }
+            → Prints (does w step times) text.old.items text.new.items self.new) }
+        ensures take { OnErr result ((w : World) (connection : ℕ) → StandsHub self.old w
+            → step ≡ steps.Take connection → FailedBehind (take_once connection) w times self.new) }
     {
         match step {
             Step::Set { name } => {
                 self.config.set = name;
                 Ok(())
             }
-            Step::Item { name, kind, fields } => {
-                self.declare(ItemDef { name, kind, fields })?;
-                Ok(())
-            }
+            Step::Item { name, kind, fields } => self.declare(ItemDef { name, kind, fields }),
             Step::Tick { ms } => {
-                self.tick = ms;
+                self.tick_to(ms);
                 Ok(())
             }
-            Step::Lose { connection: _ } => Err(StepRefused::NotBuilt),
-            Step::Conn { name, link } => self.connect_over(name, link),
-            Step::Open { name } => {
-                self.connect_and_open(name, text)?;
-                Ok(())
-            }
+            Step::Conn { name, link } => self.connect(name, link),
+            Step::Open { name } => self.connect_and_open(name, text),
             Step::Add { connection, words } => self.add(line, connection, &words, text),
             Step::Request {
                 connection,
@@ -136,26 +106,21 @@ impl Hub {
                 seq,
                 item,
                 cells,
-            } => {
-                self.publish(item, adapter, seq, Event::Update(cells), text)?;
-                Ok(())
-            }
-            Step::Clear { adapter, seq, item } => {
-                self.publish(item, adapter, seq, Event::Clear, text)?;
-                Ok(())
-            }
+            } => self.publish(item, adapter, seq, Event::Update(cells), text),
+            Step::Clear { adapter, seq, item } => self.publish(
+                item,
+                adapter,
+                seq,
+                Event::Clear,
+                text,
+            ),
             Step::Enqueue {
                 connection,
                 sub,
                 rank,
-            } => {
-                self.enqueue(connection, sub, rank, times, text)?;
-                Ok(())
-            }
-            Step::Take { connection } => {
-                self.take(connection, times, text)?;
-                Ok(())
-            }
+            } => self.enqueue(connection, sub, rank, times, text),
+            Step::Take { connection } => self.take(connection, times, text),
+            Step::Lose { connection } => self.lose(connection, text),
         }
     }
 
@@ -172,21 +137,6 @@ impl Hub {
         Ok(())
     }
 
-    /// A new connection; one over HTTP isn't built yet.
-    fn connect_over(&mut self, name: Text, link: LinkKind) -> Result<(), StepRefused>
-        ensures ok { OnOk result ((w : World) → StandsHub self.old w
-            → (is_ws link ≡ true) × StandsHub self.new (connects w name link)) }
-        ensures refused { IsErrOf result StepRefused.NotBuilt → is_ws link ≡ false }
-    {
-        match link {
-            LinkKind::Http => Err(StepRefused::NotBuilt),
-            LinkKind::Ws => {
-                self.connect(name, link)?;
-                Ok(())
-            }
-        }
-    }
-
     /// A new connection, which has no session.
     pub(crate) fn connect(&mut self, name: Text, link: LinkKind) -> Result<(), NoMemory>
         ensures { OnOk result ((w : World) → StandsHub self.old w → StandsHub self.new (connects w name link)) }
@@ -195,6 +145,7 @@ impl Hub {
             name,
             link,
             session: None,
+            epoch: 0,
         })?;
         Ok(())
     }
@@ -205,6 +156,29 @@ impl Hub {
     {
         let connection = self.connections.get(connection)?;
         connection.session
+    }
+
+    /// The place of a connection's session, if it is there.
+    pub(crate) fn session_place(&self, connection: usize) -> Option<usize>
+        ensures within { IfSome result (λ n. n < length self.now.sessions.items) }
+        ensures place { (w : World) → StandsHub self.now w → result ≡ place_in w.sessions (session_of w connection) }
+    {
+        let place = self.session_of(connection)?;
+        if place < self.sessions.len() {
+            Some(place)
+        } else {
+            None
+        }
+    }
+
+    /// The epoch of the last stream on a connection; it is 0 where there was none.
+    pub(crate) fn epoch_of(&self, connection: usize) -> u64
+        ensures { result ≡ epoch_at self.now.connections.items connection }
+    {
+        match self.connections.get(connection) {
+            None => 0,
+            Some(connection) => connection.epoch,
+        }
     }
 
     /// The name of a connection; it is empty where there is none.

@@ -2,8 +2,8 @@
 //!
 //! A `Hub` keeps the adapter set's name and the items' definitions (ls_config), the items' cells (ls_cells), the
 //! connections, and the sessions (ls_session). `Hub::step` does a step and appends what it prints. It finds items and
-//! connections by their numbers, and sessions by theirs; no step but a turn of its own session's round grows with what
-//! it doesn't touch.
+//! connections by their numbers, and sessions by theirs. What a step costs grows with nothing that it doesn't touch,
+//! but a turn's with its own session's round, and a tick's with the sessions that haven't ended.
 //!
 //! A session holds no items: its turn asks what a slot has to tell, the hub looks at the slot's cell, gives the session
 //! the answer, and moves the slot past what was taken. Of a slot whose frequency or whose session's bandwidth doesn't
@@ -24,12 +24,14 @@
 #![tactic(auto)]
 
 mod answers;
+mod binding;
 mod controlling;
 mod creating;
 mod events;
 mod hub;
 mod requests;
 mod slots;
+mod ticking;
 mod turning;
 
-pub use hub::{Connection, Hub, StepRefused};
+pub use hub::{Connection, Hub};

@@ -1,18 +1,18 @@
 //! Requests on a connection, by their names and parameters (TLCP 2.1, requests).
-ghost use Rattle.std.specs.Prelude.{◌≡◌, ◌++◌, length, map, IfOk, OnOk, IsErrOf, true, false, codes};
+ghost use Rattle.std.specs.Prelude.{◌≡◌, ◌++◌, length, IfOk, OnOk, codes};
 ghost use Rattle.ls_form.specs.Forms.{form_of};
 ghost use Rattle.ls_line.specs.Lines.{text_of_line};
 ghost use Rattle.ls_request.specs.Ranges.{RequestFits};
+ghost use Rattle.ls_request.specs.declared.request.LinkKind.TheVariants as link;
 ghost use Rattle.ls_step.specs.Adding.{add_pairs};
 ghost use Rattle.ls_step.specs.Notes.{text_of_out};
 ghost use Rattle.ls_step.specs.declared.out.Out.TheVariants as out;
 ghost use Rattle.ls_world.specs.World.{World};
-ghost use Rattle.ls_world.specs.Steps.{requests, malformed, acts, creates, connects, plain_create};
-ghost use Rattle.ls_world.specs.Built.{are_built, is_built_request};
+ghost use Rattle.ls_world.specs.Steps.{requests, link_of, malformed, acts, creates, connects, plain_create};
 ghost use Rattle.ls_hub.specs.Hub.{StandsHub, Prints, name_at};
 
 use crate::answers::malformed;
-use crate::hub::{Hub, StepRefused};
+use crate::hub::Hub;
 use ls_form::{FormRefused, Params, pairs};
 use ls_line::{Line, append};
 use ls_request::{Create, LinkKind, Request, RequestRefused, read_pairs};
@@ -25,41 +25,37 @@ use std::alloc::Global;
 const KEEPALIVE: u32 = 5000;
 
 impl Hub {
-    /// The request that an `add` line stands for.
+    /// The request that an `add` line stands for, which is read as over a WebSocket.
     pub(crate) fn add(
         &mut self,
         line: u64,
         connection: u32,
         words: &AddWords,
         text: &mut Vec<u8>,
-    ) -> Result<(), StepRefused>
-        ensures ok { OnOk result ((w : World) → StandsHub self.old w → line ≡ w.line
-            → (are_built w connection (codes "control") (add_pairs w.line words.now) ≡ true)
-            × Prints (requests w connection (codes "control") (add_pairs w.line words.now)) text.old.items
+    ) -> Result<(), NoMemory>
+        ensures { OnOk result ((w : World) → StandsHub self.old w → line ≡ w.line
+            → Prints (requests w connection link.Ws (codes "control") (add_pairs w.line words.now)) text.old.items
             text.new.items self.new) }
-        ensures refused { IsErrOf result StepRefused.NotBuilt → (w : World) → StandsHub self.old w → line ≡ w.line
-            → are_built w connection (codes "control") (add_pairs w.line words.now) ≡ false }
     {
         let params = add_params(self.alloc, line, words)?;
-        self.request(connection, b"control", params, text)
+        self.request(connection, LinkKind::Ws, b"control", params, text)
     }
 
-    /// A request by its name and its form text.
+    /// A request by its name and its form text, which is read as over its connection's link.
     pub(crate) fn request_form(
         &mut self,
         connection: u32,
         name: &Text,
         parameters: &Bytes,
         text: &mut Vec<u8>,
-    ) -> Result<(), StepRefused>
-        ensures ok { OnOk result ((w : World) → StandsHub self.old w
-            → (are_built w connection name.now (form_of parameters.now) ≡ true)
-            × Prints (requests w connection name.now (form_of parameters.now)) text.old.items text.new.items self.new) }
-        ensures refused { IsErrOf result StepRefused.NotBuilt → (w : World) → StandsHub self.old w
-            → are_built w connection name.now (form_of parameters.now) ≡ false }
+    ) -> Result<(), NoMemory>
+        ensures { OnOk result ((w : World) → StandsHub self.old w
+            → Prints (requests w connection (link_of w connection) name.now (form_of parameters.now)) text.old.items
+            text.new.items self.new) }
     {
         let params = form(self.alloc, parameters.as_slice())?;
-        self.request(connection, name.as_bytes(), params, text)
+        let link = self.link_of(connection as usize);
+        self.request(connection, link, name.as_bytes(), params, text)
     }
 
     /// A new connection over WebSocket, and a create_session on it without parameters.
@@ -83,59 +79,45 @@ impl Hub {
         self.open(connection, &create, text)
     }
 
-    /// A request by its name and its parameters, which are none where they are no form: it is done, or refused in
-    /// reading.
+    /// A request by its name and its parameters, which are none where they are no form, as it is read over a link: it
+    /// is done, or refused in reading.
     fn request(
         &mut self,
         connection: u32,
+        link: LinkKind,
         name: &[u8],
         params: Option<Params>,
         text: &mut Vec<u8>,
-    ) -> Result<(), StepRefused>
-        ensures ok { OnOk result ((w : World) → StandsHub self.old w
-            → (are_built w connection name.now params ≡ true)
-            × Prints (requests w connection name.now params) text.old.items text.new.items self.new) }
-        ensures refused { IsErrOf result StepRefused.NotBuilt → (w : World) → StandsHub self.old w
-            → are_built w connection name.now params ≡ false }
+    ) -> Result<(), NoMemory>
+        ensures { OnOk result ((w : World) → StandsHub self.old w
+            → Prints (requests w connection link name.now params) text.old.items text.new.items self.new) }
     {
         let Some(params) = params else {
-            self.refuse(connection, name, None, text)?;
-            return Ok(());
+            return self.refuse(connection, name, None, text);
         };
-        match read_pairs(self.alloc, self.link_of(connection as usize), name, &params) {
-            Ok(request) => self.act(connection, request, text),
-            Err(RequestRefused::Malformed { req }) => {
-                self.refuse(connection, name, req, text)?;
-                Ok(())
-            }
-            Err(RequestRefused::NoMemory) => Err(StepRefused::NoMemory),
+        match read_pairs(self.alloc, link, name, &params) {
+            Ok(request) => self.act(connection as usize, request, text),
+            Err(RequestRefused::Malformed { req }) => self.refuse(connection, name, req, text),
+            Err(RequestRefused::NoMemory) => Err(NoMemory),
         }
     }
 
     /// A request that was read.
     fn act(
         &mut self,
-        connection: u32,
+        connection: usize,
         request: Request,
         text: &mut Vec<u8>,
-    ) -> Result<(), StepRefused>
+    ) -> Result<(), NoMemory>
         requires { RequestFits request }
-        ensures ok { OnOk result ((w : World) → StandsHub self.old w
-            → (is_built_request request ≡ true)
-            × Prints (acts w connection request) text.old.items text.new.items self.new) }
-        ensures refused { IsErrOf result StepRefused.NotBuilt → is_built_request request ≡ false }
+        ensures { OnOk result ((w : World) → StandsHub self.old w
+            → Prints (acts w connection request) text.old.items text.new.items self.new) }
     {
         match request {
-            Request::Create(create) => {
-                self.open(connection as usize, &create, text)?;
-                Ok(())
-            }
-            Request::Bind(_) => Err(StepRefused::NotBuilt),
+            Request::Create(create) => self.open(connection, &create, text),
+            Request::Bind(bind) => self.bind(connection, &bind, text),
             Request::Control(control) => self.control(connection, control, text),
-            Request::Wsok => {
-                self.line(connection as usize, &Line::WsOk, text)?;
-                Ok(())
-            }
+            Request::Wsok => self.line(connection, &Line::WsOk, text),
         }
     }
 

@@ -56,16 +56,13 @@ impl Hub {
             → DidOnce (one_turn connection w) more text.old.items text.new.items self.new) }
         ensures err { OnErr result ((w : World) → StandsHub self.old w → StandsQuiet w self.new) }
     {
-        let Some(place) = self.session_of(connection) else {
+        let Some(place) = self.session_place(connection) else {
             append(text, &Out::NoSession)?;
             return Ok(false);
         };
-        if place >= self.sessions.len() {
-            append(text, &Out::NoSession)?;
-            return Ok(false);
-        }
+        let epoch = self.epoch_of(connection);
         text.reserve(self.name_of(connection).len() + (MOST_LINE + 2))?;
-        let turn = turn_of(&mut self.cells, &mut self.sessions[place], self.tick)?;
+        let turn = turn_of(&mut self.cells, &mut self.sessions[place], self.tick, epoch)?;
         append_turn(
             text,
             self.name_of(connection),
@@ -76,25 +73,25 @@ impl Hub {
     }
 }
 
-/// A session's turn at a tick, in ms: its round is asked until it has an answer. After `NoMemory` no line was numbered
-/// or given; slots may have moved past cuts that make none.
-fn turn_of(cells: &mut Cells, session: &mut Session, now: u64) -> Result<Turn, NoMemory>
+/// A session's turn at a tick, in ms, on the stream of an epoch: its round is asked until it has an answer. After
+/// `NoMemory` no line was numbered or given; slots may have moved past cuts that make none.
+fn turn_of(cells: &mut Cells, session: &mut Session, now: u64, epoch: u64) -> Result<Turn, NoMemory>
     ensures ok { IfOk result (λ turn. (items : List Item) (before behind : List Live) (r : Record)
         → StandsSession session.old r → r.tick ≤ now → now ≤ GREATEST_TICK
         → StandsCells cells.old items (before ++ r.session.board.round ++ behind)
-        → TurnEnded now items before behind r.session (turn_from now items r) turn session.new cells.new) }
+        → TurnEnded now items before behind r.session (turn_from now items epoch r) turn session.new cells.new) }
     ensures err { OnErr result ((items : List Item) (before behind : List Live) (r : Record)
         → StandsSession session.old r → r.tick ≤ now → now ≤ GREATEST_TICK
         → StandsCells cells.old items (before ++ r.session.board.round ++ behind)
         → TurnFailed now items before behind r.session session.new cells.new) }
 {
     for _ in 0..u64::MAX {
-        match session.turn(now) {
+        match session.turn(now, epoch) {
             Turn::Ask(ask) => tell(cells, session, ask)?,
             turn => return Ok(turn),
         }
     }
-    match session.turn(now) {
+    match session.turn(now, epoch) {
         Turn::Ask(_) => Err(NoMemory),
         turn => Ok(turn),
     }
@@ -102,13 +99,13 @@ fn turn_of(cells: &mut Cells, session: &mut Session, now: u64) -> Result<Turn, N
 
 /// Answers what a session asks of a slot. After `NoMemory` the question stands, and all is as before.
 fn tell(cells: &mut Cells, session: &mut Session, ask: Ask) -> Result<(), NoMemory>
-    ensures ok { OnOk result ((now : ℕ) (items : List Item) (before behind : List Live) (r : Record) (q : Question)
-        → HasAsked now items before behind r q session.old cells.old
+    ensures ok { OnOk result ((now : ℕ) (items : List Item) (epoch : ℕ) (before behind : List Live) (r : Record)
+        (q : Question) → HasAsked now items epoch before behind r q session.old cells.old
         → ask ≡ record { slot = ref_of q.live; due = q.due }
-        → GoesOn now items before behind r session.new cells.new) }
-    ensures err { OnErr result ((now : ℕ) (items : List Item) (before behind : List Live) (r : Record) (q : Question)
-        → HasAsked now items before behind r q session.old cells.old
-        → HasAsked now items before behind r q session.new cells.new) }
+        → GoesOn now items epoch before behind r session.new cells.new) }
+    ensures err { OnErr result ((now : ℕ) (items : List Item) (epoch : ℕ) (before behind : List Live) (r : Record)
+        (q : Question) → HasAsked now items epoch before behind r q session.old cells.old
+        → HasAsked now items epoch before behind r q session.new cells.new) }
 {
     if ask.due {
         tell_cut(cells, session, ask)
@@ -121,13 +118,13 @@ fn tell(cells: &mut Cells, session: &mut Session, ask: Ask) -> Result<(), NoMemo
 /// question stands, and all is as before.
 fn tell_cut(cells: &mut Cells, session: &mut Session, ask: Ask) -> Result<(), NoMemory>
     requires { ask.due ≡ true }
-    ensures ok { OnOk result ((now : ℕ) (items : List Item) (before behind : List Live) (r : Record) (q : Question)
-        → HasAsked now items before behind r q session.old cells.old
+    ensures ok { OnOk result ((now : ℕ) (items : List Item) (epoch : ℕ) (before behind : List Live) (r : Record)
+        (q : Question) → HasAsked now items epoch before behind r q session.old cells.old
         → ask ≡ record { slot = ref_of q.live; due = q.due }
-        → GoesOn now items before behind r session.new cells.new) }
-    ensures err { OnErr result ((now : ℕ) (items : List Item) (before behind : List Live) (r : Record) (q : Question)
-        → HasAsked now items before behind r q session.old cells.old
-        → HasAsked now items before behind r q session.new cells.new) }
+        → GoesOn now items epoch before behind r session.new cells.new) }
+    ensures err { OnErr result ((now : ℕ) (items : List Item) (epoch : ℕ) (before behind : List Live) (r : Record)
+        (q : Question) → HasAsked now items epoch before behind r q session.old cells.old
+        → HasAsked now items epoch before behind r q session.new cells.new) }
 {
     match cells.look(ask.slot.item, ask.slot.slot)? {
         None => {
@@ -145,13 +142,13 @@ fn tell_cut(cells: &mut Cells, session: &mut Session, ask: Ask) -> Result<(), No
 /// Answers whether a slot that isn't due waits. After `NoMemory` the question stands, and all is as before.
 fn tell_waiting(cells: &Cells, session: &mut Session, ask: Ask) -> Result<(), NoMemory>
     requires { ask.due ≡ false }
-    ensures ok { OnOk result ((now : ℕ) (items : List Item) (before behind : List Live) (r : Record) (q : Question)
-        → HasAsked now items before behind r q session.old cells.now
+    ensures ok { OnOk result ((now : ℕ) (items : List Item) (epoch : ℕ) (before behind : List Live) (r : Record)
+        (q : Question) → HasAsked now items epoch before behind r q session.old cells.now
         → ask ≡ record { slot = ref_of q.live; due = q.due }
-        → GoesOn now items before behind r session.new cells.now) }
-    ensures err { OnErr result ((now : ℕ) (items : List Item) (before behind : List Live) (r : Record) (q : Question)
-        → HasAsked now items before behind r q session.old cells.now
-        → HasAsked now items before behind r q session.new cells.now) }
+        → GoesOn now items epoch before behind r session.new cells.now) }
+    ensures err { OnErr result ((now : ℕ) (items : List Item) (epoch : ℕ) (before behind : List Live) (r : Record)
+        (q : Question) → HasAsked now items epoch before behind r q session.old cells.now
+        → HasAsked now items epoch before behind r q session.new cells.now) }
 {
     if cells.pending(ask.slot.item, ask.slot.slot) {
         session.answer(ask, Reply::Waiting)?;
@@ -184,6 +181,8 @@ fn append_turn(text: &mut Vec<u8>, name: &[u8], current: &[u8], turn: Turn) -> R
         Turn::Send => append_line(text, name, current),
         Turn::NotDue { at } => append(text, &Out::NotDue { at }),
         Turn::Ended { code } => append(text, &Out::Ended { code }),
+        Turn::Superseded { epoch } => append(text, &Out::Superseded { epoch }),
+        Turn::Unbound => append(text, &Out::Unbound),
         Turn::Spent => append(text, &Out::Spent),
         Turn::Ask(_) => append(text, &Out::Idle),
         Turn::Idle => append(text, &Out::Idle),
@@ -212,6 +211,8 @@ fn gave_line(turn: Turn) -> bool
         Turn::Idle => false,
         Turn::NotDue { at: _ } => false,
         Turn::Ended { code: _ } => false,
+        Turn::Superseded { epoch: _ } => false,
+        Turn::Unbound => false,
         Turn::Spent => false,
     }
 }

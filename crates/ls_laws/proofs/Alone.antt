@@ -8,12 +8,14 @@ use Rattle.ls_form.specs.declared.form.Pair.{Pair}
 use Rattle.ls_form.specs.Forms.{form_of}
 use Rattle.ls_line.specs.declared.line.Line.TheVariants as line
 use Rattle.ls_line.specs.Lines.{text_of_line}
+use Rattle.ls_request.specs.declared.request.LinkKind.{LinkKind}
 use Rattle.ls_request.specs.declared.request.LinkKind.TheVariants as link
+use Rattle.ls_request.specs.declared.request.Bind.{Bind}
 use Rattle.ls_request.specs.declared.request.Op.{Op}
 use Rattle.ls_request.specs.declared.request.Op.TheVariants as op
 use Rattle.ls_request.specs.declared.request.Request.{Request}
 use Rattle.ls_request.specs.declared.request.Request.TheVariants as request
-use Rattle.ls_request.specs.Requests.{request_of, req_behind}
+use Rattle.ls_request.specs.Requests.{req_behind}
 use Rattle.ls_request.specs.declared.request.Add.{Add}
 use Rattle.ls_step.specs.declared.out.Out.TheVariants as out
 use Rattle.ls_step.specs.declared.step.Step.{Step}
@@ -21,11 +23,12 @@ use Rattle.ls_step.specs.declared.step.Step.TheVariants as step
 use Rattle.ls_step.specs.Adding.{add_pairs}
 use Rattle.ls_world.specs.Cases.{with_found, first_code}
 use Rattle.ls_world.specs.World.{World, Item, Live, Board, Session, Connection, definitions, history_of, change, live_at, added, removed, enqueued_in}
-use Rattle.ls_world.specs.World.{free_number, on_board, ended, is_alive, reconfigured, constrained}
-use Rattle.ls_world.specs.Acting.{message_of, asks_of, subscribed, free_slots, add_code, change_code, constrain_code, destroyed}
+use Rattle.ls_world.specs.World.{free_number, on_board, trimmed, numbered, ended, is_alive, reconfigured, constrained, rebound, forced, is_bound, unbound_at}
+use Rattle.ls_world.specs.Acting.{message_of, asks_of, subscribed, free_slots, add_code, change_code, constrain_code, bind_code, destroyed}
 use Rattle.ls_world.specs.Steps.{Stepped, Once, behind, repeated, stays, ends, goes_on, with_session, session_of, name_of, on}
-use Rattle.ls_world.specs.Steps.{refuses, operated, operates, session_named, acts, is_opening, malformed, request_on, requests, enqueue_once, TurnGives, Gave}
-use Rattle.ls_world.specs.Steps.{Idle, NotDue, Spent, Over, SessionTurn, session_turn, took, take_once, does}
+use Rattle.ls_world.specs.Steps.{refuses, operated, operates, session_named, acts, is_opening, malformed, request_over, requests, enqueue_once, TurnGives, Gave}
+use Rattle.ls_world.specs.Steps.{Idle, NotDue, Spent, Superseded, Unbound, Over, SessionTurn, session_turn, took, take_once, epoch_of, link_of, with_link}
+use Rattle.ls_world.specs.Steps.{refuses_stream, bound, binds, loses, does}
 use Rattle.ls_world.proofs.Parts.{enqueued_by}
 use Rattle.ls_laws.specs.Alone.{unnumbered_slot, unnumbered, Seen, seen, connection_of, session_asked, is_own}
 use Rattle.ls_laws.specs.Alone.{lacks_slots_for, lacks_slots_of, lacks_slots}
@@ -57,6 +60,12 @@ same_name n c w v e = ap (λ o. option_map_or (λ (x : Connection). x.name) o []
 pub same_place : (n c : ℕ) (w v : World) → Alike n c w v → session_of w c ≡ session_of v c
 same_place n c w v e = ap (λ o. option_and_then (λ (x : Connection). x.session) o) (same_connection n c w v e)
 
+same_epoch : (n c : ℕ) (w v : World) → Alike n c w v → epoch_of w c ≡ epoch_of v c
+same_epoch n c w v e = ap (λ o. option_map_or (λ (x : Connection). x.epoch) o 0) (same_connection n c w v e)
+
+pub same_link : (n c : ℕ) (w v : World) → Alike n c w v → link_of w c ≡ link_of v c
+same_link n c w v e = ap (λ o. option_map_or (λ (x : Connection). x.link) o link.Ws) (same_connection n c w v e)
+
 pub the_same : {A : Type 0} (a b : A) → Some a ≡ Some b → a ≡ b
 the_same a b is = cc
 
@@ -81,7 +90,7 @@ both_rule {A} R n w v o p none none' f g is is' same r k =
         k s t (e, e', the_same (unnumbered s) (unnumbered t) q)
 
 -- a change of the session of both
-slice_changed : {A : Type 0} (n : ℕ) (f : A → A) (xs : List A) (x : A) → slice_get xs n ≡ Some x → slice_get (change n f xs) n ≡ Some (f x)
+pub slice_changed : {A : Type 0} (n : ℕ) (f : A → A) (xs : List A) (x : A) → slice_get xs n ≡ Some x → slice_get (change n f xs) n ≡ Some (f x)
 slice_changed n f [] x is = absurd (let y : None ≡ Some x = is in cc)
 slice_changed zero f (y ∷ xs) x is = let e : y ≡ x = cc in ap (λ z. Some (f z)) e
 slice_changed (suc n) f (y ∷ xs) x is = slice_changed n f xs x is
@@ -128,9 +137,10 @@ record Standing (n c : ℕ) (w v : World) : Type 0 where
   own : session_of w c ≡ Some n
 
 -- a take
-turn_alike : (now now' : ℕ) (items items' : List Item) (s t : Session) → now ≡ now' → items ≡ items' → unnumbered s ≡ unnumbered t
-    → turn_without (session_turn now items s) ≡ turn_without (session_turn now' items' t)
-turn_alike now now' items items' s t at e same = sym (turn_same now items s) ∙ (λ i. session_turn (at i) (e i) (same i)) ∙ turn_same now' items' t
+turn_alike : (now now' : ℕ) (items items' : List Item) (epoch epoch' : ℕ) (s t : Session) → now ≡ now' → items ≡ items' → epoch ≡ epoch'
+    → unnumbered s ≡ unnumbered t → turn_without (session_turn now items epoch s) ≡ turn_without (session_turn now' items' epoch' t)
+turn_alike now now' items items' epoch epoch' s t at e as' same =
+    sym (turn_same now items epoch s) ∙ (λ i. session_turn (at i) (e i) (as' i) (same i)) ∙ turn_same now' items' epoch' t
 
 took_alike : (n c : ℕ) (w v : World) (s t s' t' : Session) (g h : TurnGives) → Standing n c w v → Sessions n w v s t → unnumbered s' ≡ unnumbered t' → g ≡ h
     → OnceAs (Standing n c) (took w c n s' g) (took v c n t' h)
@@ -144,6 +154,8 @@ took_alike n c w v s t s' t' g h r is same e = subst (λ x. OnceAs (Standing n c
     by_gives Idle = record { out = refl; more = refl; after = after }
     by_gives (NotDue tick) = record { out = refl; more = refl; after = after }
     by_gives Spent = record { out = refl; more = refl; after = r }
+    by_gives (Superseded epoch) = record { out = refl; more = refl; after = r }
+    by_gives Unbound = record { out = refl; more = refl; after = r }
     by_gives (Over code) = record { out = refl; more = refl; after = r }
 
 take_alike : (n c : ℕ) (w v : World) → Standing n c w v → OnceAs (Standing n c) (take_once c w) (take_once c v)
@@ -151,9 +163,12 @@ take_alike n c w v r =
     both_rule (OnceAs (Standing n c)) n w v (session_of w c) (session_of v c) _ _ _ _ r.own (sym (same_place n c w v r.alike) ∙ r.own)
     (same_session n c w v r.alike) (record { out = refl; more = refl; after = r })
     (λ s t is.
-    let e = turn_alike w.tick v.tick w.items v.items s t (same_tick n c w v r.alike) (same_items n c w v r.alike) is.2 in
-    took_alike n c w v s t (session_turn w.tick w.items s).session (session_turn v.tick v.items t).session (session_turn w.tick w.items s).gives
-    (session_turn v.tick v.items t).gives r is
+    let a : SessionTurn = session_turn w.tick w.items (epoch_of w c) s in
+    let b : SessionTurn = session_turn v.tick v.items (epoch_of v c) t in
+    let e : turn_without a ≡ turn_without b =
+    turn_alike w.tick v.tick w.items v.items (epoch_of w c) (epoch_of v c) s t (same_tick n c w v r.alike) (same_items n c w v r.alike)
+    (same_epoch n c w v r.alike) is.2 in
+    took_alike n c w v s t a.session b.session a.gives b.gives r is
     (ap (λ (x : SessionTurn). x.session) e) (ap (λ (x : SessionTurn). x.gives) e))
 
 -- an enqueue
@@ -225,10 +240,10 @@ operated_alike n c w v req s t code code' f g e is same as' =
 add_alike : (n c : ℕ) (w v : World) (s t : Session) (a : Add) → Alike n c w v → unnumbered s ≡ unnumbered t
     → unnumbered (subscribed w a s) ≡ unnumbered (subscribed v a t)
 add_alike n c w v s t a e same =
-    ap (λ (b : Board). record s { board = b })
+    ap (λ (b : Board). trimmed (record s { board = b }))
     (added_same w.items (free_number w.sessions) a.sub (length a.schema) (asks_of (definitions w.items) a) s.board)
-    ∙ (λ i. on_board (added (same_items n c w v e i) (λ item. 0) a.sub (length a.schema) (asks_of (definitions (same_items n c w v e i)) a)) (same i))
-    ∙ ap (λ (b : Board). record t { board = b })
+    ∙ (λ i. numbered (added (same_items n c w v e i) (λ item. 0) a.sub (length a.schema) (asks_of (definitions (same_items n c w v e i)) a)) (same i))
+    ∙ ap (λ (b : Board). trimmed (record t { board = b }))
     (sym (added_same v.items (free_number v.sessions) a.sub (length a.schema) (asks_of (definitions v.items) a) t.board))
 
 code_alike : (n c : ℕ) (w v : World) (s t : Session) (a : Add) → Alike n c w v → unnumbered s ≡ unnumbered t
@@ -238,18 +253,18 @@ code_alike n c w v s t a e same lacks =
     ∙ (λ i. refusals_by (definitions (same_items n c w v e i)) (lacks i) (same i) a)
     ∙ refusals_same (definitions v.items) (free_slots v.sessions) t a)
 
-remove_alike : (sub : ℕ) (s t : Session) → unnumbered s ≡ unnumbered t → unnumbered (on_board (removed sub) s) ≡ unnumbered (on_board (removed sub) t)
+remove_alike : (sub : ℕ) (s t : Session) → unnumbered s ≡ unnumbered t → unnumbered (numbered (removed sub) s) ≡ unnumbered (numbered (removed sub) t)
 remove_alike sub s t same =
-    ap (λ (b : Board). record s { board = b }) (sym (removed_same sub s.board))
-    ∙ ap (on_board (removed sub)) same
-    ∙ ap (λ (b : Board). record t { board = b }) (removed_same sub t.board)
+    ap (λ (b : Board). trimmed (record s { board = b })) (sym (removed_same sub s.board))
+    ∙ ap (numbered (removed sub)) same
+    ∙ ap (λ (b : Board). trimmed (record t { board = b })) (removed_same sub t.board)
 
 reconf_alike : (sub : ℕ) (frequency : Option ℕ) (s t : Session) → unnumbered s ≡ unnumbered t
-    → unnumbered (on_board (reconfigured sub frequency) s) ≡ unnumbered (on_board (reconfigured sub frequency) t)
+    → unnumbered (numbered (reconfigured sub frequency) s) ≡ unnumbered (numbered (reconfigured sub frequency) t)
 reconf_alike sub frequency s t same =
-    ap (λ (b : Board). record s { board = b }) (sym (reconfigured_same sub frequency s.board))
-    ∙ ap (on_board (reconfigured sub frequency)) same
-    ∙ ap (λ (b : Board). record t { board = b }) (reconfigured_same sub frequency t.board)
+    ap (λ (b : Board). trimmed (record s { board = b })) (sym (reconfigured_same sub frequency s.board))
+    ∙ ap (numbered (reconfigured sub frequency)) same
+    ∙ ap (λ (b : Board). trimmed (record t { board = b })) (reconfigured_same sub frequency t.board)
 
 operates_alike : (n c : ℕ) (w v : World) (req : List ℕ) (o : Op) (s t : Session) → Alike n c w v → Sessions n w v s t
     → lacks_slots_for w o ≡ lacks_slots_for v o → AlikeAfter n c (operates w c req o n s) (operates v c req o n t)
@@ -257,15 +272,16 @@ operates_alike n c w v req (op.Add a) s t e is room =
     operated_alike n c w v req s t (add_code w s a) (add_code v t a) (subscribed w a) (subscribed v a) e is (code_alike n c w v s t a e is.2 room)
     (add_alike n c w v s t a e is.2)
 operates_alike n c w v req (op.Delete sub) s t e is room =
-    operated_alike n c w v req s t (change_code s sub) (change_code t sub) (on_board (removed sub)) (on_board (removed sub)) e is
+    operated_alike n c w v req s t (change_code s sub) (change_code t sub) (numbered (removed sub)) (numbered (removed sub)) e is
     (sym (change_same s sub) ∙ ap (λ x. change_code x sub) is.2 ∙ change_same t sub) (remove_alike sub s t is.2)
 operates_alike n c w v req (op.Reconf sub frequency) s t e is room =
-    operated_alike n c w v req s t (change_code s sub) (change_code t sub) (on_board (reconfigured sub frequency)) (on_board (reconfigured sub frequency)) e is
+    operated_alike n c w v req s t (change_code s sub) (change_code t sub) (numbered (reconfigured sub frequency)) (numbered (reconfigured sub frequency)) e is
     (sym (change_same s sub) ∙ ap (λ x. change_code x sub) is.2 ∙ change_same t sub) (reconf_alike sub frequency s t is.2)
 operates_alike n c w v req (op.Constrain limit) s t e is room =
     operated_alike n c w v req s t (constrain_code s) (constrain_code t) (constrained limit) (constrained limit) e is
     (ap (λ x. constrain_code x) is.2) (ap (constrained limit) is.2)
-operates_alike n c w v req op.ForceRebind s t e is room = record { outs = refl; after = e }
+operates_alike n c w v req op.ForceRebind s t e is room =
+    operated_alike n c w v req s t None None forced forced e is refl (ap forced is.2)
 operates_alike n c w v req op.Destroy s t e is room =
     operated_alike n c w v req s t None None (ended destroyed) (ended destroyed) e is refl (ap (ended destroyed) is.2)
 
@@ -287,10 +303,64 @@ living_alike n c w v req o s t false false q e is room = says_alike n c w v (tex
 living_alike n c w v req o s t true false q e is room = absurd (let y : true ≡ false = q in cc)
 living_alike n c w v req o s t false true q e is room = absurd (let y : false ≡ true = q in cc)
 
+-- a bind
+pub change_at : {A : Type 0} (n : ℕ) (f : A → A) (xs : List A) → slice_get (change n f xs) n ≡ option_map f (slice_get xs n)
+change_at n f [] = refl
+change_at zero f (x ∷ xs) = refl
+change_at (suc n) f (x ∷ xs) = change_at n f xs
+
+linked_alike : (n c session epoch epoch' : ℕ) (w v : World) → epoch ≡ epoch' → Alike n c w v
+    → Alike n c (with_link c session epoch w) (with_link c session epoch' v)
+linked_alike n c session epoch epoch' w v as' e =
+    let link : ℕ → Connection → Connection = λ m k. record k { session = Some session; epoch = m } in
+    let here : slice_get (change c (link epoch) w.connections) c ≡ slice_get (change c (link epoch') v.connections) c =
+    change_at c (link epoch) w.connections
+    ∙ ((λ i. option_map (link (as' i)) (same_connection n c w v e i)) ∙ sym (change_at c (link epoch') v.connections)) in
+    λ i. record { items = (e i).items; tick = (e i).tick; line = (e i).line; connection = here i; session = (e i).session }
+
+bound_alike : (n c : ℕ) (w v : World) (s t : Session) (b : Bind) → Alike n c w v → Sessions n w v s t
+    → AlikeAfter n c (with_found (bind_code s b) (stays (bound w c n s b) []) (refuses_stream w c))
+    (with_found (bind_code t b) (stays (bound v c n t b) []) (refuses_stream v c))
+bound_alike n c w v s t b e is =
+    subst (λ x. AlikeAfter n c (with_found (bind_code s b) (stays (bound w c n s b) []) (refuses_stream w c))
+    (with_found x (stays (bound v c n t b) []) (refuses_stream v c))) (ap (λ x. bind_code x b) is.2) (by_code (bind_code s b))
+  where
+    by_code : (o : Option ℕ) → AlikeAfter n c (with_found o (stays (bound w c n s b) []) (refuses_stream w c))
+        (with_found o (stays (bound v c n t b) []) (refuses_stream v c))
+    by_code None =
+        record {
+          outs = refl;
+          after = linked_alike n c n (length s.streams + 1) (length t.streams + 1) (record w { sessions = change n (rebound b.session b) w.sessions })
+              (record v { sessions = change n (rebound b.session b) v.sessions }) (ap (λ (x : Session). length x.streams + 1) is.2)
+              (changed_alike n c w v s t (rebound b.session b) (rebound b.session b) e is (ap (rebound b.session b) is.2));
+        }
+    by_code (Some code) = says_alike n c w v (text_of_line (line.ConErr code (message_of code))) e
+
+binds_alike : (n c : ℕ) (w v : World) (b : Bind) → Alike n c w v → session_named w c (Some b.session) ≡ Some n
+    → AlikeAfter n c (binds w c b) (binds v c b)
+binds_alike n c w v b e is =
+    both_rule (AlikeAfter n c) n w v (session_named w c (Some b.session)) (session_named v c (Some b.session)) (refuses_stream w c 20)
+    (refuses_stream v c 20)
+    (λ m s. cond (is_alive s.life) (with_found (bind_code s b) (stays (bound w c m s b) []) (refuses_stream w c)) (refuses_stream w c 20))
+    (λ m t. cond (is_alive t.life) (with_found (bind_code t b) (stays (bound v c m t b) []) (refuses_stream v c)) (refuses_stream v c 20))
+    is (sym (same_named n c w v (Some b.session) e) ∙ is) (same_session n c w v e) unknown
+    (λ s t z. by_life s t z (is_alive s.life) (is_alive t.life) (ap (λ (y : Session). is_alive y.life) z.2))
+  where
+    unknown : AlikeAfter n c (refuses_stream w c 20) (refuses_stream v c 20)
+    unknown = says_alike n c w v (text_of_line (line.ConErr 20 (message_of 20))) e
+
+    by_life : (s t : Session) → Sessions n w v s t → (p q : Bool) → p ≡ q → AlikeAfter n c
+        (cond p (with_found (bind_code s b) (stays (bound w c n s b) []) (refuses_stream w c)) (refuses_stream w c 20))
+        (cond q (with_found (bind_code t b) (stays (bound v c n t b) []) (refuses_stream v c)) (refuses_stream v c 20))
+    by_life s t z true true as' = bound_alike n c w v s t b e z
+    by_life s t z false false as' = unknown
+    by_life s t z true false as' = absurd (let y : true ≡ false = as' in cc)
+    by_life s t z false true as' = absurd (let y : false ≡ true = as' in cc)
+
 acts_alike : (n c : ℕ) (w v : World) (r : Request) → Alike n c w v → option_map_or (λ m. m == n) (session_asked w c (Some r)) false ≡ true
     → lacks_slots_of w r ≡ lacks_slots_of v r → AlikeAfter n c (acts w c r) (acts v c r)
 acts_alike n c w v (request.Create x) e own room = absurd (let y : false ≡ true = own in cc)
-acts_alike n c w v (request.Bind x) e own room = record { outs = refl; after = e }
+acts_alike n c w v (request.Bind x) e own room = binds_alike n c w v x e (is_meant n (session_named w c (Some x.session)) own)
 acts_alike n c w v (request.Control x) e own room =
     let is : session_named w c x.session ≡ Some n = is_meant n (session_named w c x.session) own in
     both_rule (AlikeAfter n c) n w v (session_named w c x.session) (session_named v c x.session) (refuses w c x.req 20) (refuses v c x.req 20)
@@ -317,18 +387,11 @@ malformed_alike n c w v name req e = by_name (is_opening name) req
     by_name true o = says_alike n c w v (text_of_line (line.ConErr 65 (message_of 65))) e
     by_name false o = by_req o
 
-pub same_request : (n c : ℕ) (w v : World) (name : List ℕ) (ps : Option (List Pair)) → Alike n c w v → request_on w c name ps ≡ request_on v c name ps
-same_request n c w v name ps e =
-    ap (λ o. option_and_then (request_of (option_map_or (λ (x : Connection). x.link) o link.Ws) name) ps) (same_connection n c w v e)
-
-requests_alike : (n c : ℕ) (w v : World) (name : List ℕ) (ps : Option (List Pair)) → Alike n c w v
-    → option_map_or (λ m. m == n) (session_asked w c (request_on w c name ps)) false ≡ true
-    → option_map_or (lacks_slots_of w) (request_on w c name ps) false ≡ option_map_or (lacks_slots_of v) (request_on v c name ps) false
-    → AlikeAfter n c (requests w c name ps) (requests v c name ps)
-requests_alike n c w v name ps e own room =
-    subst (λ o. AlikeAfter n c (requests w c name ps) (with_found o (malformed v c name (option_and_then (req_behind name) ps)) (acts v c)))
-    (same_request n c w v name ps e) (by_request (request_on w c name ps) own
-    (room ∙ sym (ap (λ o. option_map_or (lacks_slots_of v) o false) (same_request n c w v name ps e))))
+requests_alike : (n c : ℕ) (w v : World) (l : LinkKind) (name : List ℕ) (ps : Option (List Pair)) → Alike n c w v
+    → option_map_or (λ m. m == n) (session_asked w c (request_over l name ps)) false ≡ true
+    → option_map_or (lacks_slots_of w) (request_over l name ps) false ≡ option_map_or (lacks_slots_of v) (request_over l name ps) false
+    → AlikeAfter n c (requests w c l name ps) (requests v c l name ps)
+requests_alike n c w v l name ps e own room = by_request (request_over l name ps) own room
   where
     by_request : (o : Option Request) → option_map_or (λ m. m == n) (session_asked w c o) false ≡ true
         → option_map_or (lacks_slots_of w) o false ≡ option_map_or (lacks_slots_of v) o false
@@ -336,6 +399,31 @@ requests_alike n c w v name ps e own room =
         (with_found o (malformed v c name (option_and_then (req_behind name) ps)) (acts v c))
     by_request None own room = malformed_alike n c w v name (option_and_then (req_behind name) ps) e
     by_request (Some r) own room = acts_alike n c w v r e own room
+
+-- a loss
+loses_alike : (n c : ℕ) (w v : World) → Alike n c w v → session_of w c ≡ Some n → AlikeAfter n c (loses w c) (loses v c)
+loses_alike n c w v e is =
+    both_rule (AlikeAfter n c) n w v (session_of w c) (session_of v c) _ _ _ _ is (sym (same_place n c w v e) ∙ is) (same_session n c w v e)
+    (record { outs = refl; after = e })
+    (λ s t z. by_test s t z (nat_lt (epoch_of w c) (length s.streams)) (nat_lt (epoch_of v c) (length t.streams))
+    (λ i. nat_lt (same_epoch n c w v e i) (length (z.2 i).streams)) (is_bound s) (is_bound t) (ap (λ (x : Session). is_bound x) z.2))
+  where
+    by_test : (s t : Session) → Sessions n w v s t → (a b : Bool) → a ≡ b → (p q : Bool) → p ≡ q → AlikeAfter n c
+        (cond a (stays w (out.Superseded (length s.streams) ∷ [])) (cond p
+        (record { after = record w { sessions = change n (unbound_at w.tick) w.sessions }; outs = out.Lost ∷ [] }) (stays w (out.Unbound ∷ []))))
+        (cond b (stays v (out.Superseded (length t.streams) ∷ [])) (cond q
+        (record { after = record v { sessions = change n (unbound_at v.tick) v.sessions }; outs = out.Lost ∷ [] }) (stays v (out.Unbound ∷ []))))
+    by_test s t z true true as' p q pq = record { outs = ap (λ (x : Session). out.Superseded (length x.streams) ∷ []) z.2; after = e }
+    by_test s t z false false as' true true pq =
+        record {
+          outs = refl;
+          after = changed_alike n c w v s t (unbound_at w.tick) (unbound_at v.tick) e z (λ i. unbound_at (same_tick n c w v e i) (z.2 i));
+        }
+    by_test s t z false false as' false false pq = record { outs = refl; after = e }
+    by_test s t z true false as' p q pq = absurd (let y : true ≡ false = as' in cc)
+    by_test s t z false true as' p q pq = absurd (let y : false ≡ true = as' in cc)
+    by_test s t z false false as' true false pq = absurd (let y : true ≡ false = pq in cc)
+    by_test s t z false false as' false true pq = absurd (let y : false ≡ true = pq in cc)
 
 -- a step
 abbrev OwnStep : ℕ → ℕ → World → World → Step → ℕ → Type 0
@@ -353,12 +441,15 @@ own_alike n c w v (step.Conn name l) times e at = absurd (let y : None ≡ Some 
 own_alike n c w v (step.Open name) times e at = absurd (let y : None ≡ Some c = at in cc)
 own_alike n c w v (step.Add x words) times e at =
     subst (λ y. OwnStep n c w v (step.Add y words) times) (sym (the_same x c at))
-    (λ own room. subst (λ k. AlikeAfter n c (requests w c (codes "control") (add_pairs w.line words)) (requests v c (codes "control") (add_pairs k words)))
-    (same_line n c w v e) (requests_alike n c w v (codes "control") (add_pairs w.line words) e own
-    (room ∙ sym (ap (λ k. option_map_or (lacks_slots_of v) (request_on v c (codes "control") (add_pairs k words)) false) (same_line n c w v e)))))
+    (λ own room. subst (λ k. AlikeAfter n c (requests w c link.Ws (codes "control") (add_pairs w.line words))
+    (requests v c link.Ws (codes "control") (add_pairs k words)))
+    (same_line n c w v e) (requests_alike n c w v link.Ws (codes "control") (add_pairs w.line words) e own
+    (room ∙ sym (ap (λ k. option_map_or (lacks_slots_of v) (request_over link.Ws (codes "control") (add_pairs k words)) false) (same_line n c w v e)))))
 own_alike n c w v (step.Request x name parameters) times e at =
     subst (λ y. OwnStep n c w v (step.Request y name parameters) times) (sym (the_same x c at))
-    (λ own room. requests_alike n c w v name (form_of parameters) e own room)
+    (λ own room. subst (λ l. AlikeAfter n c (requests w c (link_of w c) name (form_of parameters)) (requests v c l name (form_of parameters)))
+    (same_link n c w v e) (requests_alike n c w v (link_of w c) name (form_of parameters) e own
+    (room ∙ sym (ap (λ l. option_map_or (lacks_slots_of v) (request_over l name (form_of parameters)) false) (same_link n c w v e)))))
 own_alike n c w v (step.Publish adapter seq item cells) times e at = absurd (let y : None ≡ Some c = at in cc)
 own_alike n c w v (step.Clear adapter seq item) times e at = absurd (let y : None ≡ Some c = at in cc)
 own_alike n c w v (step.Enqueue x sub rank) times e at =
@@ -370,4 +461,5 @@ own_alike n c w v (step.Take x) times e at =
     subst (λ y. OwnStep n c w v (step.Take y) times) (sym (the_same x c at))
     (λ own room. standing n c (does w (step.Take c) times) (does v (step.Take c) times)
     (repeated_as (Standing n c) (take_once c) times w v (λ a b r. take_alike n c a b r) (record { alike = e; own = is_meant n (session_of w c) own })))
-own_alike n c w v (step.Lose connection) times e at = absurd (let y : None ≡ Some c = at in cc)
+own_alike n c w v (step.Lose x) times e at =
+    subst (λ y. OwnStep n c w v (step.Lose y) times) (sym (the_same x c at)) (λ own room. loses_alike n c w v e (is_meant n (session_of w c) own))

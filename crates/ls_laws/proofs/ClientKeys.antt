@@ -16,14 +16,14 @@ use Rattle.ls_mirror.specs.declared.command.KeyPlaces.{KeyPlaces}
 use Rattle.ls_mirror.specs.Client.{What, Row, Lost, Cleared, End}
 use Rattle.ls_mirror.specs.Commands.{change_of, key_table}
 use Rattle.ls_world.specs.Came.{Came, whats}
-use Rattle.ls_world.specs.Tables.{place_of_field, keys_shown_at, table_at, projected_row, with_word}
+use Rattle.ls_world.specs.Tables.{place_of_field, keys_shown_at, projected_row, with_word}
 use Rattle.ls_world.specs.Cutting.{Wanted, schema_of}
-use Rattle.ls_world.specs.CommandMode.{IsKeyed, cursor_of_key, RowAgrees, IsKeyRow, HadKey, KeyLines, LawfulCommand}
+use Rattle.ls_world.specs.CommandMode.{IsKeyed, cursor_of_key, RowAgrees, KeyTurn, IsRowOf, key_turn_at, HadKey, KeyLines, LawfulCommand}
 use Rattle.ls_world.specs.ClientKeys.{SubcmdKeys}
 use Rattle.ls_world.specs.Lawful.{Each}
 use Rattle.ls_laws.proofs.Keys.{place_is, apart_in, value_projected}
 use Rattle.ls_laws.proofs.KeyedNames.{IsNamed, key_named}
-use Rattle.ls_laws.proofs.KeyTables.{told_places, told_same, HasOrder, table_is, has_order}
+use Rattle.ls_laws.proofs.KeyTables.{places_from_one, places_are, HasOrder, table_is, has_order}
 
 -- a row of so many fields tells a key
 record TellsKey (at : KeyPlaces) (n : ℕ) (k : List ℕ) (r : List Value) : Type 0 where
@@ -50,14 +50,16 @@ key_alone at n k s =
       key = get_or-set_same (nulls n) at.key (value.Text k) value.Null (omega (arith, s.key, length-replicate n value.Null));
     }
 
-told_has : (at : KeyPlaces) (n : ℕ) (k : List ℕ) (old new : Option (List Value)) (r : List Value) → IsSchema at n → IfSome new (TellsKey at n k)
-    → IsKeyRow at n k old new r → HasOrder at (Row r)
-told_has at n k None None r s t told = absurd told
-told_has at n k None (Some new) r s t told = subst (λ (x : List Value). HasOrder at (Row x)) (sym told) (word_has at n k (codes "ADD") new s t refl)
-told_has at n k (Some old) None r s t told =
-    subst (λ (x : List Value). HasOrder at (Row x)) (sym told) (word_has at n k (codes "DELETE") (set (nulls n) at.key (value.Text k)) s (key_alone at n k s)
-    refl)
-told_has at n k (Some old) (Some new) r s t told = subst (λ (x : List Value). HasOrder at (Row x)) (sym told.1) (word_has at n k (codes "UPDATE") new s t refl)
+row_has : (u : KeyTurn) (client item : Option (List Value)) (r : List Value) → IsSchema u.at u.fields → IfSome item (TellsKey u.at u.fields u.key)
+    → IsRowOf u client item r → HasOrder u.at (Row r)
+row_has u None None r s t is = absurd is
+row_has u None (Some new) r s t is =
+    subst (λ (x : List Value). HasOrder u.at (Row x)) (sym is) (word_has u.at u.fields u.key (codes "ADD") new s t refl)
+row_has u (Some old) None r s t is =
+    subst (λ (x : List Value). HasOrder u.at (Row x)) (sym is)
+    (word_has u.at u.fields u.key (codes "DELETE") (set (nulls u.fields) u.at.key (value.Text u.key)) s (key_alone u.at u.fields u.key s) refl)
+row_has u (Some old) (Some new) r s t is =
+    subst (λ (x : List Value). HasOrder u.at (Row x)) (sym is.1) (word_has u.at u.fields u.key (codes "UPDATE") new s t refl)
 
 -- the item's row at the places of a schema
 tells_projected : (p : Plan) (places k : List ℕ) (o : Option (List Value)) → IsKeyed p places → IfSome o (IsNamed p.shape k)
@@ -70,18 +72,19 @@ tells_projected p places k (Some r) i g =
     }
 
 had_has : (p : Plan) (h : List Entry) (places : List ℕ) (before : List What) (n : ℕ) (r : List Value) → IsKeyed p places → p.shape.kind ≡ kind.Command
-    → IsHistory p.shape h → HadKey p.shape h places before n r
+    → IsHistory p.shape h → HadKey (record { shape = p.shape; history = h; places = places }) before n r
     → HasOrder (keys_shown_at p.shape places) (Row r)
 had_has p h places before n r i command is had =
-    told_has (keys_shown_at p.shape places) (length places) had.key (table_at (keys_shown_at p.shape places) had.key before)
-    (projected_row places (row_at had.key (keyed p.shape h n))) r
+    let u : KeyTurn = key_turn_at (record { shape = p.shape; history = h; places = places }) before n had.key in
+    row_has u u.client u.item r
     (record { key = i.key_shown; command = i.command_shown; apart = apart_in p places i })
     (tells_projected p places had.key (row_at had.key (keyed p.shape h n)) i (key_named p.shape h n had.key command i.key i.apart is)) had.row
 
 -- each row of a slot's lines has a key and a command word
 line_has : (p : Plan) (h : List Entry) (places : List ℕ) (before : List What) (n : ℕ) (what : What) → IsKeyed p places → p.shape.kind ≡ kind.Command
     → IsHistory p.shape h
-    → ((r : List Value) → what ≡ Row r → HadKey p.shape h places before n r) → HasOrder (keys_shown_at p.shape places) what
+    → ((r : List Value) → what ≡ Row r → HadKey (record { shape = p.shape; history = h; places = places }) before n r)
+    → HasOrder (keys_shown_at p.shape places) what
 line_has p h places before n (Row r) i command is had = had_has p h places before n r i command is (had r refl)
 line_has p h places before n (Lost k) i command is had = tt
 line_has p h places before n Cleared i command is had = tt
@@ -107,18 +110,18 @@ place_shown field (p ∷ places) within = by_test (p == field) refl within (λ l
         ∙ more (omega (arith, l))
 
 -- what a client decodes of a lawful slot of an item with a history
-pub told_keys : (h : List Entry) (w : Wanted) (s : Slot) (cs : List Came) (told : Option KeyPlaces) → s.plan.shape.kind ≡ kind.Command
-    → IsHistory s.plan.shape h → told ≡ Some (told_places (schema_of w s.plan)) → LawfulCommand h w s cs
-    → SubcmdKeys h w s told (whats cs)
-told_keys h w s cs told command is are l =
+pub decoded_keys : (h : List Entry) (w : Wanted) (s : Slot) (cs : List Came) (shown : Option KeyPlaces) → s.plan.shape.kind ≡ kind.Command
+    → IsHistory s.plan.shape h → shown ≡ Some (places_from_one (schema_of w s.plan)) → LawfulCommand h w s cs
+    → SubcmdKeys h w s shown (whats cs)
+decoded_keys h w s cs shown command is are l =
     record {
       places = schema_of w s.plan;
-      are = are ∙ ap Some (told_same (schema_of w s.plan));
+      are = are ∙ ap Some (places_are (schema_of w s.plan));
       key = place_shown s.plan.shape.key w.places l.sound.key_shown;
       command = place_shown s.plan.shape.command w.places l.sound.command_shown;
       rows = λ k.
           subst (λ (o : Option KeyPlaces). RowAgrees h w s k (finite.get (key_table o (whats cs)) k) (cursor_of_key k s.key_cursors))
-          (sym (are ∙ ap Some (told_same (schema_of w s.plan))))
+          (sym (are ∙ ap Some (places_are (schema_of w s.plan))))
           (subst (λ (row : Option (List Value)). RowAgrees h w s k row (cursor_of_key k s.key_cursors))
           (sym (table_is (schema_of w s.plan) k (whats cs) (lines_have s.plan h w.places s.last cs l.sound command is l.lines))) (l.agrees k));
     }

@@ -59,10 +59,11 @@ decoded_at w s v l in_world in_round =
     each_contains (ClientDecodes w.items s.board.lines) v s.board.round
     (each_contains (ClientsDecode w.items) s w.sessions l.clients in_world) in_round
 
-pub keys_told : (w : World) (s : Session) (v : Live) (t : Table) → Lawful w → Contains w.sessions s → Contains s.board.round v → v.slot.plan.mode ≡ mode.Command
+pub client_has_rows : (w : World) (s : Session) (v : Live) (t : Table) → Lawful w → Contains w.sessions s → Contains s.board.round v
+    → v.slot.plan.mode ≡ mode.Command
     → HasTable (texts s.board.lines) v.sub v.rank t
     → KeysAgree (history_of w.items v.item) v.wanted v.slot t.keys
-keys_told w s v t l in_world in_round command x =
+client_has_rows w s v t l in_world in_round command x =
     let d : ClientDecodes w.items s.board.lines v = decoded_at w s v l in_world in_round in
     subst (λ (keys : KeyTable). KeysAgree (history_of w.items v.item) v.wanted v.slot keys)
     (sym (table_keys (history_of w.items v.item) v (texts s.board.lines) (whats (came v.sub v.rank s.board.lines)) t d x)) (of_command d).rows
@@ -90,6 +91,6 @@ keys_settled w s v t l in_world in_round command x none k know =
     let c : LawfulCommand (history_of w.items v.item) v.wanted v.slot (came v.sub v.rank s.board.lines)
     = subst (λ (y : Mode). LawfulOf y (history_of w.items v.item) v.wanted v.slot (came v.sub v.rank s.board.lines)) command m.came in
     same_row (history_of w.items v.item) v.wanted v.slot k (finite.get t.keys k) _ (cursor_of_key k v.slot.key_cursors)
-    (keys_told w s v t l in_world in_round command x k) (c.agrees k)
+    (client_has_rows w s v t l in_world in_round command x k) (c.agrees k)
     ∙ slot_settled (history_of w.items v.item) v.wanted v.slot (came v.sub v.rank s.board.lines) m.came command none k know
     ∙ ap (λ (p : Shape). projected_row v.wanted.places (row_at k (keyed p (history_of w.items v.item) v.slot.last))) m.shape

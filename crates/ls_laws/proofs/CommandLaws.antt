@@ -23,10 +23,11 @@ use Rattle.ls_event.specs.CommandCuts.{command_cut}
 use Rattle.ls_event.proofs.UpdatesBetween.{ClearIn, last_clear_is, last_clear-next, last_of_short, between_length, clear_from-append}
 use Rattle.ls_mirror.specs.Client.{What, Row, Cleared, End}
 use Rattle.ls_world.specs.Came.{Came, whats}
-use Rattle.ls_world.specs.Tables.{keys_shown_at, table_at, what_of_key, projected_row, with_word, delete_row}
+use Rattle.ls_world.specs.Tables.{table_at, what_of_key, projected_row, with_word, delete_row}
 use Rattle.ls_event.specs.Joining.{command_joined}
 use Rattle.ls_world.specs.Cutting.{Wanted, schema_of, what_of_cut}
-use Rattle.ls_world.specs.CommandMode.{IsKeyed, cursor_of_key, AgreesAt, NoTurn, IsKeyRow, HadKey, AreUpTo, KeyLines, NoneCleared, LawfulCommand}
+use Rattle.ls_world.specs.CommandMode.{IsKeyed, cursor_of_key, AgreesAt, NoTurn, KeyTurn, IsKeyRow, ShownItem, key_turn_at, HadKey}
+use Rattle.ls_world.specs.CommandMode.{AreUpTo, KeyLines, NoneCleared, LawfulCommand}
 use Rattle.ls_laws.proofs.Keeps.{Keeps, AfterCut, by_cut}
 use Rattle.ls_world.proofs.Cuts.{no_cut}
 use Rattle.ls_laws.proofs.DistinctLaws.{last_clear-append}
@@ -57,14 +58,14 @@ agrees_same h w p cursor last cs ds k None e a = e ∙ a
 agrees_same h w p cursor last cs ds k (Some q) e a = (a.0, a.1, e ∙ a.2)
 
 -- and changes that leave the lines
-had_longer : (p : Shape) (h more : List Entry) (places : List ℕ) (before : List What) (i : ℕ) (r : List Value) → HadKey p h places before i r
-    → HadKey p (h ++ more) places before i r
-had_longer p h more places before i r l =
+had_longer : (v : ShownItem) (more : List Entry) (before : List What) (i : ℕ) (r : List Value) → HadKey v before i r
+    → HadKey (record v { history = v.history ++ more }) before i r
+had_longer v more before i r l =
     record {
-      within = omega (arith, l.within, length-append h more);
+      within = omega (arith, l.within, length-append v.history more);
       key = l.key;
-      row = subst (λ ks. IsKeyRow (keys_shown_at p places) (length places) l.key (table_at (keys_shown_at p places) l.key before)
-          (projected_row places (row_at l.key ks)) r) (sym (keyed-longer p h more i l.within)) l.row;
+      row = subst (λ ks. IsKeyRow (record (key_turn_at v before i l.key) { item = projected_row v.places (row_at l.key ks) }) r)
+          (sym (keyed-longer v.shape v.history more i l.within)) l.row;
     }
 
 lines_longer : (p : Shape) (h more : List Entry) (places : List ℕ) (top : ℕ) (cs : List Came) → KeyLines p h places top cs
@@ -75,7 +76,7 @@ lines_longer p h more places top (c ∷ cs) l = (
   record {
     reached = l.1.reached;
     within = omega (arith, l.1.within, length-append h more);
-    rows = λ r is. ((l.1.rows r is).0, had_longer p h more places (whats cs) c.upto r (l.1.rows r is).1);
+    rows = λ r is. ((l.1.rows r is).0, had_longer (record { shape = p; history = h; places = places }) more (whats cs) c.upto r (l.1.rows r is).1);
   },
   lines_longer p h more places c.at cs l.2,
   l.3,
@@ -186,10 +187,15 @@ turn_of h w s cs ds k l leaves lines clears here other =
     by_test j true t = subst (λ (x : List ℕ). AgreesAt h w s ds x (Some s.last)) (text_eq_true k j t) (l.behind, omega arith, here)
     by_test j false t = agrees_same h w s.plan s.cursor s.last cs ds j (cursor_of_key j s.key_cursors) (other j t) (l.agrees j)
 
+-- a key's turn in a slot, by the rows that the client and the item have
+abbrev turn_in : Slot → Wanted → List ℕ → Option (List Value) → Option (List Value) → KeyTurn
+turn_in s w k client item =
+    record { at = schema_of w s.plan; fields = length w.places; key = k; client = client; item = projected_row w.places item }
+
 -- a line that tells a key adds to the lines
 row_line : (h : List Entry) (w : Wanted) (s : Slot) (cs : List Came) (k : List ℕ) (r : List Value) (a b : Option (List Value)) → LawfulCommand h w s cs
     → table_at (schema_of w s.plan) k (whats cs) ≡ a → row_at k (keyed s.plan.shape h s.last) ≡ b
-    → IsKeyRow (schema_of w s.plan) (length w.places) k a (projected_row w.places b) r
+    → IsKeyRow (turn_in s w k a b) r
     → KeyLines s.plan.shape h w.places s.last (record { what = Row r; before = s.cursor; upto = s.last; at = s.last } ∷ cs)
 row_line h w s cs k r a b l has row says = (
   omega arith,
@@ -205,18 +211,17 @@ row_line h w s cs k r a b l has row says = (
     same : (x : List Value) → Row r ≡ Row x → r ≡ x
     same x is = cc
 
-    row_as : (x : List Value) → Row r ≡ Row x → IsKeyRow (schema_of w s.plan) (length w.places) k (table_at (schema_of w s.plan) k (whats cs))
-        (projected_row w.places (row_at k (keyed s.plan.shape h s.last))) x
+    row_as : (x : List Value) → Row r ≡ Row x
+        → IsKeyRow (turn_in s w k (table_at (schema_of w s.plan) k (whats cs)) (row_at k (keyed s.plan.shape h s.last))) x
     row_as x is =
-        subst (λ y. IsKeyRow (schema_of w s.plan) (length w.places) k y (projected_row w.places (row_at k (keyed s.plan.shape h s.last))) x) (sym has)
-        (subst (λ y. IsKeyRow (schema_of w s.plan) (length w.places) k a (projected_row w.places y) x) (sym row)
-        (subst (IsKeyRow (schema_of w s.plan) (length w.places) k a (projected_row w.places b)) (same x is) says))
+        subst (λ y. IsKeyRow (turn_in s w k y (row_at k (keyed s.plan.shape h s.last))) x) (sym has)
+        (subst (λ y. IsKeyRow (turn_in s w k a y) x) (sym row) (subst (IsKeyRow (turn_in s w k a b)) (same x is) says))
 
 -- a line that tells the key's row
 turn_row : (h : List Entry) (w : Wanted) (s : Slot) (cs : List Came) (k word : List ℕ) (r : List Value) (a : Option (List Value)) → LawfulCommand h w s cs
     → last_clear h s.cursor s.last ≡ None → Leaves h s.plan k s.owed → table_at (schema_of w s.plan) k (whats cs) ≡ a
     → row_at k (keyed s.plan.shape h s.last) ≡ Some r → IfRow s.plan k (Some r) → text_eq word (codes "DELETE") ≡ false
-    → IsKeyRow (schema_of w s.plan) (length w.places) k a (Some (projected r w.places)) (with_word (schema_of w s.plan) word (projected r w.places))
+    → IsKeyRow (turn_in s w k a (Some r)) (with_word (schema_of w s.plan) word (projected r w.places))
     → LawfulCommand h w (record s { owed = s.owed - 1; key_cursors = record { key = k; cursor = s.last } ∷ s.key_cursors })
     (record { what = Row (with_word (schema_of w s.plan) word (projected r w.places)); before = s.cursor; upto = s.last; at = s.last } ∷ cs)
 turn_row h w s cs k word r a l none leaves has row good other says =

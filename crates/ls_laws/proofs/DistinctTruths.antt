@@ -51,18 +51,18 @@ snap_each places p h asked (c ∷ cs) (r, at, what, stays, l) = (
   snap_each places p h asked cs l,
 )
 
-told_each : (places : List ℕ) (p : Plan) (h : List Entry) (cursor : ℕ) (cs : List Came) → LaterLines places p h cursor cs → Each (IsLine places p h) cs
-told_each places p h cursor [] l = tt
-told_each places p h cursor (c ∷ cs) l = (inr (inr l.1), told_each places p h c.before cs l.2)
+later_each : (places : List ℕ) (p : Plan) (h : List Entry) (cursor : ℕ) (cs : List Came) → LaterLines places p h cursor cs → Each (IsLine places p h) cs
+later_each places p h cursor [] l = tt
+later_each places p h cursor (c ∷ cs) l = (inr (inr l.1), later_each places p h c.before cs l.2)
 
 lines_each : (places : List ℕ) (p : Plan) (h : List Entry) (o : Option ℕ) (cursor owed : ℕ) (b : Bool) (cs : List Came) → LinesOf places p h o cursor owed b cs
     → Each (IsLine places p h) cs
 lines_each places p h None cursor owed true cs l = absurd l
-lines_each places p h None cursor owed false cs l = told_each places p h cursor cs l.1
+lines_each places p h None cursor owed false cs l = later_each places p h cursor cs l.1
 lines_each places p h (Some asked) cursor owed true cs l = snap_each places p h asked cs l.lines
 lines_each places p h (Some asked) cursor owed false cs l =
     subst (λ (xs : List Came). Each (IsLine places p h) xs) (sym l.1.are)
-    (each_append (IsLine places p h) l.1.later (l.1.end ∷ l.1.sooner) (told_each places p h cursor l.1.later l.1.lines)
+    (each_append (IsLine places p h) l.1.later (l.1.end ∷ l.1.sooner) (later_each places p h cursor l.1.later l.1.lines)
     (inr (inl (record { stays = l.1.ends.stays; says = l.1.ends.says })), snap_each places p h asked l.1.sooner l.1.ends.lines))
 
 pub distinct_each : (h : List Entry) (w : Wanted) (s : Slot) (cs : List Came) → LawfulDistinct h w s cs → Each (IsLine w.places s.plan h) cs
@@ -79,12 +79,12 @@ snap_leads places h base cursor rows [] low l = tt
 snap_leads places h base cursor rows (c ∷ cs) low (r, at, what, stays, l) =
     (omega (arith, stays.upto, low), omega (arith, stays.upto, stays.before), snap_leads places h base c.before rows cs (omega (arith, stays.before)) l)
 
-told_leads : (places : List ℕ) (p : Plan) (h : List Entry) (cursor : ℕ) (cs rest : List Came) → Leads p.base rest → LaterLines places p h cursor cs
+later_lead : (places : List ℕ) (p : Plan) (h : List Entry) (cursor : ℕ) (cs rest : List Came) → Leads p.base rest → LaterLines places p h cursor cs
     → Leads cursor (cs ++ rest)
-told_leads places p h cursor [] rest more l = subst (λ (n : ℕ). Leads n rest) (sym l) more
-told_leads places p h cursor (c ∷ cs) rest more l =
+later_lead places p h cursor [] rest more l = subst (λ (n : ℕ). Leads n rest) (sym l) more
+later_lead places p h cursor (c ∷ cs) rest more l =
     let low : c.before < c.upto = l.1.rises in
-    (omega (arith, l.0), omega (arith, low), told_leads places p h c.before cs rest more l.2)
+    (omega (arith, l.0), omega (arith, low), later_lead places p h c.before cs rest more l.2)
 
 no_more : (xs : List Came) → xs ++ [] ≡ xs
 no_more [] = refl
@@ -93,11 +93,11 @@ no_more (x ∷ xs) = ap (λ ys. x ∷ ys) (no_more xs)
 lines_lead : (places : List ℕ) (p : Plan) (h : List Entry) (o : Option ℕ) (cursor owed : ℕ) (b : Bool) (cs : List Came) → LinesOf places p h o cursor owed b cs
     → Leads cursor cs
 lines_lead places p h None cursor owed true cs l = absurd l
-lines_lead places p h None cursor owed false cs l = subst (Leads cursor) (no_more cs) (told_leads places p h cursor cs [] tt l.1)
+lines_lead places p h None cursor owed false cs l = subst (Leads cursor) (no_more cs) (later_lead places p h cursor cs [] tt l.1)
 lines_lead places p h (Some asked) cursor owed true cs l = snap_leads places h p.base cursor (snapshot_rows h p.base asked) cs (omega (arith, l.stays)) l.lines
 lines_lead places p h (Some asked) cursor owed false cs l =
     subst (Leads cursor) (sym l.1.are)
-    (told_leads places p h cursor l.1.later (l.1.end ∷ l.1.sooner) (
+    (later_lead places p h cursor l.1.later (l.1.end ∷ l.1.sooner) (
       omega (arith, l.1.ends.stays.upto),
       omega (arith, l.1.ends.stays.upto, l.1.ends.stays.before),
       snap_leads places h p.base l.1.end.before

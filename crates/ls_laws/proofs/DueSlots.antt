@@ -15,7 +15,7 @@ use Rattle.ls_event.specs.Slots.{Slot}
 use Rattle.ls_world.specs.Came.{Came}
 use Rattle.ls_world.specs.Cutting.{turn}
 use Rattle.ls_world.specs.Lines.{Line, Tells, came, updated}
-use Rattle.ls_world.specs.World.{Item, Live, Session, RoundLine, Round, history_of, live_turn, round_of, taken_in, on_board, due_at, is_due, is_waiting}
+use Rattle.ls_world.specs.World.{Item, Live, Session, RoundLine, Round, history_of, live_turn, round_of, taken_in, numbered, due_at, is_due, is_waiting}
 use Rattle.ls_world.specs.World.{least_of, waits_of, least_wait}
 use Rattle.ls_world.specs.Steps.{Gave, Idle, NotDue, SessionTurn, waits_until, session_turn}
 use Rattle.ls_world.specs.Lawful.{Each}
@@ -105,18 +105,26 @@ line_of_due now items s t is =
 abbrev Numbers : ℕ → Session → Session → Type 0
 Numbers now s after = (after.board.lines ≡ s.board.lines) ⊎ NumbersDue now s after.board.lines
 
-pub turn_numbers : (now : ℕ) (items : List Item) (s : Session) → Numbers now s (session_turn now items s).session
-turn_numbers now items s =
-    turn_rule (λ (t : SessionTurn). Numbers now s t.session) now items s (λ text owed. inl refl) (next_rule (Numbers now s) s (inl refl) (inl refl)) (inl refl)
-    (λ none. inl (ap (λ o. (given_by now s.board r.kept o).lines) none))
-    (λ t some. next_rule (Numbers now s) (on_board (taken_in (is_due now s) now items) s) (inr (numbered t some)) (inr (numbered t some)))
-    (λ code. inl refl) (λ code. inl refl)
+pub turn_numbers : (now : ℕ) (items : List Item) (epoch : ℕ) (s : Session) → Numbers now s (session_turn now items epoch s).session
+turn_numbers now items epoch s =
+    turn_rule (λ (t : SessionTurn). Numbers now s t.session) now items epoch s (record {
+      superseded = inl refl;
+      unbound = inl refl;
+      owes = λ text owed. inl refl;
+      loops = inl refl;
+      next = next_rule (Numbers now s) s (inl refl) (inl refl);
+      spent = inl refl;
+      waits = λ none. inl (ap (λ o. (given_by now s.board r.kept o).lines) none);
+      tells = λ t some. next_rule (Numbers now s) (numbered (taken_in (is_due now s) now items) s) (inr (one_more t some)) (inr (one_more t some));
+      ending = λ code. inl refl;
+      over = λ code. inl refl;
+    })
   where
     r : Round
     r = round_of (is_due now s) items s.board.lines s.board.round
 
-    numbered : (t : RoundLine) → r.came ≡ Some t → NumbersDue now s (taken_in (is_due now s) now items s.board).lines
-    numbered t some =
+    one_more : (t : RoundLine) → r.came ≡ Some t → NumbersDue now s (taken_in (is_due now s) now items s.board).lines
+    one_more t some =
         let d : IsOfDue now s t = line_of_due now items s t some in
         record {
           slot = d.slot;
@@ -128,10 +136,21 @@ turn_numbers now items s =
         }
 
 -- what a turn gives where it gives no line
-turn_waits : (now : ℕ) (items : List Item) (s : Session) (tick : ℕ) → (session_turn now items s).gives ≡ NotDue tick → least_wait now items s ≡ Some tick
-turn_waits now items s tick =
-    turn_rule (λ (t : SessionTurn). t.gives ≡ NotDue tick → least_wait now items s ≡ Some tick) now items s (λ text owed is. no_line text is)
-    (λ is. no_line _ is) (λ is. cc) (λ none is. by_wait (least_wait now items s) is) (λ t some is. no_line _ is) (λ code is. no_line _ is) (λ code is. cc)
+turn_waits : (now : ℕ) (items : List Item) (epoch : ℕ) (s : Session) (tick : ℕ) → (session_turn now items epoch s).gives ≡ NotDue tick
+    → least_wait now items s ≡ Some tick
+turn_waits now items epoch s tick =
+    turn_rule (λ (t : SessionTurn). t.gives ≡ NotDue tick → least_wait now items s ≡ Some tick) now items epoch s (record {
+      superseded = λ is. cc;
+      unbound = λ is. cc;
+      owes = λ text owed is. no_line text is;
+      loops = λ is. no_line _ is;
+      next = λ is. no_line _ is;
+      spent = λ is. cc;
+      waits = λ none is. by_wait (least_wait now items s) is;
+      tells = λ t some is. no_line _ is;
+      ending = λ code is. no_line _ is;
+      over = λ code is. cc;
+    })
   where
     no_line : (text : List ℕ) → Gave text ≡ NotDue tick → least_wait now items s ≡ Some tick
     no_line text is = cc
@@ -140,10 +159,20 @@ turn_waits now items s tick =
     by_wait None is = cc
     by_wait (Some n) is = cc
 
-turn_idle : (now : ℕ) (items : List Item) (s : Session) → (session_turn now items s).gives ≡ Idle → least_wait now items s ≡ None
-turn_idle now items s =
-    turn_rule (λ (t : SessionTurn). t.gives ≡ Idle → least_wait now items s ≡ None) now items s (λ text owed is. no_line text is)
-    (λ is. no_line _ is) (λ is. cc) (λ none is. by_wait (least_wait now items s) is) (λ t some is. no_line _ is) (λ code is. no_line _ is) (λ code is. cc)
+turn_idle : (now : ℕ) (items : List Item) (epoch : ℕ) (s : Session) → (session_turn now items epoch s).gives ≡ Idle → least_wait now items s ≡ None
+turn_idle now items epoch s =
+    turn_rule (λ (t : SessionTurn). t.gives ≡ Idle → least_wait now items s ≡ None) now items epoch s (record {
+      superseded = λ is. cc;
+      unbound = λ is. cc;
+      owes = λ text owed is. no_line text is;
+      loops = λ is. no_line _ is;
+      next = λ is. no_line _ is;
+      spent = λ is. cc;
+      waits = λ none is. by_wait (least_wait now items s) is;
+      tells = λ t some is. no_line _ is;
+      ending = λ code is. no_line _ is;
+      over = λ code is. cc;
+    })
   where
     no_line : (text : List ℕ) → Gave text ≡ Idle → least_wait now items s ≡ None
     no_line text is = cc
@@ -225,9 +254,10 @@ least_is now items s (v ∷ vs) tick is = by_test (is_waiting now items s v) ref
     by_test false e more is =
         least_behind now items s v vs tick (λ yes. absurd (let x : true ≡ false = sym yes ∙ e in cc)) (more tick is)
 
-pub wait_is_least : (now : ℕ) (items : List Item) (s : Session) (tick : ℕ) → (session_turn now items s).gives ≡ NotDue tick → IsLeastWait now items s tick
-wait_is_least now items s tick is =
-    let k : Least now items s s.board.round tick = least_is now items s s.board.round tick (turn_waits now items s tick is) in
+pub wait_is_least : (now : ℕ) (items : List Item) (epoch : ℕ) (s : Session) (tick : ℕ) → (session_turn now items epoch s).gives ≡ NotDue tick
+    → IsLeastWait now items s tick
+wait_is_least now items epoch s tick is =
+    let k : Least now items s s.board.round tick = least_is now items s s.board.round tick (turn_waits now items epoch s tick is) in
     record {
       slot = k.slot;
       is_in = k.is_in;
@@ -236,10 +266,10 @@ wait_is_least now items s tick is =
       least = λ v is_in. each_contains (λ u. is_waiting now items s u ≡ true → tick ≤ due_at now s u) v s.board.round k.least is_in;
     }
 
-pub idle_waits : (now : ℕ) (items : List Item) (s : Session) → (session_turn now items s).gives ≡ Idle → (v : Live) → Contains s.board.round v
-    → is_waiting now items s v ≡ false
-idle_waits now items s is v is_in =
-    each_contains (λ u. is_waiting now items s u ≡ false) v s.board.round (none_waits now items s s.board.round (turn_idle now items s is)) is_in
+pub idle_waits : (now : ℕ) (items : List Item) (epoch : ℕ) (s : Session) → (session_turn now items epoch s).gives ≡ Idle → (v : Live)
+    → Contains s.board.round v → is_waiting now items s v ≡ false
+idle_waits now items epoch s is v is_in =
+    each_contains (λ u. is_waiting now items s u ≡ false) v s.board.round (none_waits now items s s.board.round (turn_idle now items epoch s is)) is_in
 
 not_true : (b : Bool) → not b ≡ true → b ≡ false
 not_true true e = cc
@@ -250,9 +280,9 @@ waits_later now items s v w =
     let e : nat_le (due_at now s v) now ≡ false = not_true (is_due now s v) (and_left (not (is_due now s v)) (is_pending (history_of items v.item) v.slot) w) in
     grind (arith, nat_tests, e)
 
-pub wait_is_later : (now : ℕ) (items : List Item) (s : Session) (tick : ℕ) → (session_turn now items s).gives ≡ NotDue tick → now < tick
-wait_is_later now items s tick is =
-    let k : IsLeastWait now items s tick = wait_is_least now items s tick is in omega (arith, waits_later now items s k.slot k.waits, k.at)
+pub wait_is_later : (now : ℕ) (items : List Item) (epoch : ℕ) (s : Session) (tick : ℕ) → (session_turn now items epoch s).gives ≡ NotDue tick → now < tick
+wait_is_later now items epoch s tick is =
+    let k : IsLeastWait now items s tick = wait_is_least now items epoch s tick is in omega (arith, waits_later now items s k.slot k.waits, k.at)
 
 -- the first tick at which a slot is due
 allows_stays : (rate : Option ℕ) (spends : List Spend) (now later : ℕ) → now ≤ later → allows rate spends now ≡ true → allows rate spends later ≡ true
@@ -312,14 +342,14 @@ any_false : {A : Type 0} (p : A → Bool) (xs : List A) → Each (λ x. p x ≡ 
 any_false p [] e = refl
 any_false p (x ∷ xs) e = rw e.0 (any_false p xs e.1)
 
-pub wait_is_first : (now : ℕ) (items : List Item) (s : Session) (tick : ℕ) → ForSome s.rate.limit (λ r. 0 < r) → latest_tick (spends_of s) ≤ now
-    → (session_turn now items s).gives ≡ NotDue tick → IsFirst (is_any_due now items s) now tick
-wait_is_first now items s tick some behind is =
-    let k : Least now items s s.board.round tick = least_is now items s s.board.round tick (turn_waits now items s tick is) in
+pub wait_is_first : (now : ℕ) (items : List Item) (epoch : ℕ) (s : Session) (tick : ℕ) → ForSome s.rate.limit (λ r. 0 < r)
+    → latest_tick (spends_of s) ≤ now → (session_turn now items epoch s).gives ≡ NotDue tick → IsFirst (is_any_due now items s) now tick
+wait_is_first now items epoch s tick some behind is =
+    let k : Least now items s s.board.round tick = least_is now items s s.board.round tick (turn_waits now items epoch s tick is) in
     let due : is_due tick s k.slot ≡ true = ap (λ m. is_due m s k.slot) (sym k.at) ∙ (slot_first now s k.slot some behind).so in
     let both : (is_waiting now items s k.slot && is_due tick s k.slot) ≡ true = rw (k.waits, due) refl in
     record {
-      from_now = omega (arith, wait_is_later now items s tick is);
+      from_now = omega (arith, wait_is_later now items epoch s tick is);
       so = any_true (λ v. is_waiting now items s v && is_due tick s v) k.slot s.board.round k.is_in both;
       not_before = λ m from before. any_false (λ v. is_waiting now items s v && is_due m s v) s.board.round
           (each_map (λ v. is_waiting now items s v ≡ true → tick ≤ due_at now s v) (λ v. (is_waiting now items s v && is_due m s v) ≡ false) s.board.round

@@ -1,7 +1,8 @@
 -- Short scripts, run in the definitions alone: the steps that their lines ask for, and what is printed for them.
-use Rattle.std.proofs.Common.{◌≡◌, ◌∙◌, sym, ◌==◌, ℕ, List, [], ◌∷◌, ◌++◌, replicate, refl, codes, Bool, true, false, Option, None, Some}
+use Rattle.std.proofs.Common.{◌≡◌, ◌∙◌, sym, ◌==◌, arith, ℕ, List, [], ◌∷◌, ◌++◌, replicate, map, reverse, refl, codes, Bool, true, false, Option, None, Some}
 use Rattle.std.proofs.lemmas.Bool.{eq-eqb}
 use Rattle.std.specs.Fmt.{digits}
+use Rattle.std.specs.List.{Contains}
 use Rattle.ls_value.specs.declared.row.Cell.{Cell}
 use Rattle.ls_value.specs.declared.row.Cell.TheVariants as cell
 use Rattle.ls_value.specs.declared.row.Value.TheVariants as value
@@ -23,17 +24,16 @@ use Rattle.ls_step.specs.declared.step.Step.{Step}
 use Rattle.ls_step.specs.declared.step.Repeat.{Repeat}
 use Rattle.ls_step.specs.declared.step.Step.TheVariants as step
 use Rattle.ls_step.specs.Adding.{are_utf8, all_pairs, parameter}
-use Rattle.ls_world.specs.declared.Refused.TheVariants.{BadScript, NotBuilt}
 use Rattle.ls_world.specs.Cutting.{Wanted, turn}
 use Rattle.ls_world.specs.Lines.{Ends}
 use Rattle.ls_world.specs.Cases.{first_code}
 use Rattle.ls_world.specs.World.{World, Live, Session, is_used, empty, opened}
 use Rattle.ls_request.specs.declared.request.Add.{Add}
 use Rattle.ls_world.specs.Acting.{is_group, group_of, is_allowed, is_schema, is_full, are_too_many, are_spent, add_refusals}
-use Rattle.ls_world.specs.Steps.{Stepped, requests, does}
+use Rattle.ls_world.specs.Steps.{Stepped, link_of, requests, does}
+use Rattle.ls_laws.specs.Streams.{Had, held, BindsWithItsCount}
 use Rattle.ls_laws.specs.Alone.{RunStep, First, Second, Own, Shared, firsts, told, DifferElsewhere}
-use Rattle.ls_world.specs.Built.{are_built}
-use Rattle.ls_world.specs.Script.{counted, lines_of, output_of, text_of_outs, done, first_refused}
+use Rattle.ls_world.specs.Script.{counted, lines_of, output_of, text_of_outs, done, has_bad_line}
 
 -- one line after another, each counted, and what is printed for them
 abbrev printed_from : World → List (World → Stepped) → List ℕ
@@ -59,7 +59,7 @@ conn w = does w (step.Conn (codes "c") link.Ws) 1
 
 -- the request that an add line says
 abbrev asks : AddWords → World → Stepped
-asks words w = requests w 0 (codes "control") (Some (all_pairs w.line words))
+asks words w = requests w 0 link.Ws (codes "control") (Some (all_pairs w.line words))
 
 -- a line of UTF-8 words is this request
 pub add_line : (w : World) (words : AddWords) → are_utf8 words ≡ true → does w (step.Add 0 words) 1 ≡ asks words w
@@ -85,7 +85,7 @@ take times w = does w (step.Take 0) times
 
 -- a request by its name and parameters
 abbrev request : List ℕ → List Pair → World → Stepped
-request name ps w = requests w 0 name (Some ps)
+request name ps w = requests w 0 (link_of w 0) name (Some ps)
 
 abbrev text : List ℕ → Cell
 text t = cell.Text t
@@ -384,23 +384,101 @@ pub raw_reconfigured : printed (item kind.Merge (codes "x" ∷ []) ∷ opens ∷
 unfolding digits
 raw_reconfigured = refl
 
--- two sessions: in one run the second one takes two lines, in the other its slot moves; the first one is told the same
+-- lost streams and recovery
+
+-- on the connection of a place: `lose`, `take`, a bind_session and a force_rebind
+abbrev loses : ℕ → World → Stepped
+loses connection w = does w (step.Lose connection) 1
+
+abbrev takes : ℕ → ℕ → World → Stepped
+takes connection times w = does w (step.Take connection) times
+
+abbrev binds : ℕ → List Pair → World → Stepped
+binds connection more w = requests w connection (link_of w connection) (codes "bind_session") (Some (says (codes "LS_session") (codes "S1") ∷ more))
+
+abbrev counting : List ℕ → List Pair
+counting count = says (codes "LS_recovery_from") count ∷ []
+
+abbrev second_conn : World → Stepped
+second_conn w = does w (step.Conn (codes "d") link.Ws) 1
+
+abbrev other_opening : List ℕ
+other_opening = codes "d:CONOK,S1,50000,5000,*\nd:SERVNAME,tlcpd\nd:CONS,unlimited\n"
+
+-- a client that has the first line of three binds with its count on another connection; the first one is superseded
+abbrev lossy : List (World → Stepped)
+lossy =
+    item kind.Merge (codes "x" ∷ []) ∷ opens ∷ add mode.Merge (codes "x") None None ∷ take 4 ∷ publish 1 (text (codes "A") ∷ []) ∷ enqueue 1
+    ∷ loses 0 ∷ take 1 ∷ second_conn ∷ binds 1 (counting (codes "1")) ∷ takes 1 9 ∷ []
+
+pub recovered : printed (lossy ++ take 1 ∷ loses 0 ∷ [])
+    ≡ codes "c:REQOK,3\n" ++ opening ++ codes "c:SUBOK,1,1,1\n-no 1\n-moved 1\n-lost\n-unbound\n" ++ other_opening
+    ++ codes "d:PROG,1\nd:CONF,1,unlimited,filtered\nd:U,1,1,A\n-idle\n-superseded 2\n-superseded 2\n"
+unfolding digits
+recovered = refl
+
+-- a bind without a count goes on behind the last line; a count past it, and a session that isn't there, are refused
+pub refused_binds : printed_from (after empty lossy) (loses 1 ∷ binds 1 [] ∷ takes 1 9 ∷ binds 1 (counting (codes "4"))
+    ∷ (λ w. requests w 1 link.Ws (codes "bind_session") (Some (says (codes "LS_session") (codes "S2") ∷ []))) ∷ [])
+    ≡ codes "-lost\n" ++ other_opening ++ codes "-idle\nd:CONERR,4,Recovery not possible\nd:CONERR,20,Unknown session\n"
+unfolding digits
+refused_binds = refl
+
+-- so the client of both streams holds the three lines
+abbrev streams_had : List Had
+streams_had = record { stream = record { from = 0; given = 1 ∷ []; bytes = 68; content = None; forced = false }; came = 1 }
+    ∷ record { stream = record { from = 1; given = 3 ∷ 2 ∷ []; bytes = 99; content = None; forced = false }; came = 2 } ∷ []
+
+pub had_streams : map (λ (s : Session). s.streams) (after empty lossy).sessions ≡ reverse (map (λ (had : Had). had.stream) streams_had) ∷ []
+unfolding digits
+had_streams = refl
+
+pub held_lines : held [] streams_had ≡ 1 ∷ 2 ∷ 3 ∷ []
+held_lines = refl
+
+pub with_its_count : BindsWithItsCount [] streams_had
+with_its_count = (refl, (refl, tt))
+
+-- LOOP by a force_rebind, before lines that wait, and by a content length of 68 bytes, which SUBOK reaches
+pub forced : printed (item kind.Merge (codes "x" ∷ []) ∷ opens ∷ add mode.Merge (codes "x") None None ∷ operates_on (codes "force_rebind") [] ∷ take 9
+    ∷ take 1 ∷ [])
+    ≡ codes "c:REQOK,3\nc:REQOK,r\n" ++ opening ++ codes "c:LOOP,0\n-unbound\n-unbound\n"
+unfolding digits
+forced = refl
+
+pub over : printed_from
+    (let w = after empty (item kind.Merge (codes "x" ∷ []) ∷ opens ∷ []) in record w { sessions = opened 1 5000 None (Some 68) ∷ [] })
+    (add mode.Merge (codes "x") None None ∷ take 9 ∷ [])
+    ≡ codes "c:REQOK,3\n" ++ opening ++ codes "c:SUBOK,1,1,1\nc:LOOP,0\n-unbound\n"
+unfolding digits
+over = refl
+
+-- a session without a stream for 30 s ends at the next tick, and is unknown then
+pub timed_out : printed (item kind.Merge (codes "x" ∷ []) ∷ opens ∷ take 9 ∷ tick 5 ∷ loses 0 ∷ tick 30004 ∷ take 1 ∷ tick 30005 ∷ take 1 ∷ binds 0 [] ∷ [])
+    ≡ opening ++ codes "-idle\n-lost\n-unbound\n-ended 73\nc:CONERR,20,Unknown session\n"
+unfolding digits
+timed_out = refl
+
+-- two sessions: in one run the second one takes two lines, in the other its slot moves; the first one, which loses its
+-- stream in the end, is told the same
 abbrev step_once : Step → Repeat
 step_once s = record { step = s; times = 1 }
 
 abbrev subscribes_at : ℕ → World → Stepped
 subscribes_at connection w =
-    requests w connection (codes "control")
+    requests w connection link.Ws (codes "control")
     (Some (all_pairs w.line
     (record { sub = codes "1"; items = codes "q"; fields = codes "x"; mode = mode.Merge; snapshot = None; buffer = None; frequency = None })))
 
 abbrev two_sessions : World
-two_sessions = after empty (item kind.Merge (codes "x" ∷ []) ∷ opens ∷ (λ w. does w (step.Open (codes "d")) 1) ∷ subscribes_at 0 ∷ subscribes_at 1 ∷ [])
+two_sessions = after empty (item kind.Merge (codes "x" ∷ []) ∷ opens ∷ (λ w. does w (step.Open (codes "d")) 1)
+    ∷ (λ w. does w (step.Conn (codes "e") link.Ws) 1) ∷ subscribes_at 0 ∷ subscribes_at 1 ∷ [])
 
 abbrev apart_steps : List RunStep
 apart_steps =
     First (record { step = step.Take 1; times = 2 }) ∷ Shared (step_once (step.Publish 1 1 0 (text (codes "A") ∷ [])))
-    ∷ Second (step_once (step.Enqueue 1 1 1)) ∷ Own (step_once (step.Enqueue 0 1 1)) ∷ Own (record { step = step.Take 0; times = 6 }) ∷ []
+    ∷ Second (step_once (step.Enqueue 1 1 1)) ∷ Own (step_once (step.Enqueue 0 1 1)) ∷ Own (record { step = step.Take 0; times = 6 })
+    ∷ Own (step_once (step.Lose 0)) ∷ []
 
 differ : (m n : ℕ) → (m == n) ≡ false → Some m ≡ Some n → ⊥
 differ m n no_same is = absurd (let e : m ≡ n = cc in let x : true ≡ false = sym (eq-eqb m n e) ∙ no_same in cc)
@@ -411,31 +489,43 @@ no_place n is = cc
 neither : {a b : Bool} → a ≡ false → b ≡ false → a ≡ b
 neither p q = p ∙ sym q
 
-pub apart : DifferElsewhere 0 0 two_sessions two_sessions apart_steps
+abbrev its_connections : List ℕ
+its_connections = 0 ∷ 2 ∷ []
+
+first_in : Contains its_connections 0
+first_in = (0, omega arith, refl)
+
+pub apart : DifferElsewhere 0 its_connections two_sessions two_sessions apart_steps
 unfolding digits
 apart = (
-  record { session = refl; apart = differ 1 0 refl },
-  record { items = refl; tick = refl },
+  record { session = refl; apart = (differ 1 0 refl, (differ 1 2 refl, tt)) },
+  record { items = refl; clock = refl },
   (
-    record { session = refl; apart = no_place 0 },
-    record { session = refl; apart = no_place 0 },
+    record { session = refl; apart = (no_place 0, (no_place 2, tt)) },
+    record { session = refl; apart = (no_place 0, (no_place 2, tt)) },
     record { items = refl; tick = refl },
     (
-      record { session = refl; apart = differ 1 0 refl },
-      record { items = refl; tick = refl },
-      (record { session = refl; on = refl; room = neither refl refl }, (record { session = refl; on = refl; room = neither refl refl }, tt)),
+      record { session = refl; apart = (differ 1 0 refl, (differ 1 2 refl, tt)) },
+      record { items = refl; clock = refl },
+      (
+        record { session = refl; connection = 0; is_in = first_in; on = refl; room = neither refl refl },
+        (
+          record { session = refl; connection = 0; is_in = first_in; on = refl; room = neither refl refl },
+          (record { session = refl; connection = 0; is_in = first_in; on = refl; room = neither refl refl }, tt),
+        ),
+      ),
     ),
   ),
 )
 
 pub told_apart : text_of_outs (told 0 two_sessions (firsts apart_steps)) ≡ codes "-moved 1\n" ++ opening
-    ++ codes "c:SUBOK,1,1,1\nc:CONF,1,unlimited,filtered\nc:U,1,1,A\n"
+    ++ codes "c:SUBOK,1,1,1\nc:CONF,1,unlimited,filtered\nc:U,1,1,A\n-lost\n"
 unfolding digits
 told_apart = refl
 
 -- too many lines wait
 abbrev with_session : (Session → Session) → World
-with_session f = let w = after empty (item kind.Merge (codes "x" ∷ []) ∷ opens ∷ []) in record w { sessions = f (opened 1 5000 None) ∷ [] }
+with_session f = let w = after empty (item kind.Merge (codes "x" ∷ []) ∷ opens ∷ []) in record w { sessions = f (opened 1 5000 None None) ∷ [] }
 
 abbrev waiting : Session → Session
 waiting s = record s { board = record { lines = replicate 511 (Ends 9); round = [] } }
@@ -465,44 +555,23 @@ spent defs free s a new room group allowed schema few full = rw (new, room, grou
 
 -- lines outside the grammar
 
-pub undeclared_item : first_refused empty (lines_of true (codes "item q MERGE x\npub 1 1 ghost x=1\n")) ≡ Some BadScript
+pub undeclared_item : has_bad_line empty (lines_of true (codes "item q MERGE x\npub 1 1 ghost x=1\n")) ≡ true
 undeclared_item = refl
 
-pub unknown_field : first_refused empty (lines_of true (codes "item q MERGE x\npub 1 1 q z=1\n")) ≡ Some BadScript
+pub unknown_field : has_bad_line empty (lines_of true (codes "item q MERGE x\npub 1 1 q z=1\n")) ≡ true
 unknown_field = refl
 
-pub no_line : first_refused empty (lines_of true (codes "# no line\n\nstop\n")) ≡ Some BadScript
+pub no_line : has_bad_line empty (lines_of true (codes "# no line\n\nstop\n")) ≡ true
 no_line = refl
 
 pub before_no_line : done empty (lines_of true (codes "# no line\n\nstop\n")) ≡ 2
 before_no_line = refl
 
--- and lines that aren't built yet
-
-pub over_http : first_refused empty (lines_of true (codes "conn c http\n")) ≡ Some NotBuilt
-over_http = refl
-
-pub a_loss : first_refused empty (lines_of true (codes "open c\nlose c\n")) ≡ Some NotBuilt
-a_loss = refl
-
--- so are the requests for another stream
-abbrev is_built_request : List ℕ → List Pair → Bool
-is_built_request name ps = are_built (after empty (item kind.Merge (codes "x" ∷ []) ∷ opens ∷ [])) 0 name (Some ps)
-
-pub a_bind : is_built_request (codes "bind_session") (says (codes "LS_session") (codes "S1") ∷ []) ≡ false
-unfolding digits
-a_bind = refl
-
-pub a_rebind : is_built_request (codes "control")
-    (says (codes "LS_reqId") (codes "r") ∷ says (codes "LS_session") (codes "S1") ∷ says (codes "LS_op") (codes "force_rebind") ∷ []) ≡ false
-unfolding digits
-a_rebind = refl
-
--- and a tick is built
-pub a_tick : first_refused empty (lines_of true (codes "tick 5\ntick 5\n")) ≡ None
+-- a tick may come twice
+pub a_tick : has_bad_line empty (lines_of true (codes "tick 5\ntick 5\n")) ≡ false
 a_tick = refl
 
-pub no_tick_back : first_refused empty (lines_of true (codes "tick 5\ntick 4\n")) ≡ Some BadScript
+pub no_tick_back : has_bad_line empty (lines_of true (codes "tick 5\ntick 4\n")) ≡ true
 no_tick_back = refl
 
 -- lines without a step of their own compute as bytes

@@ -19,8 +19,8 @@ use Rattle.ls_world.specs.Tables.{text_or_empty, table_or, table_at}
 use Rattle.ls_world.specs.Lawful.{Each}
 
 -- the places that a client takes of SUBCMD, in which they count from 1
-abbrev pub told_places : KeyPlaces → KeyPlaces
-told_places at = record { key = at.key + 1 - 1; command = at.command + 1 - 1 }
+abbrev pub places_from_one : KeyPlaces → KeyPlaces
+places_from_one at = record { key = at.key + 1 - 1; command = at.command + 1 - 1 }
 
 from_one : (n : ℕ) → n + 1 - 1 ≡ n
 from_one n = omega arith
@@ -29,8 +29,8 @@ same_places : (at : KeyPlaces) (k c : ℕ) → k ≡ at.key → c ≡ at.command
 same_places at k c e f i = record { key = e i; command = f i }
 
 -- they are those that were told
-pub told_same : (at : KeyPlaces) → told_places at ≡ at
-told_same at = same_places at (at.key + 1 - 1) (at.command + 1 - 1) (from_one at.key) (from_one at.command)
+pub places_are : (at : KeyPlaces) → places_from_one at ≡ at
+places_are at = same_places at (at.key + 1 - 1) (at.command + 1 - 1) (from_one at.key) (from_one at.command)
 
 -- a row that came has a key and a command word
 abbrev pub HasOrder : KeyPlaces → What → Type 0

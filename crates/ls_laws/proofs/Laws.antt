@@ -13,8 +13,10 @@ use Rattle.ls_event.specs.Joining.{plan_of}
 use Rattle.ls_event.proofs.Histories.{history_grown}
 use Rattle.ls_form.specs.declared.form.Pair.{Pair}
 use Rattle.ls_form.specs.Forms.{form_of}
+use Rattle.ls_request.specs.declared.request.LinkKind.{LinkKind}
 use Rattle.ls_request.specs.declared.request.LinkKind.TheVariants as link
 use Rattle.ls_request.specs.declared.request.Add.{Add}
+use Rattle.ls_request.specs.declared.request.Bind.{Bind}
 use Rattle.ls_request.specs.declared.request.Create.{Create}
 use Rattle.ls_request.specs.declared.request.Op.{Op}
 use Rattle.ls_request.specs.declared.request.Op.TheVariants as op
@@ -28,21 +30,23 @@ use Rattle.ls_step.specs.Adding.{add_pairs}
 use Rattle.ls_world.specs.Cutting.{Ask}
 use Rattle.ls_world.specs.CommandMode.{IsKeyed}
 use Rattle.ls_world.specs.World.{World, Item, Live, Session, empty, definitions, history_of, shape_at, change, live_at, added, removed, enqueued_in, least_far}
-use Rattle.ls_world.specs.World.{free_number, on_board, opened, ended, reconfigured, constrained}
-use Rattle.ls_world.specs.Acting.{asks_of, subscribed, add_code, change_code, constrain_code, create_code, destroyed}
+use Rattle.ls_world.specs.World.{free_number, on_board, numbered, opened, ended, reconfigured, constrained, forced, is_bound, unbound_at, unless_timed_out}
+use Rattle.ls_world.specs.World.{rebound}
+use Rattle.ls_world.specs.Acting.{asks_of, subscribed, add_code, change_code, constrain_code, create_code, bind_code, destroyed}
 use Rattle.ls_world.specs.Steps.{Stepped, Once, session_of, grown, is_whole, cause_to_refuse, publishes, creates, operated, operates, session_named, acts}
-use Rattle.ls_world.specs.Steps.{is_opening, malformed, request_on, requests, connects, plain_create, enqueue_once, TurnGives, Gave, Idle, NotDue, Spent, Over}
-use Rattle.ls_world.specs.Steps.{session_turn, took}
-use Rattle.ls_world.specs.Steps.{take_once, does, does_all}
+use Rattle.ls_world.specs.Steps.{is_opening, malformed, request_over, requests, connects, plain_create, enqueue_once, TurnGives, Gave, Idle, NotDue, Spent}
+use Rattle.ls_world.specs.Steps.{Over}
+use Rattle.ls_world.specs.Steps.{Superseded, Unbound, SessionTurn, session_turn, took, take_once, epoch_of, link_of, bound, binds, loses, does, does_all}
 use Rattle.ls_world.proofs.Parts.{enqueued_by}
 use Rattle.ls_world.specs.Ranges.{StepInRange, HasDistinctFields, InRange}
 use Rattle.ls_world.specs.Lawful.{Each, IsSound, LawfulSession, LawfulRecords}
 use Rattle.ls_laws.proofs.Asked.{IsAsk, IsAsked, asked_is, size_some}
-use Rattle.ls_laws.proofs.Requested.{IsAdd, IsOp, IsRequest, request_on_is}
+use Rattle.ls_laws.proofs.Requested.{IsAdd, IsOp, IsRequest, request_over_is}
 use Rattle.ls_world.proofs.Rules.{found_rule, session_rule, cond_rule, repeated_keeps}
-use Rattle.ls_world.proofs.Each.{each_map, each_changed, each_append, each_at}
+use Rattle.ls_world.proofs.Each.{each_map, each_mapped, each_changed, each_append, each_at}
 use Rattle.ls_laws.proofs.Frame.{later_grown, later_declared, enqueue_keeps, MayJoin, add_keeps, remove_keeps, reconf_keeps}
-use Rattle.ls_laws.proofs.Sessions.{session_later, opened_lawful, constrained_lawful, ended_lawful, on_board_keeps, session_keeps, living_rule}
+use Rattle.ls_laws.proofs.Sessions.{session_later, opened_lawful, constrained_lawful, ended_lawful, rebound_lawful, forced_lawful, unbound_lawful}
+use Rattle.ls_laws.proofs.Sessions.{timed_out_lawful, on_board_keeps, numbered_keeps, session_keeps, living_rule}
 
 -- a change of one session
 pub one_changed : (w : World) (n : ℕ) (s : Session) (f : Session → Session) → slice_get w.sessions n ≡ Some s
@@ -74,7 +78,7 @@ add_lawful : (w : World) (s : Session) (a : Add) → Each IsSound w.items → Is
 add_lawful w s a sound add none =
     let asks : List Ask = asks_of (definitions w.items) a in
     let k : IsAsked w s a = asked_is w s a none in
-    on_board_keeps w.items (added w.items (free_number w.sessions) a.sub (length a.schema) asks) s
+    numbered_keeps w.items (added w.items (free_number w.sessions) a.sub (length a.schema) asks) s
     (add_keeps w.items (free_number w.sessions) a.sub (length a.schema) asks s.board k.new
     (each_map (IsAsk w.items a) (MayJoin w.items) asks (λ ask x. may_join w.items a ask sound add x) k.each)) (omega arith)
 
@@ -90,14 +94,15 @@ lawful_operates : (w : World) (connection : ℕ) (req : List ℕ) (o : Op) (n : 
 lawful_operates w connection req (op.Add a) n s is k l =
     lawful_operated w connection req n s (add_code w s a) (subscribed w a) is (λ none. add_lawful w s a l.items k none) l
 lawful_operates w connection req (op.Delete sub) n s is k l =
-    lawful_operated w connection req n s (change_code s sub) (on_board (removed sub)) is
-    (λ none. on_board_keeps w.items (removed sub) s (remove_keeps w.items sub s.board) (omega arith)) l
+    lawful_operated w connection req n s (change_code s sub) (numbered (removed sub)) is
+    (λ none. numbered_keeps w.items (removed sub) s (remove_keeps w.items sub s.board) (omega arith)) l
 lawful_operates w connection req (op.Reconf sub frequency) n s is k l =
-    lawful_operated w connection req n s (change_code s sub) (on_board (reconfigured sub frequency)) is
-    (λ none. on_board_keeps w.items (reconfigured sub frequency) s (reconf_keeps w.items sub frequency s.board) (omega arith)) l
+    lawful_operated w connection req n s (change_code s sub) (numbered (reconfigured sub frequency)) is
+    (λ none. numbered_keeps w.items (reconfigured sub frequency) s (reconf_keeps w.items sub frequency s.board) (omega arith)) l
 lawful_operates w connection req (op.Constrain limit) n s is k l =
     lawful_operated w connection req n s (constrain_code s) (constrained limit) is (λ none. constrained_lawful w.items limit s) l
-lawful_operates w connection req op.ForceRebind n s is k l = l
+lawful_operates w connection req op.ForceRebind n s is k l =
+    lawful_operated w connection req n s None forced is (λ none. forced_lawful w.items s) l
 lawful_operates w connection req op.Destroy n s is k l =
     lawful_operated w connection req n s None (ended destroyed) is (λ none. ended_lawful w.items destroyed s) l
 
@@ -106,14 +111,26 @@ lawful_creates w connection c l =
     found_rule (λ (r : Stepped). LawfulRecords r.after) (create_code w c) _ _
     (λ none. record {
       items = l.items;
-      sessions = each_append (LawfulSession w.items) w.sessions (opened (length w.sessions + 1) c.keepalive c.bandwidth ∷ []) l.sessions
-          (opened_lawful w.items (length w.sessions + 1) c.keepalive c.bandwidth, tt);
+      sessions = each_append (LawfulSession w.items) w.sessions (opened (length w.sessions + 1) c.keepalive c.bandwidth c.length ∷ []) l.sessions
+          (opened_lawful w.items (length w.sessions + 1) c.keepalive c.bandwidth c.length, tt);
     })
     (λ code x. l)
 
+lawful_binds : (w : World) (connection : ℕ) (b : Bind) → LawfulRecords w → LawfulRecords (binds w connection b).after
+lawful_binds w connection b l =
+    living_rule (λ (r : Stepped). LawfulRecords r.after) w.sessions (session_named w connection (Some b.session)) _ _ l
+    (λ n s is living. found_rule (λ (r : Stepped). LawfulRecords r.after) (bind_code s b) _ _
+    (λ none. bound_lawful n s is none) (λ code x. l))
+  where
+    bound_lawful : (n : ℕ) (s : Session) → slice_get w.sessions n ≡ Some s → bind_code s b ≡ None → LawfulRecords (bound w connection n s b)
+    bound_lawful n s is none =
+        let k : LawfulRecords (record w { sessions = change n (rebound b.session b) w.sessions }) =
+        one_changed w n s (rebound b.session b) is (rebound_lawful w.items b.session s b none) l in
+        record { items = k.items; sessions = k.sessions }
+
 lawful_acts : (w : World) (connection : ℕ) (r : Request) → IsRequest r → LawfulRecords w → LawfulRecords (acts w connection r).after
 lawful_acts w connection (request.Create c) k l = lawful_creates w connection c l
-lawful_acts w connection (request.Bind b) k l = l
+lawful_acts w connection (request.Bind b) k l = lawful_binds w connection b l
 lawful_acts w connection (request.Control c) k l =
     living_rule (λ (r : Stepped). LawfulRecords r.after) w.sessions (session_named w connection c.session) _ (operates w connection c.req c.op) l
     (λ n s is living. lawful_operates w connection c.req c.op n s is k l)
@@ -125,11 +142,12 @@ lawful_malformed w connection name req l =
     cond_rule (λ (r : Stepped). LawfulRecords r.after) (is_opening name) _ _ (λ t. l)
     (λ t. found_rule (λ (r : Stepped). LawfulRecords r.after) req _ _ (λ x. l) (λ r x. l))
 
-lawful_requests : (w : World) (connection : ℕ) (name : List ℕ) (ps : Option (List Pair)) → LawfulRecords w → LawfulRecords (requests w connection name ps).after
-lawful_requests w connection name ps l =
-    found_rule (λ (r : Stepped). LawfulRecords r.after) (request_on w connection name ps) _ (acts w connection)
+lawful_requests : (w : World) (connection : ℕ) (k : LinkKind) (name : List ℕ) (ps : Option (List Pair)) → LawfulRecords w
+    → LawfulRecords (requests w connection k name ps).after
+lawful_requests w connection k name ps l =
+    found_rule (λ (r : Stepped). LawfulRecords r.after) (request_over k name ps) _ (acts w connection)
     (λ none. lawful_malformed w connection name (option_and_then (req_behind name) ps) l)
-    (λ r is. lawful_acts w connection r (subst (λ (o : Option Request). IfSome o IsRequest) is (request_on_is w connection name ps)) l)
+    (λ r is. lawful_acts w connection r (subst (λ (o : Option Request). IfSome o IsRequest) is (request_over_is k name ps)) l)
 
 -- a publish
 whole_fields : (fields : ℕ) (event : Event) → is_whole fields event ≡ true → HasFields fields event
@@ -174,7 +192,17 @@ lawful_took w connection n old new (Gave text) is k l = one_changed w n old (λ 
 lawful_took w connection n old new Idle is k l = one_changed w n old (λ x. new) is (λ x. k) l
 lawful_took w connection n old new (NotDue tick) is k l = one_changed w n old (λ x. new) is (λ x. k) l
 lawful_took w connection n old new Spent is k l = l
+lawful_took w connection n old new (Superseded epoch) is k l = l
+lawful_took w connection n old new Unbound is k l = l
 lawful_took w connection n old new (Over code) is k l = l
+
+-- a loss
+lawful_loses : (w : World) (connection : ℕ) → LawfulRecords w → LawfulRecords (loses w connection).after
+lawful_loses w connection l =
+    session_rule (λ (r : Stepped). LawfulRecords r.after) w.sessions (session_of w connection) _ _ l
+    (λ n s is. cond_rule (λ (r : Stepped). LawfulRecords r.after) (nat_lt (epoch_of w connection) (length s.streams)) _ _ (λ t. l)
+    (λ t. cond_rule (λ (r : Stepped). LawfulRecords r.after) (is_bound s) _ _
+    (λ u. one_changed w n s (unbound_at w.tick) is (unbound_lawful w.items w.tick s) l) (λ u. l)))
 
 -- one step, made at most so often
 pub lawful_does : (w : World) (s : Step) (times : ℕ) → StepInRange s → HasDistinctFields s → LawfulRecords w → LawfulRecords (does w s times).after
@@ -189,12 +217,17 @@ lawful_does w (step.Item name k fields) times range distinct l =
       sessions = each_map (LawfulSession w.items) (LawfulSession (w.items ++ i ∷ [])) w.sessions
           (session_later w.items (w.items ++ i ∷ []) (later_declared w.items i)) l.sessions;
     }
-lawful_does w (step.Tick ms) times range distinct l = record { items = l.items; sessions = l.sessions }
+lawful_does w (step.Tick ms) times range distinct l =
+    record {
+      items = l.items;
+      sessions = each_mapped (LawfulSession w.items) (LawfulSession w.items) (unless_timed_out ms) w.sessions (timed_out_lawful w.items ms) l.sessions;
+    }
 lawful_does w (step.Conn name k) times range distinct l = record { items = l.items; sessions = l.sessions }
 lawful_does w (step.Open name) times range distinct l =
     lawful_creates (connects w name link.Ws) (length w.connections) plain_create (record { items = l.items; sessions = l.sessions })
-lawful_does w (step.Add connection words) times range distinct l = lawful_requests w connection (codes "control") (add_pairs w.line words) l
-lawful_does w (step.Request connection name parameters) times range distinct l = lawful_requests w connection name (form_of parameters) l
+lawful_does w (step.Add connection words) times range distinct l = lawful_requests w connection link.Ws (codes "control") (add_pairs w.line words) l
+lawful_does w (step.Request connection name parameters) times range distinct l = lawful_requests w connection (link_of w connection) name
+    (form_of parameters) l
 lawful_does w (step.Publish adapter seq item cells) times range distinct l = lawful_publishes w item
     (record { adapter = adapter; seq = seq; event = Update cells }) l
 lawful_does w (step.Clear adapter seq item) times range distinct l = lawful_publishes w item (record { adapter = adapter; seq = seq; event = Clear }) l
@@ -206,10 +239,10 @@ lawful_does w (step.Enqueue connection sub rank) times range distinct l =
 lawful_does w (step.Take connection) times range distinct l =
     repeated_keeps LawfulRecords (take_once connection) times w
     (λ v k. session_rule (λ (r : Once). LawfulRecords r.after) v.sessions (session_of v connection) _
-    (λ n s. took v connection n (session_turn v.tick v.items s).session (session_turn v.tick v.items s).gives) k
-    (λ n s is. lawful_took v connection n s (session_turn v.tick v.items s).session (session_turn v.tick v.items s).gives is
-    (session_keeps v.tick v.items s (each_at (LawfulSession v.items) n s v.sessions is k.sessions)) k)) l
-lawful_does w (step.Lose connection) times range distinct l = l
+    (λ n s. let t : SessionTurn = session_turn v.tick v.items (epoch_of v connection) s in took v connection n t.session t.gives) k
+    (λ n s is. let t : SessionTurn = session_turn v.tick v.items (epoch_of v connection) s in lawful_took v connection n s t.session t.gives is
+    (session_keeps v.tick v.items (epoch_of v connection) s (each_at (LawfulSession v.items) n s v.sessions is k.sessions)) k)) l
+lawful_does w (step.Lose connection) times range distinct l = lawful_loses w connection l
 
 -- and steps one after another
 pub lawful_does_all : (w : World) (rs : List Repeat) → Each InRange rs → LawfulRecords w → LawfulRecords (does_all w rs)

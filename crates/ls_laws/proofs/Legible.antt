@@ -1,6 +1,6 @@
 -- Each step whose parts are in their ranges keeps a world legible: a client decodes what its lines tell.
 use Rattle.std.proofs.Common.{◌≡◌, ◌==◌, ℕ, zero, suc, ◌+◌, ◌<◌, ◌≤◌, ◌^◌, List, [], ◌∷◌, ◌++◌, length, refl, sym, ◌∙◌, ap, arith, subst, cond, Bool, true}
-use Rattle.std.proofs.Common.{false, ◌&&◌, Option, Some, None, IfSome, nat_lt, slice_get, codes, option_map, inl, inr}
+use Rattle.std.proofs.Common.{false, ◌&&◌, Option, Some, None, IfSome, map, nat_lt, slice_get, codes, option_map, inl, inr}
 use Rattle.std.specs.Prelude.{option_and_then}
 use Rattle.std.proofs.lemmas.Bool.{eq-eqb, eqb-true}
 use Rattle.ls_value.specs.declared.row.Value.{Value}
@@ -17,8 +17,10 @@ use Rattle.ls_event.specs.Updates.{updates_between}
 use Rattle.ls_event.specs.Slots.{Plan, Slot, enqueued}
 use Rattle.ls_form.specs.declared.form.Pair.{Pair}
 use Rattle.ls_form.specs.Forms.{form_of}
+use Rattle.ls_request.specs.declared.request.LinkKind.{LinkKind}
 use Rattle.ls_request.specs.declared.request.LinkKind.TheVariants as link
 use Rattle.ls_request.specs.declared.request.Add.{Add}
+use Rattle.ls_request.specs.declared.request.Bind.{Bind}
 use Rattle.ls_request.specs.declared.request.Create.{Create}
 use Rattle.ls_request.specs.declared.request.Op.{Op}
 use Rattle.ls_request.specs.declared.request.Op.TheVariants as op
@@ -39,11 +41,13 @@ use Rattle.ls_world.specs.Lines.{Line, Begins, Ends, Configures, Tells, came, la
 use Rattle.ls_world.specs.World.{World, Item, Live, Board, Session, RoundLine, Round, empty, definitions, history_of, shape_at}
 use Rattle.ls_world.specs.World.{joined_slot, change, is_at, is_of, live_at, keys_in, keys_shown, are_filtered, joined_all, added, without, removed}
 use Rattle.ls_world.specs.World.{enqueue_at, enqueue_slot, enqueued_in, free_number, live_turn, round_of, taken_in, on_board, opened}
+use Rattle.ls_world.specs.World.{numbered, forced, rebound, is_bound, unbound_at, timed_out, is_timed_out, unless_timed_out}
 use Rattle.ls_world.specs.World.{ended, frequency_in, frequency_of, is_filtered, mode_in, with_frequency, reconfigured, constrained, is_due}
-use Rattle.ls_world.specs.Acting.{asks_of, subscribed, add_code, change_code, constrain_code, create_code, destroyed}
+use Rattle.ls_world.specs.Acting.{asks_of, subscribed, add_code, change_code, constrain_code, create_code, bind_code, destroyed}
 use Rattle.ls_world.specs.Steps.{Stepped, Once, repeated, SessionTurn, session_of, grown, is_whole, cause_to_refuse, publishes, creates, operated, operates}
-use Rattle.ls_world.specs.Steps.{session_named, acts, is_opening, malformed, request_on, requests, connects, plain_create, enqueue_once, TurnGives, Gave, Idle}
-use Rattle.ls_world.specs.Steps.{NotDue, Spent, Over, session_turn, took, take_once, does, does_all}
+use Rattle.ls_world.specs.Steps.{session_named, acts, is_opening, malformed, request_over, requests, connects, plain_create, enqueue_once, TurnGives, Gave}
+use Rattle.ls_world.specs.Steps.{Idle}
+use Rattle.ls_world.specs.Steps.{NotDue, Spent, Superseded, Unbound, Over, epoch_of, link_of, binds, loses, session_turn, took, take_once, does, does_all}
 use Rattle.ls_world.proofs.Parts.{turn_if, met_by, given_by, enqueued_by}
 use Rattle.ls_world.specs.Script.{counted}
 use Rattle.ls_world.specs.RawMode.{RawSays}
@@ -54,13 +58,13 @@ use Rattle.ls_world.specs.ClientKeys.{KeysOf}
 use Rattle.ls_world.specs.Ranges.{IsOrdinal, StepInRange, HasDistinctFields, InRange}
 use Rattle.ls_world.proofs.Each.{each_map, each_mapped, each_changed, each_append, each_both, each_at}
 use Rattle.ls_laws.proofs.Asked.{schema_keys, IsAsk, IsAsked, asked_is}
-use Rattle.ls_laws.proofs.Requested.{IsAdd, IsOp, IsRequest, request_on_is}
+use Rattle.ls_laws.proofs.Requested.{IsAdd, IsOp, IsRequest, request_over_is}
 use Rattle.ls_laws.proofs.Modes.{joined_plan, turn_plan}
 use Rattle.ls_laws.proofs.Frame.{unused_each, without_each, without_others, take_keeps}
 use Rattle.ls_laws.proofs.Heard.{wires, RowFits, tells_begun, has_come, CanWrite, are_read}
 use Rattle.ls_laws.proofs.Updates.{updates_few}
-use Rattle.ls_laws.proofs.KeyTables.{told_places}
-use Rattle.ls_laws.proofs.ClientKeys.{told_keys}
+use Rattle.ls_laws.proofs.KeyTables.{places_from_one}
+use Rattle.ls_laws.proofs.ClientKeys.{decoded_keys}
 use Rattle.ls_laws.proofs.DistinctTruths.{IsLine, distinct_each}
 use Rattle.ls_laws.proofs.LimitTexts.{limit_written}
 use Rattle.ls_laws.proofs.Textual.{Textual, TextualEvent, KeyLineFits, key_line, plain_utf8, turn_fits, slot_fits}
@@ -71,7 +75,7 @@ use Rattle.ls_laws.proofs.Sessions.{turn_rule, next_rule, session_keeps, living_
 -- the subscription of a slot of mode COMMAND, whose item has keys, was begun by a SUBCMD with the places of the key and the command in its schema
 pub record IsBegun (v : Live) (keyed : Option KeyPlaces) : Type 0 where
   pub kind : v.slot.plan.shape.kind ≡ kind.Command
-  pub places : keyed ≡ Some (told_places (schema_of v.wanted v.slot.plan))
+  pub places : keyed ≡ Some (places_from_one (schema_of v.wanted v.slot.plan))
 
 abbrev BegunIn : Mode → Live → Option KeyPlaces → Type 0
 BegunIn mode.Command v keyed = IsBegun v keyed
@@ -107,7 +111,10 @@ pub record Both (w : World) : Type 0 where
 -- what is shown doesn't rest on the slot's numbers
 begun_moved : (v : Live) (s : Slot) (keyed : Option KeyPlaces) → s.plan ≡ v.slot.plan → IsBegun v keyed → IsBegun (record v { slot = s }) keyed
 begun_moved v s keyed same b =
-    record { kind = ap (λ (p : Plan). p.shape.kind) same ∙ b.kind; places = b.places ∙ ap (λ (p : Plan). Some (told_places (schema_of v.wanted p))) (sym same) }
+    record {
+      kind = ap (λ (p : Plan). p.shape.kind) same ∙ b.kind;
+      places = b.places ∙ ap (λ (p : Plan). Some (places_from_one (schema_of v.wanted p))) (sym same);
+    }
 
 in_mode_moved : (m : Mode) (v : Live) (s : Slot) (keyed : Option KeyPlaces) → s.plan ≡ v.slot.plan → BegunIn m v keyed → BegunIn m (record v { slot = s }) keyed
 in_mode_moved mode.Command v s keyed same b = begun_moved v s keyed same b
@@ -327,11 +334,21 @@ legible_taken due now items b sound t l h =
     (take_keeps due now items b l)
 
 -- a session's turn changes its board as its round does, or not at all
-turned_board : (P : Board → Type 0) (now : ℕ) (items : List Item) (s : Session) → P s.board → P (taken_in (is_due now s) now items s.board)
-    → P (session_turn now items s).session.board
-turned_board P now items s p q =
-    turn_rule (λ (t : SessionTurn). P t.session.board) now items s (λ text owed. p) (next_rule (λ (t : Session). P t.board) s p p) p (λ none. q)
-    (λ t some. next_rule (λ (t : Session). P t.board) (on_board (taken_in (is_due now s) now items) s) q q) (λ code. p) (λ code. p)
+turned_board : (P : Board → Type 0) (now : ℕ) (items : List Item) (epoch : ℕ) (s : Session) → P s.board
+    → P (taken_in (is_due now s) now items s.board) → P (session_turn now items epoch s).session.board
+turned_board P now items epoch s p q =
+    turn_rule (λ (t : SessionTurn). P t.session.board) now items epoch s (record {
+      superseded = p;
+      unbound = p;
+      owes = λ text owed. p;
+      loops = p;
+      next = next_rule (λ (t : Session). P t.board) s p p;
+      spent = p;
+      waits = λ none. q;
+      tells = λ t some. next_rule (λ (t : Session). P t.board) (numbered (taken_in (is_due now s) now items) s) q q;
+      ending = λ code. p;
+      over = λ code. p;
+    })
 
 -- a new subscription: the places of its key and command lie in its schema
 abbrev KeysIn : ℕ → Option KeyPlaces → Type 0
@@ -365,7 +382,7 @@ configures_writable lines sub frequency false s = ((s.some, s.most), (limit_writ
 
 -- what begins by them
 abbrev begun_of : ℕ → ℕ → Option KeyPlaces → Begun
-begun_of items fields keys = record { items = items; fields = fields; keyed = option_map told_places keys }
+begun_of items fields keys = record { items = items; fields = fields; keyed = option_map places_from_one keys }
 
 begins : (sub other items fields : ℕ) (keys : Option KeyPlaces) (before : Option Begun) (b : Bool) → (sub == other) ≡ b
     → begun_after other (begins_line sub items fields keys) before ≡ cond b (Some (begun_of items fields keys)) before
@@ -403,22 +420,22 @@ asked_live sub rank number a s =
 
 ask_begun : (items : List Item) (sub rank number fields : ℕ) (keyed : Option KeyPlaces) (a : Ask) → AskShown items fields keyed a → (s : Slot)
     → s.plan ≡ plan_of (shape_at items a.item) (history_of items a.item) a.mode a.size
-    → BegunIn s.plan.mode (asked_live sub rank number a s) (option_map told_places keyed)
+    → BegunIn s.plan.mode (asked_live sub rank number a s) (option_map places_from_one keyed)
 ask_begun items sub rank number fields keyed a k s is =
     subst (λ (p : Plan). BegunIn p.mode (asked_live sub rank number a s)
-    (option_map told_places keyed)) (sym is) (by_mode a.mode refl)
+    (option_map places_from_one keyed)) (sym is) (by_mode a.mode refl)
   where
     by_mode : (m : Mode) → a.mode ≡ m → BegunIn m (asked_live sub rank number a s)
-        (option_map told_places keyed)
+        (option_map places_from_one keyed)
     by_mode mode.Command e =
         record {
           kind = ap (λ (p : Plan). p.shape.kind) is ∙ k.kind e;
-          places = ap (option_map told_places) (k.keys ∙ ap (λ (m : Mode). keys_in m (keys_shown_at (shape_at items a.item) a.wanted.places)) e)
-              ∙ ap (λ (p : Plan). Some (told_places (schema_of a.wanted p))) (sym is);
+          places = ap (option_map places_from_one) (k.keys ∙ ap (λ (m : Mode). keys_in m (keys_shown_at (shape_at items a.item) a.wanted.places)) e)
+              ∙ ap (λ (p : Plan). Some (places_from_one (schema_of a.wanted p))) (sym is);
         }
-    by_mode mode.Merge e = ap (option_map told_places) (k.keys ∙ ap (λ (m : Mode). keys_in m (keys_shown_at (shape_at items a.item) a.wanted.places)) e)
-    by_mode mode.Raw e = ap (option_map told_places) (k.keys ∙ ap (λ (m : Mode). keys_in m (keys_shown_at (shape_at items a.item) a.wanted.places)) e)
-    by_mode mode.Distinct e = ap (option_map told_places) (k.keys ∙ ap (λ (m : Mode). keys_in m (keys_shown_at (shape_at items a.item) a.wanted.places)) e)
+    by_mode mode.Merge e = ap (option_map places_from_one) (k.keys ∙ ap (λ (m : Mode). keys_in m (keys_shown_at (shape_at items a.item) a.wanted.places)) e)
+    by_mode mode.Raw e = ap (option_map places_from_one) (k.keys ∙ ap (λ (m : Mode). keys_in m (keys_shown_at (shape_at items a.item) a.wanted.places)) e)
+    by_mode mode.Distinct e = ap (option_map places_from_one) (k.keys ∙ ap (λ (m : Mode). keys_in m (keys_shown_at (shape_at items a.item) a.wanted.places)) e)
 
 shown_joined : (items : List Item) (free : ℕ → ℕ) (lines : List Line) (sub many fields rank : ℕ) (keys : Option KeyPlaces) (frequency : Option ℕ)
     (filtered : Bool) (asks : List Ask)
@@ -601,14 +618,15 @@ legible_operates w connection req (op.Add a) n s is range l =
     legible_operated w connection req n s (add_code w s a) (subscribed w a) is
     (λ none. legible_added w s a (free_number w.sessions) range (asked_is w s a none)) l
 legible_operates w connection req (op.Delete sub) n s is range l =
-    legible_operated w connection req n s (change_code s sub) (on_board (removed sub)) is
+    legible_operated w connection req n s (change_code s sub) (numbered (removed sub)) is
     (λ none. legible_removed sub s.board (record { some = range.0; most = range.1 })) l
 legible_operates w connection req (op.Reconf sub frequency) n s is range l =
-    legible_operated w connection req n s (change_code s sub) (on_board (reconfigured sub frequency)) is
+    legible_operated w connection req n s (change_code s sub) (numbered (reconfigured sub frequency)) is
     (λ none. legible_reconfigured sub frequency s.board (record { some = range.0; most = range.1 })) l
 legible_operates w connection req (op.Constrain limit) n s is range l =
     legible_operated w connection req n s (constrain_code s) (constrained limit) is (λ none b. b) l
-legible_operates w connection req op.ForceRebind n s is range l = l
+legible_operates w connection req op.ForceRebind n s is range l =
+    legible_operated w connection req n s None forced is (λ none b. b) l
 legible_operates w connection req op.Destroy n s is range l =
     legible_operated w connection req n s None (ended destroyed) is (λ none b. record { lines = b.lines; slots = tt }) l
 
@@ -618,13 +636,20 @@ legible_creates w connection c l =
     (λ none. record {
       items = l.items;
       sessions = each_append (λ (s : Session). LegibleBoard s.board) w.sessions
-          (opened (length w.sessions + 1) c.keepalive c.bandwidth ∷ []) l.sessions (record { lines = tt; slots = tt }, tt);
+          (opened (length w.sessions + 1) c.keepalive c.bandwidth c.length ∷ []) l.sessions (record { lines = tt; slots = tt }, tt);
     })
     (λ code x. l)
 
+legible_binds : (w : World) (connection : ℕ) (b : Bind) → Legible w → Legible (binds w connection b).after
+legible_binds w connection b l =
+    living_rule (λ (x : Stepped). Legible x.after) w.sessions (session_named w connection (Some b.session)) _ _ l
+    (λ n s is living. found_rule (λ (x : Stepped). Legible x.after) (bind_code s b) _ _
+    (λ none. let k : Legible (record w { sessions = change n (rebound b.session b) w.sessions }) =
+    board_changed w n s (rebound b.session b) is (λ k. k) l in record { items = k.items; sessions = k.sessions }) (λ code x. l))
+
 legible_acts : (w : World) (connection : ℕ) (r : Request) → IsRequest r → Legible w → Legible (acts w connection r).after
 legible_acts w connection (request.Create c) range l = legible_creates w connection c l
-legible_acts w connection (request.Bind b) range l = l
+legible_acts w connection (request.Bind b) range l = legible_binds w connection b l
 legible_acts w connection (request.Control c) range l =
     living_rule (λ (x : Stepped). Legible x.after) w.sessions (session_named w connection c.session) _ (operates w connection c.req c.op) l
     (λ n s is living. legible_operates w connection c.req c.op n s is range l)
@@ -634,11 +659,12 @@ legible_malformed : (w : World) (connection : ℕ) (name : List ℕ) (req : Opti
 legible_malformed w connection name req l =
     cond_rule (λ (x : Stepped). Legible x.after) (is_opening name) _ _ (λ t. l) (λ t. found_rule (λ (x : Stepped). Legible x.after) req _ _ (λ e. l) (λ r e. l))
 
-legible_requests : (w : World) (connection : ℕ) (name : List ℕ) (ps : Option (List Pair)) → Legible w → Legible (requests w connection name ps).after
-legible_requests w connection name ps l =
-    found_rule (λ (x : Stepped). Legible x.after) (request_on w connection name ps) _ (acts w connection)
+legible_requests : (w : World) (connection : ℕ) (k : LinkKind) (name : List ℕ) (ps : Option (List Pair)) → Legible w
+    → Legible (requests w connection k name ps).after
+legible_requests w connection k name ps l =
+    found_rule (λ (x : Stepped). Legible x.after) (request_over k name ps) _ (acts w connection)
     (λ none. legible_malformed w connection name (option_and_then (req_behind name) ps) l)
-    (λ r is. legible_acts w connection r (subst (λ (o : Option Request). IfSome o IsRequest) is (request_on_is w connection name ps)) l)
+    (λ r is. legible_acts w connection r (subst (λ (o : Option Request). IfSome o IsRequest) is (request_over_is k name ps)) l)
 
 -- a publish
 textual_grown : (h : List Entry) (e : Entry) → TextualEvent e.event → Textual h → Textual (h ++ e ∷ [])
@@ -676,7 +702,23 @@ legible_took w connection n old new (Gave text) is k l = board_changed w n old (
 legible_took w connection n old new Idle is k l = board_changed w n old (λ x. new) is (λ x. k) l
 legible_took w connection n old new (NotDue tick) is k l = board_changed w n old (λ x. new) is (λ x. k) l
 legible_took w connection n old new Spent is k l = l
+legible_took w connection n old new (Superseded epoch) is k l = l
+legible_took w connection n old new Unbound is k l = l
 legible_took w connection n old new (Over code) is k l = l
+
+-- a loss, and a tick at which sessions time out
+legible_loses : (w : World) (connection : ℕ) → Legible w → Legible (loses w connection).after
+legible_loses w connection l =
+    session_rule (λ (x : Stepped). Legible x.after) w.sessions (session_of w connection) _ _ l
+    (λ n s is. cond_rule (λ (x : Stepped). Legible x.after) (nat_lt (epoch_of w connection) (length s.streams)) _ _ (λ t. l)
+    (λ t. cond_rule (λ (x : Stepped). Legible x.after) (is_bound s) _ _ (λ u. board_changed w n s (unbound_at w.tick) is (λ k. k) l) (λ u. l)))
+
+legible_ticked : (now : ℕ) (ss : List Session) → Each (λ (s : Session). LegibleBoard s.board) ss
+    → Each (λ (s : Session). LegibleBoard s.board) (map (unless_timed_out now) ss)
+legible_ticked now ss e =
+    each_mapped (λ (s : Session). LegibleBoard s.board) (λ (s : Session). LegibleBoard s.board) (unless_timed_out now) ss
+    (λ s b. cond_rule (λ (t : Session). LegibleBoard t.board) (is_timed_out now s) (ended timed_out s) s
+    (λ t. record { lines = b.lines; slots = tt }) (λ t. b)) e
 
 both_enqueued : (connection sub rank times : ℕ) (w : World) → Both w → Both (repeated (enqueue_once connection sub rank) times w).after
 both_enqueued connection sub rank times w b =
@@ -689,16 +731,15 @@ both_enqueued connection sub rank times w b =
           legible_enqueued v n sub rank s (live_at sub rank s.board.round) is k.legible;
     })) b
 
-took_both : (v : World) (connection n : ℕ) (s : Session) → slice_get v.sessions n ≡ Some s → Both v
-    → Both (took v connection n (session_turn v.tick v.items s).session (session_turn v.tick v.items s).gives).after
-took_both v connection n s is k =
+took_both : (v : World) (connection epoch n : ℕ) (s : Session) → slice_get v.sessions n ≡ Some s → Both v
+    → Both (took v connection n (session_turn v.tick v.items epoch s).session (session_turn v.tick v.items epoch s).gives).after
+took_both v connection epoch n s is k =
+    let t : SessionTurn = session_turn v.tick v.items epoch s in
     let lawful = each_at (LawfulSession v.items) n s v.sessions is k.records.sessions in
     let board = each_at (λ (t : Session). LegibleBoard t.board) n s v.sessions is k.legible.sessions in
     record {
-      records = lawful_took v connection n s (session_turn v.tick v.items s).session (session_turn v.tick v.items s).gives is
-          (session_keeps v.tick v.items s lawful) k.records;
-      legible = legible_took v connection n s (session_turn v.tick v.items s).session (session_turn v.tick v.items s).gives is
-          (turned_board LegibleBoard v.tick v.items s board
+      records = lawful_took v connection n s t.session t.gives is (session_keeps v.tick v.items epoch s lawful) k.records;
+      legible = legible_took v connection n s t.session t.gives is (turned_board LegibleBoard v.tick v.items epoch s board
           (legible_taken (is_due v.tick s) v.tick v.items s.board k.records.items k.legible.items lawful.board board)) k.legible;
     }
 
@@ -706,8 +747,8 @@ both_taken : (connection times : ℕ) (w : World) → Both w → Both (repeated 
 both_taken connection times w b =
     repeated_keeps Both (take_once connection) times w
     (λ v k. session_rule (λ (x : Once). Both x.after) v.sessions (session_of v connection) _
-    (λ n s. took v connection n (session_turn v.tick v.items s).session (session_turn v.tick v.items s).gives) k
-    (λ n s is. took_both v connection n s is k)) b
+    (λ n s. let t : SessionTurn = session_turn v.tick v.items (epoch_of v connection) s in took v connection n t.session t.gives) k
+    (λ n s is. took_both v connection (epoch_of v connection) n s is k)) b
 
 -- a step
 legible_does : (w : World) (s : Step) (times : ℕ) → StepInRange s → Both w → Legible (does w s times).after
@@ -719,18 +760,18 @@ legible_does w (step.Item name k fields) times r b =
           b.legible.items (tt, tt);
       sessions = b.legible.sessions;
     }
-legible_does w (step.Tick ms) times r b = record { items = b.legible.items; sessions = b.legible.sessions }
+legible_does w (step.Tick ms) times r b = record { items = b.legible.items; sessions = legible_ticked ms w.sessions b.legible.sessions }
 legible_does w (step.Conn name l) times r b = record { items = b.legible.items; sessions = b.legible.sessions }
 legible_does w (step.Open name) times r b =
     legible_creates (connects w name link.Ws) (length w.connections) plain_create (record { items = b.legible.items; sessions = b.legible.sessions })
-legible_does w (step.Add connection words) times r b = legible_requests w connection (codes "control") (add_pairs w.line words) b.legible
-legible_does w (step.Request connection name parameters) times r b = legible_requests w connection name (form_of parameters) b.legible
+legible_does w (step.Add connection words) times r b = legible_requests w connection link.Ws (codes "control") (add_pairs w.line words) b.legible
+legible_does w (step.Request connection name parameters) times r b = legible_requests w connection (link_of w connection) name (form_of parameters) b.legible
 legible_does w (step.Publish adapter seq item cells) times r b = legible_publishes w item (record { adapter = adapter; seq = seq; event = Update cells }) r
     b.legible
 legible_does w (step.Clear adapter seq item) times r b = legible_publishes w item (record { adapter = adapter; seq = seq; event = Clear }) tt b.legible
 legible_does w (step.Enqueue connection sub rank) times r b = (both_enqueued connection sub rank times w b).legible
 legible_does w (step.Take connection) times r b = (both_taken connection times w b).legible
-legible_does w (step.Lose connection) times r b = b.legible
+legible_does w (step.Lose connection) times r b = legible_loses w connection b.legible
 
 pub both_does : (w : World) (s : Step) (times : ℕ) → StepInRange s → HasDistinctFields s → Both w → Both (does w s times).after
 both_does w s times r d b = record { records = lawful_does w s times r d b.records; legible = legible_does w s times r b }
@@ -767,7 +808,7 @@ decodes items s v sound b l h =
     by_mode : (m : Mode) → v.slot.plan.mode ≡ m → BegunIn m v h.subscription.keyed
         → KeysOf m (history_of items v.item) v.wanted v.slot h.subscription.keyed (whats (came v.sub v.rank s.board.lines))
     by_mode mode.Command command begun =
-        told_keys (history_of items v.item) v.wanted v.slot (came v.sub v.rank s.board.lines) h.subscription.keyed begun.kind
+        decoded_keys (history_of items v.item) v.wanted v.slot (came v.sub v.rank s.board.lines) h.subscription.keyed begun.kind
         (subst (λ (p : Shape). IsHistory p (history_of items v.item)) (sym l.shape) (history_sound items v.item l.declared sound)) begun.places
         (subst (λ (m : Mode). LawfulOf m (history_of items v.item) v.wanted v.slot (came v.sub v.rank s.board.lines)) command l.came)
     by_mode mode.Merge other begun = begun

@@ -14,7 +14,12 @@ pub mod KeyedNames
 pub mod ClientKeys
 pub mod Modes
 pub mod Frame
+pub mod Counting
 pub mod Sessions
+pub mod SessionRule
+pub mod Numbering
+pub mod Recovery
+pub mod NewStreams
 pub mod Asked
 pub mod Requested
 pub mod Laws

@@ -16,8 +16,7 @@ use Rattle.ls_request.specs.declared.request.Op.TheVariants as op
 use Rattle.ls_request.specs.declared.request.Request.{Request}
 use Rattle.ls_request.specs.declared.request.Request.TheVariants as request
 use Rattle.ls_request.specs.Values.{is_word, sub_of, size_of, mode_of, names_of, snap_of, frequency_of, bandwidth_of, milli_above_0, keepalive_of, capped}
-use Rattle.ls_world.specs.World.{World}
-use Rattle.ls_world.specs.Steps.{link_of, request_on}
+use Rattle.ls_world.specs.Steps.{request_over}
 use Rattle.ls_form.specs.Decimals.{milli_of}
 use Rattle.ls_request.specs.declared.limits.TheConstants.{DEFAULT_KEEPALIVE}
 use Rattle.ls_request.specs.Requests.{or_absent, needed, unless, says, says_more, content_length, add_of}
@@ -182,6 +181,6 @@ request_is l name ps =
 pub request_read : (l : LinkKind) (name : List ℕ) (ps : List Pair) (r : Request) → request_of l name ps ≡ Some r → IsRequest r
 request_read l name ps r is = subst (λ (o : Option Request). IfSome o IsRequest) is (request_is l name ps)
 
--- and one on a connection, by pairs that may be malformed
-pub request_on_is : (w : World) (connection : ℕ) (name : List ℕ) (ps : Option (List Pair)) → IfSome (request_on w connection name ps) IsRequest
-request_on_is w connection name ps = free IsRequest ps (request_of (link_of w connection) name) (λ p. request_is (link_of w connection) name p)
+-- and one by pairs that may be malformed
+pub request_over_is : (l : LinkKind) (name : List ℕ) (ps : Option (List Pair)) → IfSome (request_over l name ps) IsRequest
+request_over_is l name ps = free IsRequest ps (request_of l name) (λ p. request_is l name p)

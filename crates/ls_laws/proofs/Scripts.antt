@@ -1,25 +1,24 @@
 -- What each step that fits a script keeps is true of the worlds of scripts. What their lines ask for is in its ranges, so
 -- these worlds are lawful.
-use Rattle.std.proofs.Common.{◌≡◌, ℕ, List, [], ◌∷◌, refl, Option, Some, None, Result, Ok, Err}
+use Rattle.std.proofs.Common.{◌≡◌, ℕ, List, [], ◌∷◌, refl, Option, Some, None, option_map}
 use Rattle.ls_step.specs.declared.step.Repeat.{Repeat}
 use Rattle.ls_step.specs.declared.step.Step.{Step}
 use Rattle.ls_step.specs.Grammar.{is_skipped, line_of}
 use Rattle.ls_step.specs.Ranges.{Fits}
 use Rattle.ls_step.proofs.Fitting.{line_fits_is}
-use Rattle.ls_world.specs.declared.Refused.{Refused}
 use Rattle.ls_world.specs.World.{World, empty}
 use Rattle.ls_world.specs.Steps.{Stepped, does}
-use Rattle.ls_world.specs.Built.{is_built}
-use Rattle.ls_world.specs.Script.{counted, known_of, stepped_by, step as step_of, and_then, world_of}
+use Rattle.ls_world.specs.Cases.{with_found}
+use Rattle.ls_world.specs.Script.{counted, known_of, step as step_of, world_of}
 use Rattle.ls_world.specs.Lawful.{Lawful}
 use Rattle.ls_world.proofs.Rules.{cond_rule}
 use Rattle.ls_world.proofs.ScriptRanges.{in_range, distinct_fields}
 use Rattle.ls_laws.proofs.Legible.{Both, both_does, both_counted, both_empty, lawful_both}
 
 -- the worlds of scripts, by what each step that fits keeps
-abbrev AfterLine : (World → Type 0) → Result Stepped Refused → Type 0
-AfterLine P (Ok s) = P s.after
-AfterLine P (Err r) = Unit {0}
+abbrev AfterLine : (World → Type 0) → Option Stepped → Type 0
+AfterLine P None = Unit {0}
+AfterLine P (Some s) = P s.after
 
 pub record KeptByLines (P : World → Type 0) : Type 0 where
   pub counts : (w : World) → P w → P (counted w)
@@ -28,16 +27,14 @@ pub record KeptByLines (P : World → Type 0) : Type 0 where
 line_keeps : (P : World → Type 0) → KeptByLines P → (w : World) (line : List ℕ) → P w → AfterLine P (step_of w line)
 line_keeps P k w line p = cond_rule (AfterLine P) (is_skipped line) _ _ (λ skipped. k.counts w p) (λ asked. by_form (line_of (known_of w) line) refl)
   where
-    by_form : (o : Option Repeat) → line_of (known_of w) line ≡ o → AfterLine P (stepped_by (counted w) o)
+    by_form : (o : Option Repeat) → line_of (known_of w) line ≡ o → AfterLine P (option_map (λ r. does (counted w) r.step r.times) o)
     by_form None is = tt
-    by_form (Some r) is =
-        cond_rule (AfterLine P) (is_built (counted w) r.step) _ _
-        (λ built. k.steps (counted w) r.step r.times (line_fits_is (known_of w) line r is).fits (k.counts w p)) (λ unbuilt. tt)
+    by_form (Some r) is = k.steps (counted w) r.step r.times (line_fits_is (known_of w) line r is).fits (k.counts w p)
 
-after_line : (P : World → Type 0) (w : World) (r : Result Stepped Refused) (f : Stepped → World) → AfterLine P r → P w → ((s : Stepped) → P s.after → P (f s))
-    → P (and_then w r f)
-after_line P w (Ok s) f after p more = more s after
-after_line P w (Err e) f after p more = p
+after_line : (P : World → Type 0) (w : World) (o : Option Stepped) (f : Stepped → World) → AfterLine P o → P w → ((s : Stepped) → P s.after → P (f s))
+    → P (with_found o w f)
+after_line P w None f after p more = p
+after_line P w (Some s) f after p more = more s after
 
 pub lines_keep : (P : World → Type 0) → KeptByLines P → (w : World) (lines : List (List ℕ)) → P w → P (world_of w lines)
 lines_keep P k w [] p = p
@@ -48,6 +45,6 @@ both_by_lines : KeptByLines Both
 both_by_lines =
     record { counts = both_counted; steps = λ w s times fits b. both_does w s times (in_range (known_of w) s fits) (distinct_fields (known_of w) s fits) b }
 
--- a script's lines, up to the first that is refused
+-- a script's lines, up to the first bad one
 pub lawful_script : (lines : List (List ℕ)) → Lawful (world_of empty lines)
 lawful_script lines = lawful_both (world_of empty lines) (lines_keep Both both_by_lines empty lines both_empty)

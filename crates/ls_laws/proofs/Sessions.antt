@@ -1,27 +1,45 @@
 -- A step of a session keeps it lawful.
-use Rattle.std.proofs.Common.{◌≡◌, ℕ, ◌+◌, ◌≤◌, ◌&&◌, List, [], ◌∷◌, length, refl, arith, Bool, true, false, cond, Option, Some, None, nat_le, slice_get}
+use Rattle.std.proofs.Common.{◌≡◌, ℕ, ◌+◌, ◌≤◌, ◌&&◌, List, [], ◌∷◌, length, refl, arith, Bool, true, cond, Option, Some, None, nat_lt, nat_le, slice_get}
 use Rattle.std.specs.List.{list_any}
-use Rattle.std.proofs.lemmas.Bool.{ltb-true}
 use Rattle.ls_value.specs.declared.limits.TheConstants.{GREATEST_NUMBER}
-use Rattle.ls_world.specs.World.{Item, Live, Board, Stream, Life, Alive, Ending, Ended, Session, RoundLine, round_of, taken_in, on_board, noted_in, is_unsent}
-use Rattle.ls_world.specs.World.{given_next, opened, ended, is_alive, is_due, least_wait, constrained}
-use Rattle.ls_world.specs.Steps.{SessionTurn, Gave, Spent, Over, waits_until, next_given, round_turn, turn_owing, end_text, turn_living, session_turn}
-use Rattle.ls_world.specs.Steps.{with_living}
+use Rattle.ls_request.specs.declared.request.Bind.{Bind}
+use Rattle.ls_world.specs.Lines.{text_at}
+use Rattle.ls_world.specs.World.{Item, Live, Board, Life, Alive, Ending, Ended, Session, RoundLine, round_of, taken_in, on_board, is_unsent, trimmed, numbered}
+use Rattle.ls_world.specs.World.{on_stream, with_text, with_line, given_next, is_to_loop, is_bound, unbound_at, opened, rebound, forced, ended, timed_out}
+use Rattle.ls_world.specs.World.{is_timed_out, unless_timed_out, is_alive, is_due, least_wait, constrained}
+use Rattle.ls_world.specs.Acting.{bind_code}
+use Rattle.ls_world.specs.Steps.{SessionTurn, Gave, Spent, Superseded, Unbound, Over, waits_until, next_given, round_turn, loop_text, end_text, gives_text}
+use Rattle.ls_world.specs.Steps.{turn_owing, turn_bound, gives_unbound, session_turn, with_living}
 use Rattle.ls_world.proofs.Rules.{found_rule, cond_rule, session_rule}
 use Rattle.ls_world.proofs.Parts.{given_by}
-use Rattle.ls_world.specs.Lawful.{LawfulStreams, LawfulBoard, LawfulSession}
+use Rattle.ls_world.specs.Lawful.{LawfulBoard, LawfulSession}
+use Rattle.ls_laws.proofs.Counting.{Counted, opened_counted, board_counted, trimmed_counted, stream_counted, with_next, next_counted, rebound_counted}
 use Rattle.ls_laws.proofs.Frame.{Later, board_later, take_keeps}
 
 pub session_later : (items items' : List Item) → Later items items' → (s : Session) → LawfulSession items s → LawfulSession items' s
-session_later items items' later s l = record { board = board_later items items' later s.board l.board; sent = l.sent; streams = l.streams }
+session_later items items' later s l =
+    record { board = board_later items items' later s.board l.board; sent = l.sent; given_up = l.given_up; streams = l.streams }
 
-pub opened_lawful : (items : List Item) (number keepalive : ℕ) (limit : Option ℕ) → LawfulSession items (opened number keepalive limit)
-opened_lawful items number keepalive limit = record { board = record { apart = tt; slots = tt }; sent = omega arith; streams = (omega arith, (tt, tt)) }
+-- a session is lawful by its board and by what is counted of its lines
+counts : (items : List Item) (s : Session) → LawfulSession items s → Counted s
+counts items s l = record { sent = l.sent; given_up = l.given_up; streams = l.streams }
+
+lawful : (items : List Item) (s : Session) → LawfulBoard items s.board → Counted s → LawfulSession items s
+lawful items s b c = record { board = b; sent = c.sent; given_up = c.given_up; streams = c.streams }
+
+pub opened_lawful : (items : List Item) (number keepalive : ℕ) (limit content : Option ℕ) → LawfulSession items (opened number keepalive limit content)
+opened_lawful items number keepalive limit content =
+    lawful items (opened number keepalive limit content) (record { apart = tt; slots = tt }) (opened_counted number keepalive limit content)
 
 -- a step of the board that takes no line away
 pub on_board_keeps : (items : List Item) (f : Board → Board) (s : Session) → (LawfulBoard items s.board → LawfulBoard items (f s.board))
     → length s.board.lines ≤ length (f s.board).lines → LawfulSession items s → LawfulSession items (on_board f s)
-on_board_keeps items f s keep grow l = record { board = keep l.board; sent = omega (arith, l.sent, grow); streams = l.streams }
+on_board_keeps items f s keep grow l = lawful items (on_board f s) (keep l.board) (board_counted s (f s.board) grow (counts items s l))
+
+pub numbered_keeps : (items : List Item) (f : Board → Board) (s : Session) → (LawfulBoard items s.board → LawfulBoard items (f s.board))
+    → length s.board.lines ≤ length (f s.board).lines → LawfulSession items s → LawfulSession items (numbered f s)
+numbered_keeps items f s keep grow l =
+    lawful items (numbered f s) (keep l.board) (trimmed_counted (on_board f s) (board_counted s (f s.board) grow (counts items s l)))
 
 given_grows : (now : ℕ) (b : Board) (kept : List Live) (o : Option RoundLine) → length b.lines ≤ length (given_by now b kept o).lines
 given_grows now b kept None = omega arith
@@ -30,69 +48,101 @@ given_grows now b kept (Some t) = omega arith
 pub take_grows : (due : Live → Bool) (now : ℕ) (items : List Item) (b : Board) → length b.lines ≤ length (taken_in due now items b).lines
 take_grows due now items b = given_grows now b (round_of due items b.lines b.round).kept (round_of due items b.lines b.round).came
 
-streams_given : (n : ℕ) (ts : List Stream) → LawfulStreams n ts → LawfulStreams (n + 1) (noted_in (n + 1) ts)
-streams_given n [] l = absurd l
-streams_given n (t ∷ ts) l = (omega (arith, l.0), ((omega (arith, l.0), l.1.0), l.1.1))
-
 next_keeps : (items : List Item) (s : Session) → LawfulSession items s → LawfulSession items (given_next s)
-next_keeps items s l = by_test (is_unsent s) refl
-  where
-    by_test : (v : Bool) → is_unsent s ≡ v → LawfulSession items (cond v (record s { sent = s.sent + 1; streams = noted_in (s.sent + 1) s.streams }) s)
-    by_test true t = record {
-      board = l.board;
-      sent = omega (arith, ltb-true s.sent (length s.board.lines) t);
-      streams =
-          streams_given s.sent s.streams l.streams;
-    }
-    by_test false t = record { board = l.board; sent = l.sent; streams = l.streams }
+next_keeps items s l =
+    cond_rule (LawfulSession items) (is_unsent s) _ s
+    (λ t. lawful items _ l.board (trimmed_counted (with_next s) (next_counted s t (counts items s l)))) (λ t. l)
 
--- what is true of a session's turn, by what is true of each end of it
-pub turn_rule : (P : SessionTurn → Type 0) (now : ℕ) (items : List Item) (s : Session)
-    → ((text : List ℕ) (owed : List (List ℕ)) → P (record { session = record s { owed = owed }; gives = Gave text }))
-    → P (next_given s) → P (record { session = s; gives = Spent })
-    → ((round_of (is_due now s) items s.board.lines s.board.round).came ≡ None
-    → P (record { session = on_board (taken_in (is_due now s) now items) s; gives = waits_until (least_wait now items s) }))
-    → ((t : RoundLine) → (round_of (is_due now s) items s.board.lines s.board.round).came ≡ Some t
-    → P (next_given (on_board (taken_in (is_due now s) now items) s)))
-    → ((code : ℕ) → P (record { session = record s { life = Ended code }; gives = Gave (end_text code) }))
-    → ((code : ℕ) → P (record { session = s; gives = Over code })) → P (session_turn now items s)
-turn_rule P now items s owes next spent none some ending over = by_life s.life
+-- what is true of each end of a session's turn
+pub record TurnEnds (P : SessionTurn → Type 0) (now : ℕ) (items : List Item) (s : Session) : Type 0 where
+  pub superseded : P (record { session = s; gives = Superseded (length s.streams) })
+  pub unbound : P (record { session = s; gives = Unbound })
+  pub owes : (text : List ℕ) (owed : List (List ℕ)) → P (gives_text text (record s { owed = owed }))
+  pub loops : P (record { session = unbound_at now s; gives = Gave loop_text })
+  pub next : P (next_given s)
+  pub spent : P (record { session = s; gives = Spent })
+  pub waits : (round_of (is_due now s) items s.board.lines s.board.round).came ≡ None
+      → P (record { session = on_board (taken_in (is_due now s) now items) s; gives = waits_until (least_wait now items s) })
+  pub tells : (t : RoundLine) → (round_of (is_due now s) items s.board.lines s.board.round).came ≡ Some t
+      → P (next_given (numbered (taken_in (is_due now s) now items) s))
+  pub ending : (code : ℕ) → P (gives_text (end_text code) (record s { life = Ended code }))
+  pub over : (code : ℕ) → P (record { session = s; gives = Over code })
+
+pub turn_rule : (P : SessionTurn → Type 0) (now : ℕ) (items : List Item) (epoch : ℕ) (s : Session) → TurnEnds P now items s
+    → P (session_turn now items epoch s)
+turn_rule P now items epoch s e =
+    cond_rule P (nat_lt epoch (length s.streams)) _ _ (λ t. e.superseded)
+    (λ t. cond_rule P (is_bound s) _ _ (λ u. by_life s.life) (λ u. by_end s.life))
   where
     by_round : P (round_turn now items s)
-    by_round = cond_rule P (list_any (is_due now s) s.board.round && nat_le GREATEST_NUMBER (length s.board.lines)) _ _ (λ t. spent)
-        (λ t. found_rule P (round_of (is_due now s) items s.board.lines s.board.round).came _ _ none some)
+    by_round = cond_rule P (list_any (is_due now s) s.board.round && nat_le GREATEST_NUMBER (length s.board.lines)) _ _ (λ t. e.spent)
+        (λ t. found_rule P (round_of (is_due now s) items s.board.lines s.board.round).came _ _ e.waits e.tells)
 
     by_owed : (owed : List (List ℕ)) → P (turn_owing now items s owed)
-    by_owed (text ∷ owed) = owes text owed
-    by_owed [] = cond_rule P (is_unsent s) _ _ (λ t. next) (λ t. by_round)
+    by_owed (text ∷ owed) = e.owes text owed
+    by_owed [] = cond_rule P (is_to_loop s.streams) _ _ (λ t. e.loops) (λ t. cond_rule P (is_unsent s) _ _ (λ u. e.next) (λ u. by_round))
 
-    by_life : (life : Life) → P (turn_living now items s life)
+    by_life : (life : Life) → P (turn_bound now items s life)
     by_life Alive = by_owed s.owed
-    by_life (Ending code) = ending code
-    by_life (Ended code) = over code
+    by_life (Ending code) = e.ending code
+    by_life (Ended code) = e.over code
 
--- the next unsent line changes what was sent, or nothing
-pub next_rule : (P : Session → Type 0) (s : Session) → P s → P (record s { sent = s.sent + 1; streams = noted_in (s.sent + 1) s.streams }) → P (given_next s)
+    by_end : (life : Life) → P (record { session = s; gives = gives_unbound life })
+    by_end Alive = e.unbound
+    by_end (Ending code) = e.over code
+    by_end (Ended code) = e.over code
+
+-- the next unsent line changes what was sent and is kept, or nothing
+pub next_rule : (P : Session → Type 0) (s : Session) → P s
+    → P (trimmed (on_stream (with_line (s.sent + 1) (text_at s.board.lines (s.sent + 1))) (record s { sent = s.sent + 1 }))) → P (given_next s)
 next_rule P s p q = cond_rule P (is_unsent s) _ _ (λ t. q) (λ t. p)
 
-pub session_keeps : (now : ℕ) (items : List Item) (s : Session) → LawfulSession items s → LawfulSession items (session_turn now items s).session
-session_keeps now items s l =
-    turn_rule (λ (t : SessionTurn). LawfulSession items t.session) now items s
-    (λ text owed. record { board = l.board; sent = l.sent; streams = l.streams }) (next_keeps items s l) l (λ none. after)
-    (λ t some. next_keeps items (on_board (taken_in (is_due now s) now items) s) after)
-    (λ code. record { board = l.board; sent = l.sent; streams = l.streams }) (λ code. l)
-  where
-    after : LawfulSession items (on_board (taken_in (is_due now s) now items) s)
-    after = on_board_keeps items (taken_in (is_due now s) now items) s (take_keeps (is_due now s) now items s.board)
-        (take_grows (is_due now s) now items s.board) l
+pub unbound_lawful : (items : List Item) (tick : ℕ) (s : Session) → LawfulSession items s → LawfulSession items (unbound_at tick s)
+unbound_lawful items tick s l = record { board = l.board; sent = l.sent; given_up = l.given_up; streams = l.streams }
+
+gives_lawful : (items : List Item) (text : List ℕ) (s : Session) → LawfulSession items s → LawfulSession items (gives_text text s).session
+gives_lawful items text s l = lawful items (gives_text text s).session l.board (stream_counted (with_text text) s (λ t. refl) (λ t. refl) (counts items s l))
+
+pub session_keeps : (now : ℕ) (items : List Item) (epoch : ℕ) (s : Session) → LawfulSession items s
+    → LawfulSession items (session_turn now items epoch s).session
+session_keeps now items epoch s l =
+    turn_rule (λ (t : SessionTurn). LawfulSession items t.session) now items epoch s (record {
+      superseded = l;
+      unbound = l;
+      owes = λ text owed. gives_lawful items text (record s { owed = owed })
+          (record { board = l.board; sent = l.sent; given_up = l.given_up; streams = l.streams });
+      loops = unbound_lawful items now s l;
+      next = next_keeps items s l;
+      spent = l;
+      waits = λ none. on_board_keeps items (taken_in (is_due now s) now items) s (take_keeps (is_due now s) now items s.board)
+          (take_grows (is_due now s) now items s.board) l;
+      tells = λ t some. next_keeps items (numbered (taken_in (is_due now s) now items) s)
+          (numbered_keeps items (taken_in (is_due now s) now items) s (take_keeps (is_due now s) now items s.board)
+          (take_grows (is_due now s) now items s.board) l);
+      ending = λ code. gives_lawful items (end_text code) (record s { life = Ended code })
+          (record { board = l.board; sent = l.sent; given_up = l.given_up; streams = l.streams });
+      over = λ code. l;
+    })
 
 -- another bandwidth changes no line
 pub constrained_lawful : (items : List Item) (limit : Option ℕ) (s : Session) → LawfulSession items s → LawfulSession items (constrained limit s)
-constrained_lawful items limit s l = record { board = l.board; sent = l.sent; streams = l.streams }
+constrained_lawful items limit s l = record { board = l.board; sent = l.sent; given_up = l.given_up; streams = l.streams }
 
 -- one that ends has no slot
 pub ended_lawful : (items : List Item) (code : ℕ) (s : Session) → LawfulSession items s → LawfulSession items (ended code s)
-ended_lawful items code s l = record { board = record { apart = tt; slots = tt }; sent = l.sent; streams = l.streams }
+ended_lawful items code s l =
+    record { board = record { apart = tt; slots = tt }; sent = l.sent; given_up = l.given_up; streams = l.streams }
+
+pub timed_out_lawful : (items : List Item) (now : ℕ) (s : Session) → LawfulSession items s → LawfulSession items (unless_timed_out now s)
+timed_out_lawful items now s l = cond_rule (LawfulSession items) (is_timed_out now s) _ _ (λ t. ended_lawful items timed_out s l) (λ t. l)
+
+-- another stream of it, where the client may go on, and one that is forced to be over
+pub rebound_lawful : (items : List Item) (number : ℕ) (s : Session) (b : Bind) → bind_code s b ≡ None → LawfulSession items s
+    → LawfulSession items (rebound number b s)
+rebound_lawful items number s b none l = lawful items (rebound number b s) l.board (rebound_counted number s b none (counts items s l))
+
+pub forced_lawful : (items : List Item) (s : Session) → LawfulSession items s → LawfulSession items (forced s)
+forced_lawful items s l = lawful items (forced s) l.board (stream_counted (λ t. record t { forced = true }) s (λ t. refl) (λ t. refl) (counts items s l))
 
 -- what is done with one that hasn't ended, by what is true with none and with one
 pub living_rule : {A : Type 0} (P : A → Type 0) (sessions : List Session) (o : Option ℕ) (none : A) (f : ℕ → Session → A) → P none

@@ -45,12 +45,12 @@ Spaced [] = Unit {0}
 Spaced (l ∷ lines) = LineSpaced lines l × Spaced lines
 
 -- a slot has the frequency that CONF told
-abbrev IsToldOf : List Line → Live → Type 0
-IsToldOf lines v = v.frequency ≡ configured v.sub lines
+abbrev IsConfigured : List Line → Live → Type 0
+IsConfigured lines v = v.frequency ≡ configured v.sub lines
 
 record IsSpaced (now : ℕ) (b : Board) (r : Rate) : Type 0 where
   lines : Spaced b.lines
-  slots : Each (IsToldOf b.lines) b.round
+  slots : Each (IsConfigured b.lines) b.round
 
 -- a new subscription
 asks_alike : (defs : List ItemDef) (a : Add) (group : List ℕ)
@@ -62,18 +62,18 @@ first_alike : (f : Option ℕ) (asks : List Ask) → Each (λ (x : Ask). x.frequ
 first_alike f [] e = tt
 first_alike f (a ∷ asks) e = (refl, each_map (λ (x : Ask). x.frequency ≡ f) (λ (x : Ask). x.frequency ≡ a.frequency) asks (λ x h. h ∙ sym e.0) e.1)
 
-told_joined : (items : List Item) (free : ℕ → ℕ) (lines : List Line) (sub rank : ℕ) (f : Option ℕ) (filtered : Bool) (asks : List Ask)
-    → Each (λ (x : Ask). x.frequency ≡ f) asks → Each (IsToldOf (Configures sub f filtered ∷ lines)) (joined_all items free sub rank asks)
-told_joined items free lines sub rank f filtered [] e = tt
-told_joined items free lines sub rank f filtered (a ∷ asks) e = (
+configured_joined : (items : List Item) (free : ℕ → ℕ) (lines : List Line) (sub rank : ℕ) (f : Option ℕ) (filtered : Bool) (asks : List Ask)
+    → Each (λ (x : Ask). x.frequency ≡ f) asks → Each (IsConfigured (Configures sub f filtered ∷ lines)) (joined_all items free sub rank asks)
+configured_joined items free lines sub rank f filtered [] e = tt
+configured_joined items free lines sub rank f filtered (a ∷ asks) e = (
   e.0 ∙ sym (ap (λ b. cond b f (configured sub lines)) (eq-eqb sub sub refl)),
-  told_joined items free lines sub (rank + 1) f filtered asks e.1,
+  configured_joined items free lines sub (rank + 1) f filtered asks e.1,
 )
 
 -- CONF of another subscription
-told_other : (lines : List Line) (sub : ℕ) (f : Option ℕ) (filtered : Bool) (v : Live) → is_of sub v ≡ false → IsToldOf lines v
-    → IsToldOf (Configures sub f filtered ∷ lines) v
-told_other lines sub f filtered v other h = h ∙ sym (ap (λ b. cond b f (configured v.sub lines)) other)
+configured_other : (lines : List Line) (sub : ℕ) (f : Option ℕ) (filtered : Bool) (v : Live) → is_of sub v ≡ false → IsConfigured lines v
+    → IsConfigured (Configures sub f filtered ∷ lines) v
+configured_other lines sub f filtered v other h = h ∙ sym (ap (λ b. cond b f (configured v.sub lines)) other)
 
 spaced_added : (now : ℕ) (w : World) (s : Session) (a : Add) → Each (λ (v : Live). is_of a.sub v ≡ false) s.board.round → IsSpaced now s.board s.rate
     → IsSpaced now (subscribed w a s).board s.rate
@@ -82,28 +82,29 @@ spaced_added now w s a others k =
     let lines : List Line = Begins a.sub (length asks) (length a.schema) (keys_shown w.items asks) ∷ s.board.lines in
     record {
       lines = (tt, (tt, k.lines));
-      slots = each_append (IsToldOf (Configures a.sub (frequency_of asks) (are_filtered asks) ∷ lines)) s.board.round
+      slots = each_append (IsConfigured (Configures a.sub (frequency_of asks) (are_filtered asks) ∷ lines)) s.board.round
           (joined_all w.items (free_number w.sessions) a.sub 1 asks)
-          (each_map (λ (v : Live). (is_of a.sub v ≡ false) × IsToldOf s.board.lines v)
-          (IsToldOf (Configures a.sub (frequency_of asks) (are_filtered asks) ∷ lines)) s.board.round
-          (λ v h. told_other lines a.sub (frequency_of asks) (are_filtered asks) v h.0 h.1)
-          (each_both (λ (v : Live). is_of a.sub v ≡ false) (IsToldOf s.board.lines) s.board.round others k.slots))
-          (told_joined w.items (free_number w.sessions) lines a.sub 1 (frequency_of asks) (are_filtered asks) asks
+          (each_map (λ (v : Live). (is_of a.sub v ≡ false) × IsConfigured s.board.lines v)
+          (IsConfigured (Configures a.sub (frequency_of asks) (are_filtered asks) ∷ lines)) s.board.round
+          (λ v h. configured_other lines a.sub (frequency_of asks) (are_filtered asks) v h.0 h.1)
+          (each_both (λ (v : Live). is_of a.sub v ≡ false) (IsConfigured s.board.lines) s.board.round others k.slots))
+          (configured_joined w.items (free_number w.sessions) lines a.sub 1 (frequency_of asks) (are_filtered asks) asks
           (first_alike (frequency_in a.mode a.frequency) asks (asks_alike (definitions w.items) a (group_of (definitions w.items) a.group))));
     }
 
 -- another frequency
-told_with : (lines : List Line) (sub : ℕ) (f : Option ℕ) (filtered : Bool) (v : Live) → IsToldOf lines v
-    → IsToldOf (Configures sub f filtered ∷ lines) (with_frequency sub f v)
-told_with lines sub f filtered v h =
-    cond_rule (IsToldOf (Configures sub f filtered ∷ lines)) (is_of sub v) (record v { frequency = f }) v
-    (λ t. sym (ap (λ b. cond b f (configured v.sub lines)) t)) (λ t. told_other lines sub f filtered v t h)
+configured_with : (lines : List Line) (sub : ℕ) (f : Option ℕ) (filtered : Bool) (v : Live) → IsConfigured lines v
+    → IsConfigured (Configures sub f filtered ∷ lines) (with_frequency sub f v)
+configured_with lines sub f filtered v h =
+    cond_rule (IsConfigured (Configures sub f filtered ∷ lines)) (is_of sub v) (record v { frequency = f }) v
+    (λ t. sym (ap (λ b. cond b f (configured v.sub lines)) t)) (λ t. configured_other lines sub f filtered v t h)
 
 -- an enqueue
-told_enqueued : (items : List Item) (lines : List Line) (sub rank : ℕ) (v : Live) → IsToldOf lines v → IsToldOf lines (enqueue_at items sub rank v)
-told_enqueued items lines sub rank v h =
-    cond_rule (IsToldOf lines) (is_at sub rank v) (enqueue_slot (history_of items v.item) v) v
-    (λ t. cond_rule (IsToldOf lines) _ (record v { slot = enqueued v.slot }) v (λ u. h) (λ u. h)) (λ t. h)
+configured_enqueued : (items : List Item) (lines : List Line) (sub rank : ℕ) (v : Live) → IsConfigured lines v
+    → IsConfigured lines (enqueue_at items sub rank v)
+configured_enqueued items lines sub rank v h =
+    cond_rule (IsConfigured lines) (is_at sub rank v) (enqueue_slot (history_of items v.item) v) v
+    (λ t. cond_rule (IsConfigured lines) _ (record v { slot = enqueued v.slot }) v (λ u. h) (λ u. h)) (λ t. h)
 
 -- what is true of each slot of a round, whatever its cursor is, is true after its turns
 record RoundOf (P : Live → Type 0) (r : Round) : Type 0 where
@@ -123,7 +124,7 @@ round_each P moved due items lines (v ∷ vs) e =
     met_of P v t.slot t.came vs (round_of due items lines vs) (moved v t.slot e.0) e.1 (round_each P moved due items lines vs e.1)
 
 spaced_given : (now : ℕ) (s : Session) (kept : List Live) (o : Option RoundLine) → ((t : RoundLine) → o ≡ Some t → IsOfDue now s t)
-    → Each (IsToldOf s.board.lines) s.board.round → Each (IsToldOf s.board.lines) kept → IfSome o (λ t. IsToldOf s.board.lines t.live)
+    → Each (IsConfigured s.board.lines) s.board.round → Each (IsConfigured s.board.lines) kept → IfSome o (λ t. IsConfigured s.board.lines t.live)
     → Spaced s.board.lines → IsSpaced now (given_by now s.board kept o) s.rate
 spaced_given now s kept None due told e p l = record { lines = l; slots = e }
 spaced_given now s kept (Some t) due told e p l =
@@ -133,13 +134,13 @@ spaced_given now s kept (Some t) due told e p l =
     leb-true f now (and_left (nat_le f now) (allows s.rate.limit (spends_of s) now) (sym (due_is now s d.slot) ∙ d.due)) in
     let same : frequency_tick (configured d.slot.sub s.board.lines) (updated d.slot.sub d.slot.rank s.board.lines) ≤ now =
     subst (λ o. frequency_tick o (updated d.slot.sub d.slot.rank s.board.lines) ≤ now)
-    (each_contains (IsToldOf s.board.lines) d.slot s.board.round told d.is_in) reached in
+    (each_contains (IsConfigured s.board.lines) d.slot s.board.round told d.is_in) reached in
     record {
       lines = (
         (λ update. subst (λ (v : Live). frequency_tick (configured v.sub s.board.lines) (updated v.sub v.rank s.board.lines) ≤ now) (sym d.same) same),
         l,
       );
-      slots = each_append (IsToldOf (Tells t.live.sub t.live.rank now t.came ∷ s.board.lines)) kept (t.live ∷ []) e (p, tt);
+      slots = each_append (IsConfigured (Tells t.live.sub t.live.rank now t.came ∷ s.board.lines)) kept (t.live ∷ []) e (p, tt);
     }
 
 spaced : Kept IsSpaced
@@ -149,22 +150,23 @@ spaced =
       adds = λ now w s a none k. spaced_added now w s a (unused_each a.sub s.board.round (asked_is w s a none).new) k;
       removes = λ now sub b r k. record {
         lines = (tt, k.lines);
-        slots = each_map (IsToldOf b.lines) (IsToldOf (Ends sub ∷ b.lines)) (without sub b.round) (λ v h. h)
-            (without_each (IsToldOf b.lines) sub b.round k.slots);
+        slots = each_map (IsConfigured b.lines) (IsConfigured (Ends sub ∷ b.lines)) (without sub b.round) (λ v h. h)
+            (without_each (IsConfigured b.lines) sub b.round k.slots);
       };
       reconfigures = λ now sub frequency b r k. let m : Mode = mode_in sub b.round in record {
         lines = (tt, k.lines);
-        slots = each_mapped (IsToldOf b.lines) (IsToldOf (Configures sub (frequency_in m frequency) (is_filtered m) ∷ b.lines))
-            (with_frequency sub (frequency_in m frequency)) b.round (told_with b.lines sub (frequency_in m frequency) (is_filtered m)) k.slots;
+        slots = each_mapped (IsConfigured b.lines) (IsConfigured (Configures sub (frequency_in m frequency) (is_filtered m) ∷ b.lines))
+            (with_frequency sub (frequency_in m frequency)) b.round (configured_with b.lines sub (frequency_in m frequency) (is_filtered m)) k.slots;
       };
       constrains = λ now limit b r rate k. record { lines = k.lines; slots = k.slots };
       ends = λ now b r k. record { lines = k.lines; slots = tt };
       enqueues = λ now items sub rank b r k. record {
         lines = k.lines;
-        slots = each_mapped (IsToldOf b.lines) (IsToldOf b.lines) (enqueue_at items sub rank) b.round (told_enqueued items b.lines sub rank) k.slots;
+        slots = each_mapped (IsConfigured b.lines) (IsConfigured b.lines) (enqueue_at items sub rank) b.round
+            (configured_enqueued items b.lines sub rank) k.slots;
       };
       takes = λ now items s k. let x : Round = round_of (is_due now s) items s.board.lines s.board.round in
-          let e = round_each (IsToldOf s.board.lines) (λ v t h. h) (is_due now s) items s.board.lines s.board.round k.slots in
+          let e = round_each (IsConfigured s.board.lines) (λ v t h. h) (is_due now s) items s.board.lines s.board.round k.slots in
           spaced_given now s x.kept x.came (λ t is. line_of_due now items s t is) k.slots e.kept e.came k.lines;
     }
 
@@ -299,8 +301,8 @@ steps_apart steps = of_each (λ s. AreApart s.board.lines) (does_all empty steps
 pub script_apart : (lines : List (List ℕ)) → Each (λ s. AreApart s.board.lines) (world_of empty lines).sessions
 script_apart lines = of_each (λ s. AreApart s.board.lines) (world_of empty lines) (λ s k. apart s.board.lines k.lines) (spaced_script lines)
 
-pub steps_told : (steps : List Repeat) → Each AreToldOf (does_all empty steps).sessions
-steps_told steps = of_each AreToldOf (does_all empty steps) (λ s k. k.slots) (spaced_steps empty steps tt)
+pub steps_configured : (steps : List Repeat) → Each AreToldOf (does_all empty steps).sessions
+steps_configured steps = of_each AreToldOf (does_all empty steps) (λ s k. k.slots) (spaced_steps empty steps tt)
 
-pub script_told : (lines : List (List ℕ)) → Each AreToldOf (world_of empty lines).sessions
-script_told lines = of_each AreToldOf (world_of empty lines) (λ s k. k.slots) (spaced_script lines)
+pub script_configured : (lines : List (List ℕ)) → Each AreToldOf (world_of empty lines).sessions
+script_configured lines = of_each AreToldOf (world_of empty lines) (λ s k. k.slots) (spaced_script lines)

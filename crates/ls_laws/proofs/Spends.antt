@@ -132,7 +132,7 @@ declared_clock w (step.Lose connection) = refl
 clock_does : (w : World) (s : Step) (times : ℕ) → (does w s times).after.tick ≡ clock_after w.tick s
 clock_does w s times =
     does_unmoved (ClockIs (clock_after w.tick s))
-    (record { rest = record { sessions = λ v ss p. p; grows = λ v item e p. p }; links = λ v connection session p. p }) w s times (declared_clock w s)
+    (record { rest = record { sessions = λ v ss p. p; grows = λ v item e p. p }; links = λ v connection session epoch p. p }) w s times (declared_clock w s)
 
 credited_later : (now later : ℕ) (w : World) → now ≤ later → Each (λ (s : Session). Credited now s.board s.rate) w.sessions
     → Each (λ (s : Session). Credited later s.board s.rate) w.sessions
@@ -212,7 +212,7 @@ script_made lines = world_keeps (world_of empty lines) (lines_keep (OfEach Credi
 
 -- so a wait ends at the first tick at which a slot that waits is due
 waits_for_first : (w : World) (s : Session) → KeepsBandwidth w.tick s → WaitsForFirst w s
-waits_for_first w s k tick is = wait_is_first w.tick w.items s tick k.some k.latest is
+waits_for_first w s k epoch tick is = wait_is_first w.tick w.items epoch s tick k.some k.latest is
 
 pub steps_wait : (steps : List Repeat) → ClockRises 0 steps → Each (WaitsForFirst (does_all empty steps)) (does_all empty steps).sessions
 steps_wait steps rises =

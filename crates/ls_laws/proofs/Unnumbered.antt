@@ -18,11 +18,14 @@ use Rattle.ls_value.specs.declared.limits.TheConstants.{GREATEST_NUMBER}
 use Rattle.ls_world.specs.declared.TheConstants.{MOST_SUBSCRIPTIONS}
 use Rattle.ls_world.specs.World.{Item, Live, Board, Life, Alive, Ending, Ended, Session, RoundLine, Round, history_of, is_at, is_of, is_used, live_at}
 use Rattle.ls_world.specs.World.{joined_slot, joined_all, added, without, removed, enqueue_slot, enqueue_at, enqueued_in, live_turn, round_of, taken_in}
+use Rattle.ls_world.specs.World.{trimmed, numbered, is_to_loop, is_bound, unbound_at, unless_timed_out, is_timed_out, ended, timed_out}
 use Rattle.ls_world.specs.World.{on_board, is_unsent, given_next, frequency_in, is_filtered, mode_in, with_frequency, reconfigured, due_at, is_due, is_waiting}
 use Rattle.ls_world.specs.World.{least_of, waits_of, least_wait}
 use Rattle.ls_world.specs.Acting.{is_group, group_of, is_allowed, is_schema, subscriptions, are_too_many, are_spent, add_refusals, change_code}
-use Rattle.ls_world.specs.Steps.{SessionTurn, Spent, next_given, round_turn, turn_owing, turn_living, session_turn}
-use Rattle.ls_world.proofs.Parts.{met_by, given_by, round_given, round_taken}
+use Rattle.ls_world.specs.Cases.{with_found}
+use Rattle.ls_world.specs.Steps.{SessionTurn, Gave, Spent, Superseded, loop_text, next_given, waits_until, round_turn, turn_owing, turn_bound, gives_unbound}
+use Rattle.ls_world.specs.Steps.{session_turn}
+use Rattle.ls_world.proofs.Parts.{met_by, given_by}
 use Rattle.ls_laws.specs.Alone.{unnumbered_slot, unnumbered_board, unnumbered}
 
 -- a function of both parts of a test
@@ -191,21 +194,33 @@ given_next_same s = pushed unnumbered (is_unsent s) _ s
 next_same : (s : Session) → next_given (unnumbered s) ≡ turn_without (next_given s)
 next_same s = ap (λ t. record (next_given s) { session = t }) (given_next_same s)
 
-round_given_same : (wait : Option ℕ) (s : Session) (o : Option RoundLine) → round_given wait (unnumbered s) (option_map line_of o)
-    ≡ turn_without (round_given wait s o)
-round_given_same wait s None = refl
-round_given_same wait s (Some t) = next_same s
+-- by the line of its round
+abbrev round_gives : Option ℕ → Session → Session → Option RoundLine → SessionTurn
+round_gives wait none some o = with_found o (record { session = none; gives = waits_until wait }) (λ t. next_given some)
+
+round_gives_same : (wait : Option ℕ) (none some : Session) (o : Option RoundLine)
+    → round_gives wait (unnumbered none) (unnumbered some) (option_map line_of o) ≡ turn_without (round_gives wait none some o)
+round_gives_same wait none some None = refl
+round_gives_same wait none some (Some t) = next_same some
+
+abbrev round_taken : ℕ → List Item → Session → SessionTurn
+round_taken now items s =
+    round_gives (least_wait now items s) (on_board (taken_in (is_due now s) now items) s) (numbered (taken_in (is_due now s) now items) s)
+    (round_of (is_due now s) items s.board.lines s.board.round).came
 
 round_taken_same : (now : ℕ) (items : List Item) (s : Session) → round_taken now items (unnumbered s) ≡ turn_without (round_taken now items s)
 round_taken_same now items s =
     let r = round_of (is_due now s) items s.board.lines s.board.round in
-    let after : Session = on_board (taken_in (is_due now s) now items) s in
-    ap (λ ns. round_given (least_of ns) (on_board (taken_in (is_due now (unnumbered s)) now items) (unnumbered s))
+    let board : Board = taken_in (is_due now s) now items s.board in
+    let after : Board → Session = λ b. record s { board = b } in
+    ap (λ ns. round_gives (least_of ns) (on_board (taken_in (is_due now (unnumbered s)) now items) (unnumbered s))
+    (numbered (taken_in (is_due now (unnumbered s)) now items) (unnumbered s))
     (round_of (is_due now (unnumbered s)) items s.board.lines (slots s.board.round)).came) (waits_same now items s s.board.round)
-    ∙ ap (λ (b : Board). round_given (least_wait now items s) (record s { board = b })
+    ∙ ap (λ (b : Board). round_gives (least_wait now items s) (after b) (trimmed (after b))
     (round_of (is_due now (unnumbered s)) items s.board.lines (slots s.board.round)).came) (taken_same now items s)
-    ∙ ap (λ (x : Round). round_given (least_wait now items s) (unnumbered after) x.came) (round_same now s items s.board.lines s.board.round)
-    ∙ round_given_same (least_wait now items s) after r.came
+    ∙ ap (λ (x : Round). round_gives (least_wait now items s) (unnumbered (after board)) (unnumbered (trimmed (after board))) x.came)
+    (round_same now s items s.board.lines s.board.round)
+    ∙ round_gives_same (least_wait now items s) (after board) (trimmed (after board)) r.came
 
 round_turn_same : (now : ℕ) (items : List Item) (s : Session) → round_turn now items (unnumbered s) ≡ turn_without (round_turn now items s)
 round_turn_same now items s =
@@ -221,15 +236,31 @@ owing_same : (now : ℕ) (items : List Item) (s : Session) (owed : List (List �
     ≡ turn_without (turn_owing now items s owed)
 owing_same now items s (text ∷ owed) = refl
 owing_same now items s [] =
-    ap (λ (t : SessionTurn). cond (is_unsent s) t (round_turn now items (unnumbered s))) (next_same s)
-    ∙ ap (λ (t : SessionTurn). cond (is_unsent s) (turn_without (next_given s)) t) (round_turn_same now items s)
-    ∙ pushed turn_without (is_unsent s) (next_given s) (round_turn now items s)
+    let loops : SessionTurn = record { session = unbound_at now s; gives = Gave loop_text } in
+    ap (λ (t : SessionTurn). cond (is_to_loop s.streams) (turn_without loops) (cond (is_unsent s) t (round_turn now items (unnumbered s)))) (next_same s)
+    ∙ ap (λ (t : SessionTurn). cond (is_to_loop s.streams) (turn_without loops) (cond (is_unsent s) (turn_without (next_given s)) t))
+    (round_turn_same now items s)
+    ∙ ap (λ (t : SessionTurn). cond (is_to_loop s.streams) (turn_without loops) t)
+    (pushed turn_without (is_unsent s) (next_given s) (round_turn now items s))
+    ∙ pushed turn_without (is_to_loop s.streams) loops (cond (is_unsent s) (next_given s) (round_turn now items s))
 
-living_same : (now : ℕ) (items : List Item) (s : Session) (life : Life) → turn_living now items (unnumbered s) life
-    ≡ turn_without (turn_living now items s life)
-living_same now items s Alive = owing_same now items s s.owed
-living_same now items s (Ending code) = refl
-living_same now items s (Ended code) = refl
+bound_same : (now : ℕ) (items : List Item) (s : Session) (life : Life) → turn_bound now items (unnumbered s) life
+    ≡ turn_without (turn_bound now items s life)
+bound_same now items s Alive = owing_same now items s s.owed
+bound_same now items s (Ending code) = refl
+bound_same now items s (Ended code) = refl
 
-pub turn_same : (now : ℕ) (items : List Item) (s : Session) → session_turn now items (unnumbered s) ≡ turn_without (session_turn now items s)
-turn_same now items s = living_same now items s s.life
+pub turn_same : (now : ℕ) (items : List Item) (epoch : ℕ) (s : Session) → session_turn now items epoch (unnumbered s)
+    ≡ turn_without (session_turn now items epoch s)
+turn_same now items epoch s =
+    let newer : SessionTurn = record { session = s; gives = Superseded (length s.streams) } in
+    let gone : SessionTurn = record { session = s; gives = gives_unbound s.life } in
+    let t : SessionTurn = turn_bound now items s s.life in
+    ap (λ (x : SessionTurn). cond (nat_lt epoch (length s.streams)) (turn_without newer) (cond (is_bound s) x (turn_without gone)))
+    (bound_same now items s s.life)
+    ∙ ap (λ (x : SessionTurn). cond (nat_lt epoch (length s.streams)) (turn_without newer) x) (pushed turn_without (is_bound s) t gone)
+    ∙ pushed turn_without (nat_lt epoch (length s.streams)) newer (cond (is_bound s) t gone)
+
+-- a session that times out
+pub timed_out_same : (now : ℕ) (s : Session) → unless_timed_out now (unnumbered s) ≡ unnumbered (unless_timed_out now s)
+timed_out_same now s = pushed unnumbered (is_timed_out now s) (ended timed_out s) s

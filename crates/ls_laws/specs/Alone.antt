@@ -1,8 +1,10 @@
 -- One session apart from all others: which steps are its own, what it sees of a world, and what it is told in a run.
 use Rattle.std.specs.Prelude.{◌≡◌, ◌==◌, ℕ, List, [], ◌∷◌, ◌++◌, length, map, Bool, true, false, Option, None, Some}
 use Rattle.std.specs.Prelude.{codes, if◌then◌else◌, slice_get, option_map, nat_lt}
+use Rattle.std.specs.List.{Contains}
 use Rattle.std.specs.Option.{option_map_or}
 use Rattle.ls_form.specs.Forms.{form_of}
+use Rattle.ls_request.specs.declared.request.LinkKind.TheVariants as link
 use Rattle.ls_request.specs.declared.request.Op.{Op}
 use Rattle.ls_request.specs.declared.request.Op.TheVariants as op
 use Rattle.ls_request.specs.declared.request.Request.{Request}
@@ -14,7 +16,8 @@ use Rattle.ls_step.specs.declared.step.Repeat.{Repeat}
 use Rattle.ls_step.specs.Adding.{add_pairs}
 use Rattle.ls_world.specs.World.{World, Item, Live, Board, Session, Connection, on_board}
 use Rattle.ls_world.specs.Acting.{free_slots}
-use Rattle.ls_world.specs.Steps.{session_of, session_named, request_on, does}
+use Rattle.ls_world.specs.Lawful.{Each}
+use Rattle.ls_world.specs.Steps.{session_of, session_named, link_of, request_over, does}
 
 -- a slot, a board and a session without the numbers of slots
 abbrev pub unnumbered_slot : Live → Live
@@ -26,7 +29,7 @@ unnumbered_board b = record b { round = map unnumbered_slot b.round }
 abbrev pub unnumbered : Session → Session
 unnumbered s = on_board unnumbered_board s
 
--- what a session, by its place from 0, sees of a world on a connection
+-- what a session, by its place from 0, sees of a world on a connection: of this its epoch too
 pub record Seen : Type 0 where
   pub items : List Item
   pub tick : ℕ
@@ -46,7 +49,7 @@ seen n connection w =
       session = option_map unnumbered (slice_get w.sessions n);
     }
 
--- the connection of a step, where it is an add, a request, an enqueue or a take
+-- the connection of a step, where it is an add, a request, an enqueue, a take or a loss
 abbrev pub connection_of : Step → Option ℕ
 connection_of (step.Set name) = None
 connection_of (step.Item name k fields) = None
@@ -59,30 +62,32 @@ connection_of (step.Publish adapter seq item cells) = None
 connection_of (step.Clear adapter seq item) = None
 connection_of (step.Enqueue connection sub rank) = Some connection
 connection_of (step.Take connection) = Some connection
-connection_of (step.Lose connection) = None
+connection_of (step.Lose connection) = Some connection
 
--- the session of a request, by its place from 0: the one that a control request names, none of a create_session, and
--- else the connection's, also where the request is malformed
+-- the session of a request, by its place from 0: the one that a control request or a bind_session names, none of a
+-- create_session, and else the connection's, also where the request is malformed
 abbrev pub session_asked : World → ℕ → Option Request → Option ℕ
 session_asked w connection None = session_of w connection
 session_asked w connection (Some (request.Create c)) = None
-session_asked w connection (Some (request.Bind b)) = session_of w connection
+session_asked w connection (Some (request.Bind b)) = session_named w connection (Some b.session)
 session_asked w connection (Some (request.Control c)) = session_named w connection c.session
 session_asked w connection (Some request.Wsok) = session_of w connection
 
 -- the request that a step says, where it can be read
 abbrev pub request_said : World → Step → Option Request
-request_said w (step.Add connection words) = request_on w connection (codes "control") (add_pairs w.line words)
-request_said w (step.Request connection name parameters) = request_on w connection name (form_of parameters)
+request_said w (step.Add connection words) = request_over link.Ws (codes "control") (add_pairs w.line words)
+request_said w (step.Request connection name parameters) =
+    request_over (link_of w connection) name (form_of parameters)
 request_said w s = None
 
--- the session of a step: the connection's, where it is an enqueue or a take, and else its request's
+-- the session of a step: the connection's, where it is an enqueue, a take or a loss, and else its request's
 abbrev pub session_meant : World → Step → Option ℕ
 session_meant w (step.Add connection words) = session_asked w connection (request_said w (step.Add connection words))
 session_meant w (step.Request connection name parameters) =
     session_asked w connection (request_said w (step.Request connection name parameters))
 session_meant w (step.Enqueue connection sub rank) = session_of w connection
 session_meant w (step.Take connection) = session_of w connection
+session_meant w (step.Lose connection) = session_of w connection
 session_meant w s = None
 
 -- whether a step is one of the session of this place
@@ -113,7 +118,12 @@ abbrev pub sets_clock : Step → Bool
 sets_clock (step.Tick ms) = true
 sets_clock s = false
 
--- two worlds have the same items and the same clock, which all sessions see
+-- a step leaves the items and sets no clock, which all sessions see
+pub record LeavesShared (w : World) (r : Repeat) : Type 0 where
+  pub items : (does w r.step r.times).after.items ≡ w.items
+  pub clock : sets_clock r.step ≡ false
+
+-- two worlds have the same items and the same clock
 pub record HaveSame (w v : World) : Type 0 where
   pub items : w.items ≡ v.items
   pub tick : w.tick ≡ v.tick
@@ -150,27 +160,29 @@ seconds (Second r ∷ ms) = r ∷ seconds ms
 seconds (Own r ∷ ms) = r ∷ seconds ms
 seconds (Shared r ∷ ms) = r ∷ seconds ms
 
--- a step is neither the session's nor on its connection
-pub record IsElsewhere (n connection : ℕ) (w : World) (r : Repeat) : Type 0 where
+-- a step is neither the session's nor on one of its connections
+pub record IsElsewhere (n : ℕ) (connections : List ℕ) (w : World) (r : Repeat) : Type 0 where
   pub session : is_own n w r.step ≡ false
-  pub apart : connection_of r.step ≡ Some connection → ⊥
+  pub apart : Each (λ c. connection_of r.step ≡ Some c → ⊥) connections
 
--- a step is the session's and on its connection; an add lacks slots in both worlds or in neither
-pub record IsOwnOfBoth (n connection : ℕ) (w v : World) (r : Repeat) : Type 0 where
+-- a step is the session's and on one of its connections; an add lacks slots in both worlds or in neither
+pub record IsOwnOfBoth (n : ℕ) (connections : List ℕ) (w v : World) (r : Repeat) : Type 0 where
   pub session : is_own n w r.step ≡ true
+  pub connection : ℕ
+  pub is_in : Contains connections connection
   pub on : connection_of r.step ≡ Some connection
   pub room : lacks_slots w r.step ≡ lacks_slots v r.step
 
--- two runs, from two worlds, differ in what is done elsewhere: a step of one run alone leaves the items and the clock,
--- and after a shared one both have the same
-abbrev pub DifferElsewhere : ℕ → ℕ → World → World → List RunStep → Type 0
-DifferElsewhere n connection w v [] = Unit {0}
-DifferElsewhere n connection w v (First r ∷ ms) =
-    IsElsewhere n connection w r × HaveSame (after w r) w × DifferElsewhere n connection (after w r) v ms
-DifferElsewhere n connection w v (Second r ∷ ms) =
-    IsElsewhere n connection v r × HaveSame (after v r) v × DifferElsewhere n connection w (after v r) ms
-DifferElsewhere n connection w v (Own r ∷ ms) =
-    IsOwnOfBoth n connection w v r × DifferElsewhere n connection (after w r) (after v r) ms
-DifferElsewhere n connection w v (Shared r ∷ ms) =
-    IsElsewhere n connection w r × IsElsewhere n connection v r × HaveSame (after w r) (after v r)
-    × DifferElsewhere n connection (after w r) (after v r) ms
+-- two runs, from two worlds, differ in what is done elsewhere: a step of one run alone leaves the items and sets no
+-- clock, and after a shared one both have the same
+abbrev pub DifferElsewhere : ℕ → List ℕ → World → World → List RunStep → Type 0
+DifferElsewhere n connections w v [] = Unit {0}
+DifferElsewhere n connections w v (First r ∷ ms) =
+    IsElsewhere n connections w r × LeavesShared w r × DifferElsewhere n connections (after w r) v ms
+DifferElsewhere n connections w v (Second r ∷ ms) =
+    IsElsewhere n connections v r × LeavesShared v r × DifferElsewhere n connections w (after v r) ms
+DifferElsewhere n connections w v (Own r ∷ ms) =
+    IsOwnOfBoth n connections w v r × DifferElsewhere n connections (after w r) (after v r) ms
+DifferElsewhere n connections w v (Shared r ∷ ms) =
+    IsElsewhere n connections w r × IsElsewhere n connections v r × HaveSame (after w r) (after v r)
+    × DifferElsewhere n connections (after w r) (after v r) ms

@@ -48,7 +48,7 @@ is_any_due now items s tick = list_any (λ v. is_waiting now items s v && is_due
 
 -- where a session's turn gives nothing before a tick, it is the first one at which a slot that waits is due
 abbrev pub WaitsForFirst : World → Session → Type 0
-WaitsForFirst w s = (tick : ℕ) → (session_turn w.tick w.items s).gives ≡ NotDue tick
+WaitsForFirst w s = (epoch tick : ℕ) → (session_turn w.tick w.items epoch s).gives ≡ NotDue tick
     → IsFirst (is_any_due w.tick w.items s) w.tick tick
 
 -- a session's bandwidth is above 0, each of its spends was made with credit, and none is later than a tick

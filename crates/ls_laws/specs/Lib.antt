@@ -1,4 +1,5 @@
 pub mod Truths
 pub mod ClientTables
 pub mod Alone
+pub mod Streams
 pub mod Budgets

@@ -13,7 +13,7 @@ use Rattle.ls_mirror.specs.declared.command.KeyPlaces.{KeyPlaces}
 use Rattle.ls_mirror.specs.Client.{What, Row, Lost, Cleared, End}
 use Rattle.ls_world.specs.Came.{Came, whats}
 use Rattle.ls_world.specs.Tables.{text_or_empty}
-use Rattle.ls_world.specs.CommandMode.{HadKey}
+use Rattle.ls_world.specs.CommandMode.{ShownItem, HadKey}
 
 -- a row is the item's merged state after so many events of its history, at the places of a schema
 pub record HadState (p : Shape) (h : List Entry) (places : List ℕ) (i : ℕ) (r : List Value) : Type 0 where
@@ -36,11 +36,11 @@ pub record HadRecent (h : List Entry) (places : List ℕ) (i : ℕ) (r : List Va
   pub row : r ≡ projected own places
 
 -- what a row of a mode is, by what had come before it and the number of its line
-abbrev pub HadRow : Mode → Shape → List Entry → List ℕ → List What → ℕ → List Value → Type 0
-HadRow mode.Merge p h places before i r = HadState p h places i r
-HadRow mode.Raw p h places before i r = HadUpdate h places i r
-HadRow mode.Distinct p h places before i r = HadUpdate h places i r ⊎ HadRecent h places i r
-HadRow mode.Command p h places before i r = HadKey p h places before i r
+abbrev pub HadRow : Mode → ShownItem → List What → ℕ → List Value → Type 0
+HadRow mode.Merge v before i r = HadState v.shape v.history v.places i r
+HadRow mode.Raw v before i r = HadUpdate v.history v.places i r
+HadRow mode.Distinct v before i r = HadUpdate v.history v.places i r ⊎ HadRecent v.history v.places i r
+HadRow mode.Command v before i r = HadKey v before i r
 
 -- a later line of a mode tells of more events than an earlier one; in mode DISTINCT it begins where the earlier one
 -- led, or behind, as the lines of the snapshot pass over none; and in mode COMMAND no fewer had been enqueued
@@ -63,7 +63,7 @@ TellsOf at k End = ⊥
 pub record IsTrueOf (mode : Mode) (p : Shape) (h : List Entry) (places : List ℕ) (cs : List Came) : Type 0 where
   pub had :
       (newer older : List Came) (c : Came) (r : List Value) → cs ≡ newer ++ c ∷ older → c.what ≡ Row r
-      → HadRow mode p h places (whats older) c.upto r
+      → HadRow mode (record { shape = p; history = h; places = places }) (whats older) c.upto r
   pub rise :
       (newer between older : List Came) (late early : Came) → cs ≡ newer ++ late ∷ between ++ early ∷ older
       → Rises mode early late

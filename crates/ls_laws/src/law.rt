@@ -2,7 +2,7 @@
 //! and so 1 to 64 distinct fields, is among the premises: a lawful world says it, and a step that declares an item
 //! keeps to it.
 ghost use Rattle.std.specs.Prelude.{◌≡◌, ◌+◌, ◌<◌, ◌≤◌, ◌++◌, ◌∷◌, ℕ, List, [], length, None, Some, false, true};
-ghost use Rattle.std.specs.Prelude.{slice_get, nat_le, ◌&&◌, ◌⊎◌};
+ghost use Rattle.std.specs.Prelude.{slice_get, option_map, map, nat_le, ◌&&◌, ◌⊎◌};
 ghost use Rattle.std.specs.List.{Contains};
 ghost use Rattle.std.specs.Option.{ForSome};
 ghost use Rattle.ls_budget.specs.Budget.{frequency_tick};
@@ -18,13 +18,17 @@ ghost use Rattle.ls_event.specs.Keyed.{keyed, row_at};
 ghost use Rattle.ls_event.specs.Slots.{Slot};
 ghost use Rattle.ls_world.specs.Came.{Came, whats};
 ghost use Rattle.ls_event.specs.Cuts.{cut, is_pending};
-ghost use Rattle.ls_world.specs.Lines.{came, last_row, texts, updated};
+ghost use Rattle.ls_world.specs.Lines.{came, last_row, texts, texts_behind, updated};
 ghost use Rattle.ls_world.specs.Cutting.{Wanted, client_row, schema_of, turn};
 ghost use Rattle.ls_world.specs.World.{World, Item, Session, Live, RoundLine, empty, history_of, shape_at};
-ghost use Rattle.ls_world.specs.World.{round_of, is_due, is_waiting};
+ghost use Rattle.ls_world.specs.World.{round_of, is_due, is_waiting, count_lines, ended, unless_timed_out};
 ghost use Rattle.ls_step.specs.declared.step.Step.{Step};
+ghost use Rattle.ls_step.specs.declared.step.Step.TheVariants as step;
 ghost use Rattle.ls_step.specs.declared.step.Repeat.{Repeat};
-ghost use Rattle.ls_world.specs.Steps.{Idle, NotDue, session_turn, does, does_all};
+ghost use Rattle.ls_request.specs.declared.request.Bind.{Bind};
+ghost use Rattle.ls_step.specs.declared.out.Out.TheVariants as out;
+ghost use Rattle.ls_world.specs.Steps.{Idle, NotDue, loop_text, session_turn, name_of, binds, refuses_stream, does};
+ghost use Rattle.ls_world.specs.Steps.{does_all};
 ghost use Rattle.ls_world.specs.Script.{world_of};
 ghost use Rattle.ls_world.specs.Lawful.{Each, IsMergeLine, LawfulSlot, Lawful};
 ghost use Rattle.std.specs.FinMap as finite;
@@ -42,6 +46,9 @@ ghost use Rattle.ls_laws.specs.Alone.{seen, connection_of, is_own, lacks_slots, 
 ghost use Rattle.ls_laws.specs.Alone.{RunStep, firsts, seconds, told, DifferElsewhere};
 ghost use Rattle.ls_laws.specs.Budgets.{spends_of, IsOfDue, NumbersDue, IsLeastWait, is_any_due};
 ghost use Rattle.ls_laws.specs.Budgets.{WaitsForFirst, KeepsBandwidth, KeepsWindows, ClockRises, AreApart, AreToldOf};
+ghost use Rattle.ls_laws.specs.Streams.{HoldsAllLines, HasItsLines, given_on, GivesLine, GivesUpLittle, AreTooMuch};
+ghost use Rattle.ls_laws.specs.Streams.{NamesLiving, IsAccepted, lines_left, lines_from, bytes_on_stream, MayGive};
+ghost use Rattle.ls_laws.specs.Streams.{IsBeyond, IsGone};
 
 /// Each world that steps make of the empty one is lawful, where the parts of each step are in their ranges (a new item
 /// has 1 to 64 distinct fields, and in kind COMMAND a key and a command among them; the texts of an update are UTF-8):
@@ -184,13 +191,17 @@ pub fn the_turn_ends_its_cuts()
         → cut h (turn h w s cs).slot ≡ None }
 {}
 
-/// A step changes one session at most, the one that it means: an enqueue, a take or a request that names no session
-/// means its connection's, a control request the one that it names, and a create_session makes a new one. Each other
-/// session is as it was, and so are the items unless the step is a new item, an update or a Clear, and the clock unless
-/// it sets it.
+/// A step changes one session at most, the one that it means: an enqueue, a take, a loss or a request that names no
+/// session means its connection's, a control request or a bind_session the one that it names, and a create_session
+/// makes a new one. Each other session is as it was, but that a step which sets the clock ends each session that was
+/// without a stream for too long, and changes none else. The items are as they were unless the step is a new item, an
+/// update or a Clear, and the clock is unless it sets it.
 pub fn a_step_changes_its_session_alone()
     ensures sessions { (w : World) (n : ℕ) (s : Step) (times : ℕ) → n < length w.sessions → is_own n w s ≡ false
-        → slice_get (does w s times).after.sessions n ≡ slice_get w.sessions n }
+        → sets_clock s ≡ false → slice_get (does w s times).after.sessions n ≡ slice_get w.sessions n }
+    ensures ticks { (w : World) (n ms times : ℕ)
+        → slice_get (does w (step.Tick ms) times).after.sessions n
+        ≡ option_map (unless_timed_out ms) (slice_get w.sessions n) }
     ensures items { (w : World) (s : Step) (times : ℕ) → changes_items s ≡ false
         → (does w s times).after.items ≡ w.items }
     ensures clock { (w : World) (s : Step) (times : ℕ) → sets_clock s ≡ false
@@ -198,10 +209,11 @@ pub fn a_step_changes_its_session_alone()
 {}
 
 /// What a session's own step prints, and what the session sees after it, follow from what it sees: the items, the
-/// clock, its connection, and itself but for the numbers of its slots. So in any two worlds that it sees alike,
-/// whatever their other sessions are, its enqueues, takes and requests print the same and lead to worlds that it sees
-/// alike: which of its slots are due rests on its own lines, its frequencies, its bandwidth and the clock. Only an add
-/// counts the slots of others: the server must lack slots for it (code 71) in both worlds or in neither.
+/// clock, its connection with its epoch, and itself but for the numbers of its slots. So in any two worlds that it sees
+/// alike, whatever their other sessions are, its enqueues, takes, losses and requests, a bind_session among them, print
+/// the same and lead to worlds that it sees alike: which of its slots are due rests on its own lines, its frequencies,
+/// its bandwidth and the clock. Only an add counts the slots of others: the server must lack slots for it (code 71) in
+/// both worlds or in neither.
 pub fn a_session_is_told_what_it_sees()
     ensures printed { (n connection : ℕ) (w v : World) (s : Step) (times : ℕ)
         → seen n connection w ≡ seen n connection v → connection_of s ≡ Some connection → is_own n w s ≡ true
@@ -214,20 +226,21 @@ pub fn a_session_is_told_what_it_sees()
 
 /// In two runs that differ only in what is done elsewhere, a session is told the same and sees the same in the end.
 /// Elsewhere are the steps of other sessions, and those that make connections and sessions; the session's own steps, on
-/// one connection, are made in both runs.
+/// its connections, are made in both runs: its client may bind on another connection than its stream was lost on.
 ///
 /// Not independent of others are: the numbers of slots, which only the note of a refused update prints; how many
 /// sessions and slots there may still be (codes 8 and 71), and a new session's place, by which it is named; and an
 /// update that is refused because a slot of another session lags. Then the item's history is another one, so of shared
-/// steps the law asks that they make the same items in both runs, and set the clock alike.
+/// steps the law asks that they make the same items in both runs, and set the clock alike. A step that sets the clock
+/// is shared, as a session that has no stream may end by it.
 pub fn a_session_is_told_nothing_of_others()
-    ensures told { (n connection : ℕ) (w v : World) (steps : List RunStep) → n < length w.sessions
-        → connection < length w.connections → seen n connection w ≡ seen n connection v
-        → DifferElsewhere n connection w v steps → told n w (firsts steps) ≡ told n v (seconds steps) }
-    ensures sees { (n connection : ℕ) (w v : World) (steps : List RunStep) → n < length w.sessions
-        → connection < length w.connections → seen n connection w ≡ seen n connection v
-        → DifferElsewhere n connection w v steps
-        → seen n connection (does_all w (firsts steps)) ≡ seen n connection (does_all v (seconds steps)) }
+    ensures told { (n : ℕ) (connections : List ℕ) (w v : World) (steps : List RunStep) → n < length w.sessions
+        → Each (λ c. c < length w.connections) connections → Each (λ c. seen n c w ≡ seen n c v) connections
+        → DifferElsewhere n connections w v steps → told n w (firsts steps) ≡ told n v (seconds steps) }
+    ensures sees { (n : ℕ) (connections : List ℕ) (w v : World) (steps : List RunStep) → n < length w.sessions
+        → Each (λ c. c < length w.connections) connections → Each (λ c. seen n c w ≡ seen n c v) connections
+        → DifferElsewhere n connections w v steps
+        → Each (λ c. seen n c (does_all w (firsts steps)) ≡ seen n c (does_all v (seconds steps))) connections }
 {}
 
 /// A turn gives no U, OV, CS or EOS line of a slot that isn't due: the line of its round is that of a slot of the
@@ -237,9 +250,9 @@ pub fn a_session_is_told_nothing_of_others()
 pub fn only_due_slots_give_lines()
     ensures round { (now : ℕ) (items : List Item) (s : Session) (t : RoundLine)
         → (round_of (is_due now s) items s.board.lines s.board.round).came ≡ Some t → IsOfDue now s t }
-    ensures numbered { (now : ℕ) (items : List Item) (s : Session)
-        → ((session_turn now items s).session.board.lines ≡ s.board.lines)
-        ⊎ NumbersDue now s (session_turn now items s).session.board.lines }
+    ensures numbered { (now : ℕ) (items : List Item) (epoch : ℕ) (s : Session)
+        → ((session_turn now items epoch s).session.board.lines ≡ s.board.lines)
+        ⊎ NumbersDue now s (session_turn now items epoch s).session.board.lines }
     ensures due { (now : ℕ) (s : Session) (v : Live)
         → is_due now s v ≡ (nat_le (frequency_tick v.frequency (updated v.sub v.rank s.board.lines)) now
         && allows s.rate.limit (spends_of s) now) }
@@ -252,19 +265,20 @@ pub fn only_due_slots_give_lines()
 /// which set no clock back, and of those of scripts. A turn that gives nothing at all, `Idle`, leaves no slot that
 /// waits.
 pub fn a_wait_ends_at_the_first_due_tick()
-    ensures later { (now : ℕ) (items : List Item) (s : Session) (tick : ℕ)
-        → (session_turn now items s).gives ≡ NotDue tick → now < tick }
-    ensures least { (now : ℕ) (items : List Item) (s : Session) (tick : ℕ)
-        → (session_turn now items s).gives ≡ NotDue tick → IsLeastWait now items s tick }
-    ensures first { (now : ℕ) (items : List Item) (s : Session) (tick : ℕ) → ForSome s.rate.limit (λ r. 0 < r)
-        → latest_tick (spends_of s) ≤ now → (session_turn now items s).gives ≡ NotDue tick
-        → IsFirst (is_any_due now items s) now tick }
+    ensures later { (now : ℕ) (items : List Item) (epoch : ℕ) (s : Session) (tick : ℕ)
+        → (session_turn now items epoch s).gives ≡ NotDue tick → now < tick }
+    ensures least { (now : ℕ) (items : List Item) (epoch : ℕ) (s : Session) (tick : ℕ)
+        → (session_turn now items epoch s).gives ≡ NotDue tick → IsLeastWait now items s tick }
+    ensures first { (now : ℕ) (items : List Item) (epoch : ℕ) (s : Session) (tick : ℕ)
+        → ForSome s.rate.limit (λ r. 0 < r) → latest_tick (spends_of s) ≤ now
+        → (session_turn now items epoch s).gives ≡ NotDue tick → IsFirst (is_any_due now items s) now tick }
     ensures steps { (steps : List Repeat) → ClockRises 0 steps
         → Each (WaitsForFirst (does_all empty steps)) (does_all empty steps).sessions }
     ensures scripts { (lines : List (List ℕ))
         → Each (WaitsForFirst (world_of empty lines)) (world_of empty lines).sessions }
-    ensures idle { (now : ℕ) (items : List Item) (s : Session) → (session_turn now items s).gives ≡ Idle
-        → (v : Live) → Contains s.board.round v → is_waiting now items s v ≡ false }
+    ensures idle { (now : ℕ) (items : List Item) (epoch : ℕ) (s : Session)
+        → (session_turn now items epoch s).gives ≡ Idle → (v : Live) → Contains s.board.round v
+        → is_waiting now items s v ≡ false }
 {}
 
 /// In each world that steps make of the empty one, where no step sets the clock back, each U line of a session since
@@ -294,4 +308,80 @@ pub fn updates_of_a_slot_are_apart()
     ensures told { (steps : List Repeat) → Each AreToldOf (does_all empty steps).sessions }
     ensures scripts { (lines : List (List ℕ)) → Each (λ s. AreApart s.board.lines) (world_of empty lines).sessions }
     ensures told_by_scripts { (lines : List (List ℕ)) → Each AreToldOf (world_of empty lines).sessions }
+{}
+
+/// A client appends the lines that come to it, each stream of which may be lost at any line, and binds each new one
+/// with the count of the lines that it holds. Then in each world that steps make of the empty one it holds the first
+/// lines of the session, in order, without a gap and each once (TLCP 2.1, recovery). It may have had any of the
+/// session's streams: another client may have had the others.
+pub fn a_client_that_binds_with_its_count_holds_all_lines()
+    ensures steps { (steps : List Repeat) → Each HoldsAllLines (does_all empty steps).sessions }
+    ensures scripts { (lines : List (List ℕ)) → Each HoldsAllLines (world_of empty lines).sessions }
+{}
+
+/// A bind that is accepted prints nothing, and the takes on its connection directly after it print exactly the opening
+/// lines, PROG with the client's count where one was told, and then the lines behind that count, in order; a bind
+/// without a count goes on behind the line that was given last. So a client that holds the lines up to a count, and
+/// binds with it, is given PROG with it, and then the lines that it lacks. A stream with a content length gives LOOP
+/// in place of the next line once its lines have reached that, and nothing more.
+pub fn a_new_stream_goes_on_behind_its_count()
+    ensures accepted { (w : World) (connection n : ℕ) (s : Session) (b : Bind) → IsAccepted w connection n s b
+        → (binds w connection b).outs ≡ [] }
+    ensures lines { (w : World) (connection n k : ℕ) (s : Session) (b : Bind) → IsAccepted w connection n s b
+        → k ≤ lines_left s b → MayGive k s b
+        → (does (binds w connection b).after (step.Take connection) (3 + length (count_lines b.recover) + k)).outs
+        ≡ map (λ text. out.Line (name_of w connection) text) (lines_from k s b) }
+    ensures over { (w : World) (connection n k most more : ℕ) (s : Session) (b : Bind)
+        → IsAccepted w connection n s b → k ≤ lines_left s b → MayGive k s b
+        → b.length ≡ Some most → most ≤ bytes_on_stream (lines_from k s b)
+        → (does (binds w connection b).after (step.Take connection)
+        (3 + length (count_lines b.recover) + k + (2 + more))).outs
+        ≡ map (λ text. out.Line (name_of w connection) text) (lines_from k s b ++ loop_text ∷ [])
+        ++ out.Unbound ∷ [] }
+{}
+
+/// A bind of a living session is refused with code 4, and changes nothing, exactly where it tells a count behind which
+/// the client can't go on: the next line was given up, or no line has the count's number.
+pub fn a_recovery_is_refused_exactly()
+    ensures refused { (w : World) (connection n : ℕ) (s : Session) (b : Bind) → NamesLiving w b n s
+        → IsBeyond s b.recover → binds w connection b ≡ refuses_stream w connection 4 }
+    ensures only { (w : World) (connection n : ℕ) (s : Session) (b : Bind) → NamesLiving w b n s
+        → (binds w connection b).outs ≡ (refuses_stream w connection 4).outs → IsBeyond s b.recover }
+{}
+
+/// In each world that steps make of the empty one no line of a session is given up that wasn't given, and none but such
+/// as stand before more lines, or more bytes of lines, than are kept at most. So a client that lacks no more than that
+/// is never refused with code 4.
+pub fn lines_are_given_up_only_beyond_the_limits()
+    ensures steps { (steps : List Repeat) → Each GivesUpLittle (does_all empty steps).sessions }
+    ensures scripts { (lines : List (List ℕ)) → Each GivesUpLittle (world_of empty lines).sessions }
+    ensures resumes { (s : Session) (count : ℕ) → GivesUpLittle s → count ≤ length s.board.lines
+        → (AreTooMuch (texts_behind count s.board.lines) → ⊥) → IsBeyond s (Some count) → ⊥ }
+{}
+
+/// In each world that steps make of the empty one, the lines given on a stream that a session ever had are those
+/// numbered behind the stream's beginning, in order and without a gap. A turn that adds a number to what was given on a
+/// session's newest stream gives the text of the line of that number; another turn adds none.
+pub fn streams_have_their_lines_without_a_gap()
+    ensures steps { (steps : List Repeat)
+        → Each (λ s. Each (HasItsLines s) s.streams) (does_all empty steps).sessions }
+    ensures scripts { (lines : List (List ℕ))
+        → Each (λ s. Each (HasItsLines s) s.streams) (world_of empty lines).sessions }
+    ensures turns { (now : ℕ) (items : List Item) (epoch : ℕ) (s : Session)
+        → (given_on (session_turn now items epoch s).session ≡ given_on s)
+        ⊎ GivesLine s (session_turn now items epoch s) }
+{}
+
+/// A tick ends with code 73 exactly the sessions that are alive and were without a stream for as long as one may be;
+/// each other session is as it was. So in each world that steps make of the empty one, no living session is without a
+/// stream for that long.
+pub fn a_session_times_out_exactly()
+    ensures ends { (w : World) (n ms times : ℕ) (s : Session) → slice_get w.sessions n ≡ Some s → IsGone ms s
+        → slice_get (does w (step.Tick ms) times).after.sessions n ≡ Some (ended 73 s) }
+    ensures others { (w : World) (n ms times : ℕ) (s : Session) → slice_get w.sessions n ≡ Some s
+        → (IsGone ms s → ⊥) → slice_get (does w (step.Tick ms) times).after.sessions n ≡ Some s }
+    ensures steps { (steps : List Repeat)
+        → Each (λ s. IsGone (does_all empty steps).tick s → ⊥) (does_all empty steps).sessions }
+    ensures scripts { (lines : List (List ℕ))
+        → Each (λ s. IsGone (world_of empty lines).tick s → ⊥) (world_of empty lines).sessions }
 {}

@@ -1,12 +1,14 @@
 -- A subscription that begins.
-use Rattle.std.proofs.Common.{◌≡◌, ◌≤◌, ◌+◌, ◌++◌, ℕ, Bool, Option, List, [], ◌∷◌, ◌==◌, ◌||◌, cond, true, false, length, map, refl, sym, ◌∙◌, ap, subst, arith}
+use Rattle.std.proofs.Common.{◌≡◌, ◌+◌, ◌++◌, ℕ, Bool, Option, List, [], ◌∷◌, ◌==◌, ◌||◌, cond, true, false, length, map, refl, sym, ◌∙◌, ap, subst}
 use Rattle.std.proofs.lemmas.List.{map-append}
 use Rattle.ls_event.specs.declared.item.ItemDef.{ItemDef}
 use Rattle.ls_request.specs.declared.request.Add.{Add}
-use Rattle.ls_value.specs.declared.limits.TheConstants.{GREATEST_NUMBER}
 use Rattle.ls_turns.specs.Round.{slots_of, left}
 use Rattle.ls_world.specs.Lines.{Line, Begins, Configures}
-use Rattle.ls_world.specs.World.{Live, on_board, are_filtered, frequency_of, without, is_used}
+use Rattle.ls_stream.proofs.Moving.{lines_numbered, lines_twice, with_next}
+use Rattle.ls_stream.specs.Standing.{NumbersLine}
+use Rattle.ls_stream.specs.declared.lines.Lines.{Lines as KeptLines}
+use Rattle.ls_world.specs.World.{Live, numbered, are_filtered, frequency_of, without, is_used}
 use Rattle.ls_world.specs.Acting.{asks_of}
 use Rattle.ls_mirror.specs.declared.command.KeyPlaces.{KeyPlaces}
 use Rattle.ls_subs.specs.declared.plan.AddPlan.{AddPlan}
@@ -16,11 +18,10 @@ use Rattle.ls_subs.specs.Plans.{IsPlan, JoinAll, AreRanked, keys_of_asks}
 use Rattle.ls_subs.specs.Standing.{ref_of, StandsSubs}
 use Rattle.ls_session.specs.Asking.{Asking, with_turns}
 use Rattle.ls_session.specs.Record.{Record, begun_anew, with_plan}
-use Rattle.ls_session.specs.Session.{StandsSession, NumbersLine, IsReady, refs_from}
-use Rattle.ls_session.specs.declared.lines.Lines.{Lines as KeptLines}
+use Rattle.ls_session.specs.Session.{StandsSession, IsReady, refs_from}
 use Rattle.ls_session.specs.declared.session.Session.{Session as Kept}
 use Rattle.ls_session.proofs.Changing.{round_with}
-use Rattle.ls_session.proofs.Moves.{lines_numbered, short_numbered, rate_numbered}
+use Rattle.ls_session.proofs.Moves.{rate_numbered}
 use Rattle.ls_session.proofs.Seats.{left_slots}
 
 -- the slots that joined are named by their places
@@ -55,21 +56,19 @@ pub added : (k : Kept) (lines₁ lines₂ : KeptLines) (subs' : Subs) (asking' :
     → StandsSubs subs' (Configures p.sub frequency filtered ∷ Begins p.sub most fields keys ∷ r.session.board.lines) (r.session.board.round ++ vs))
     → slots_of asking'.turns ≡ slots_of (left p.sub k.asking.turns) ++ refs_from p.sub 1 p.items.items numbers
     → asking' ≡ with_turns asking'.turns k.asking → IsPlan defs a p → JoinAll p.items.items numbers vs
-    → StandsSession (record k { lines = lines₂; subs = subs'; asking = asking' }) (begun_anew r.tick (on_board (with_plan defs a vs) r.session))
+    → StandsSession (record k { lines = lines₂; subs = subs'; asking = asking' }) (begun_anew r.tick (numbered (with_plan defs a vs) r.session))
 added k lines₁ lines₂ subs' asking' r defs a p numbers vs st ready first_line second_line subs joined anew is joins =
     let lines : List Line = r.session.board.lines in
     let round : List Live = r.session.board.round in
     let first : Line = Begins a.sub (length (asks_of defs a)) (length a.schema) (keys_of_asks defs (asks_of defs a)) in
     let second : Line = Configures a.sub (frequency_of (asks_of defs a)) (are_filtered (asks_of defs a)) in
-    let low : lines₁.last + 1 ≤ GREATEST_NUMBER = subst (λ (x : KeptLines). x.last + 1 ≤ GREATEST_NUMBER) (sym first_line.rest)
-    (let e : k.lines.last + 1 + 1 ≤ GREATEST_NUMBER = omega (arith, ready.numbers) in e) in
     let unused : is_used p.sub round ≡ false = sym (st.subs.used p.sub) ∙ ready.new in
     record {
-      lines = lines_numbered lines₁ lines₂ (record r.session { board = record { lines = first ∷ lines; round = round } }) second (round ++ vs) p.configures
-          (lines_numbered k.lines lines₁ r.session first round p.begins st.lines first_line is.begins (omega (arith, ready.numbers)))
-          second_line is.configures low;
-      short = short_numbered lines₁ lines₂ p.configures (short_numbered k.lines lines₁ p.begins st.short first_line ready.begins) second_line ready.configures;
-      round = round_with k.asking asking' asking'.turns r.tick (on_board (with_plan defs a vs) r.session) st.round.most st.round.tick anew
+      lines = lines_twice lines₂ r.session first second round (round ++ vs)
+          (lines_numbered lines₁ lines₂ (numbered (with_next first round) r.session) second (round ++ vs) p.configures
+          (lines_numbered k.lines lines₁ r.session first round p.begins st.lines first_line is.begins ready.begins) second_line is.configures
+          ready.configures);
+      round = round_with k.asking asking' asking'.turns r.tick (numbered (with_plan defs a vs) r.session) st.round.most st.round.tick anew
           (joined
           ∙ ap (λ xs. xs ++ refs_from p.sub 1 p.items.items numbers)
           (left_slots p.sub k.asking.turns round st.round.slots ∙ ap (map ref_of) (unused_same p.sub round unused))

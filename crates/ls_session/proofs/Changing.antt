@@ -2,8 +2,7 @@
 use Rattle.std.proofs.Common.{◌≡◌, ◌==◌, ◌≤◌, ◌<◌, ◌+◌, ◌++◌, ℕ, Bool, Option, List, [], ◌∷◌, length, map, true, false, None, Some, refl, sym, ◌∙◌, ap, subst}
 use Rattle.std.proofs.Common.{cond, arith, option_map, unwrap_or}
 use Rattle.std.specs.Option.{ForSome, option_map_or}
-use Rattle.ls_world.specs.Lawful.{Each}
-use Rattle.ls_value.specs.declared.limits.TheConstants.{GREATEST_NUMBER}
+use Rattle.std.proofs.lemmas.Bool.{le-ltb}
 use Rattle.ls_budget.specs.Kept.{KeptCredit, StandsBandwidth}
 use Rattle.ls_budget.specs.Budget.{Spend}
 use Rattle.ls_budget.specs.declared.limits.TheConstants.{GREATEST_TICK}
@@ -11,23 +10,19 @@ use Rattle.ls_event.specs.declared.event.Mode.{Mode}
 use Rattle.ls_event.specs.declared.event.Mode.TheVariants as mode
 use Rattle.ls_turns.specs.Round.{Round, slots_of, left}
 use Rattle.ls_world.specs.Lines.{Line, Ends, Configures, line_text, spent_by, spends_behind}
-use Rattle.ls_world.specs.World.{Live, Session, on_board, removed, without, constrained, bandwidth_text, with_frequency, frequency_in}
+use Rattle.ls_stream.proofs.Moving.{lines_roomier, lines_numbered, lines_owed, with_next}
+use Rattle.ls_stream.specs.Standing.{NumbersLine, IsRoomier, IsShort}
+use Rattle.ls_stream.specs.declared.lines.Lines.{Lines as KeptLines}
+use Rattle.ls_world.specs.World.{Live, Session, numbered, removed, without, constrained, bandwidth_text, with_frequency, frequency_in}
 use Rattle.ls_subs.specs.declared.subs.Subs.{Subs}
 use Rattle.ls_subs.specs.Standing.{ref_of, StandsSubs}
 use Rattle.ls_session.specs.Asking.{Asking, begun, with_turns}
 use Rattle.ls_session.specs.Record.{Record, begun_anew}
 use Rattle.ls_session.specs.Record.{slots_of as slots_in}
-use Rattle.ls_session.specs.Session.{StandsSession, StandsLines, StandsRound, StandsRate, AreShort, IsShort, NumbersLine, refs_of, configured}
-use Rattle.ls_session.specs.declared.lines.Lines.{Lines as KeptLines}
+use Rattle.ls_session.specs.Session.{StandsSession, StandsRound, StandsRate, refs_of, configured}
 use Rattle.ls_session.specs.declared.session.Session.{Session as Kept}
-use Rattle.ls_session.proofs.Moves.{lines_numbered, lines_reserved, short_numbered, short_reserved, round_anew, rate_numbered, each_behind}
+use Rattle.ls_session.proofs.Moves.{round_anew, rate_numbered}
 use Rattle.ls_session.proofs.Seats.{left_slots, named_limited}
-use Rattle.ls_session.proofs.Waiting.{not_below}
-
--- more room for lines
-pub record Reserved (k k' : KeptLines) : Type 0 where
-  pub same : k'.unsent.items ≡ k.unsent.items
-  pub rest : k' ≡ record k { unsent = k'.unsent }
 
 -- the round begins anew with other slots, at the same tick
 pub round_with : (k k' : Asking) (turns : Round) (tick : ℕ) (s : Session) → tick ≤ GREATEST_TICK → k.tick ≡ tick → k' ≡ with_turns turns k
@@ -39,19 +34,16 @@ round_with k k' turns tick s most same is slots =
 
 -- a line is numbered, and the round begins anew with other slots
 pub numbered_stands : (k : Kept) (lines₁ lines' : KeptLines) (subs' : Subs) (asking' : Asking) (bandwidth' : KeptCredit) (turns : Round) (r : Record) (l : Line)
-    (round : List Live) (text : List ℕ) → StandsSession k r → Reserved k.lines lines₁ → NumbersLine lines₁ text lines'
+    (round : List Live) (text : List ℕ) → StandsSession k r → IsRoomier k.lines lines₁ → NumbersLine lines₁ text lines'
     → text ≡ line_text r.session.board.lines l
-    → IsShort text → k.lines.last + 1 ≤ GREATEST_NUMBER → StandsSubs subs' (l ∷ r.session.board.lines) round → asking' ≡ with_turns turns k.asking
+    → IsShort text → StandsSubs subs' (l ∷ r.session.board.lines) round → asking' ≡ with_turns turns k.asking
     → slots_of turns ≡ map ref_of round → StandsRate bandwidth' r.session.rate (l ∷ r.session.board.lines) r.tick
     → StandsSession (record k { lines = lines'; subs = subs'; asking = asking'; bandwidth = bandwidth' })
-    (begun_anew r.tick (record r.session { board = record { lines = l ∷ r.session.board.lines; round = round } }))
-numbered_stands k lines₁ lines' subs' asking' bandwidth' turns r l round text st room numbers is short low subs anew slots rate =
-    let last : lines₁.last + 1 ≤ GREATEST_NUMBER = subst (λ (x : KeptLines). x.last + 1 ≤ GREATEST_NUMBER) (sym room.rest) low in
+    (begun_anew r.tick (numbered (with_next l round) r.session))
+numbered_stands k lines₁ lines' subs' asking' bandwidth' turns r l round text st room numbers is short subs anew slots rate =
     record {
-      lines = lines_numbered lines₁ lines' r.session l round text (lines_reserved k.lines lines₁ r.session st.lines room.same room.rest) numbers is last;
-      short = short_numbered lines₁ lines' text (short_reserved k.lines lines₁ st.short room.same room.rest) numbers short;
-      round = round_with k.asking asking' turns r.tick (record r.session { board = record { lines = l ∷ r.session.board.lines; round = round } })
-          st.round.most st.round.tick anew slots;
+      lines = lines_numbered lines₁ lines' r.session l round text (lines_roomier k.lines lines₁ r.session st.lines room) numbers is short;
+      round = round_with k.asking asking' turns r.tick (numbered (with_next l round) r.session) st.round.most st.round.tick anew slots;
       subs = subs;
       rate = rate;
     }
@@ -68,25 +60,25 @@ named_of sub (v ∷ vs) = by_test (sub == v.sub) (named_of sub vs)
 
 -- they leave, and UNSUB is numbered
 pub deleted : (k : Kept) (lines₁ lines' : KeptLines) (subs' : Subs) (asking' : Asking) (r : Record) (sub : ℕ) (text : List ℕ) → StandsSession k r
-    → Reserved k.lines lines₁ → NumbersLine lines₁ text lines' → text ≡ line_text [] (Ends sub) → IsShort text → k.lines.last + 1 ≤ GREATEST_NUMBER
+    → IsRoomier k.lines lines₁ → NumbersLine lines₁ text lines' → text ≡ line_text [] (Ends sub) → IsShort text
     → StandsSubs subs' (Ends sub ∷ r.session.board.lines) (without sub r.session.board.round) → asking' ≡ with_turns (left sub k.asking.turns) k.asking
-    → StandsSession (record k { lines = lines'; subs = subs'; asking = asking' }) (begun_anew r.tick (on_board (removed sub) r.session))
-deleted k lines₁ lines' subs' asking' r sub text st room numbers is short low subs anew =
+    → StandsSession (record k { lines = lines'; subs = subs'; asking = asking' }) (begun_anew r.tick (numbered (removed sub) r.session))
+deleted k lines₁ lines' subs' asking' r sub text st room numbers is short subs anew =
     numbered_stands k lines₁ lines' subs' asking' k.bandwidth (left sub k.asking.turns) r (Ends sub) (without sub r.session.board.round) text st room numbers is
-    short low subs anew (left_slots sub k.asking.turns r.session.board.round st.round.slots)
+    short subs anew (left_slots sub k.asking.turns r.session.board.round st.round.slots)
     (rate_numbered k.bandwidth r.session.rate r.session.board.lines r.tick (Ends sub) st.rate refl)
 
 -- a subscription has another frequency, and CONF is numbered
 pub limited : (k : Kept) (lines₁ lines' : KeptLines) (subs' : Subs) (asking' : Asking) (r : Record) (sub : ℕ) (frequency : Option ℕ) (filtered : Bool)
-    (text : List ℕ) → StandsSession k r → Reserved k.lines lines₁ → NumbersLine lines₁ text lines' → text ≡ line_text [] (Configures sub frequency filtered)
-    → IsShort text → k.lines.last + 1 ≤ GREATEST_NUMBER
+    (text : List ℕ) → StandsSession k r → IsRoomier k.lines lines₁ → NumbersLine lines₁ text lines' → text ≡ line_text [] (Configures sub frequency filtered)
+    → IsShort text
     → StandsSubs subs' (Configures sub frequency filtered ∷ r.session.board.lines) (map (with_frequency sub frequency) r.session.board.round)
     → asking' ≡ begun k.asking.tick k.asking
     → StandsSession (record k { lines = lines'; subs = subs'; asking = asking' })
-    (begun_anew r.tick (on_board (configured sub frequency filtered) r.session))
-limited k lines₁ lines' subs' asking' r sub frequency filtered text st room numbers is short low subs anew =
+    (begun_anew r.tick (numbered (configured sub frequency filtered) r.session))
+limited k lines₁ lines' subs' asking' r sub frequency filtered text st room numbers is short subs anew =
     numbered_stands k lines₁ lines' subs' asking' k.bandwidth k.asking.turns r (Configures sub frequency filtered)
-    (map (with_frequency sub frequency) r.session.board.round) text st room numbers is short low subs anew
+    (map (with_frequency sub frequency) r.session.board.round) text st room numbers is short subs anew
     (st.round.slots ∙ sym (named_limited sub frequency r.session.board.round))
     (rate_numbered k.bandwidth r.session.rate r.session.board.lines r.tick (Configures sub frequency filtered) st.rate refl)
 
@@ -100,7 +92,7 @@ some_in mode.Command frequency some = some
 -- nothing was spent behind the last line
 pub spends_none : (n : ℕ) (lines : List Line) → length lines ≤ n → spends_behind n lines ≡ []
 spends_none n [] high = refl
-spends_none n (l ∷ lines) high = ap (λ v. cond v (spent_by lines l ++ spends_behind n lines) []) (not_below n (length lines + 1) (omega (arith, high)))
+spends_none n (l ∷ lines) high = ap (λ v. cond v (spent_by lines l ++ spends_behind n lines) []) (le-ltb n (length lines + 1) (omega (arith, high)))
 
 -- a session has another bandwidth
 pub constrained_stands : (k : Kept) (lines' : KeptLines) (asking' : Asking) (bandwidth' : KeptCredit) (r : Record) (limit : Option ℕ) (now : ℕ) (text : List ℕ)
@@ -109,29 +101,8 @@ pub constrained_stands : (k : Kept) (lines' : KeptLines) (asking' : Asking) (ban
     → text ≡ bandwidth_text limit → IsShort text → asking' ≡ begun now k.asking → bandwidth'.latest ≡ now → StandsBandwidth bandwidth' limit []
     → StandsSession (record k { lines = lines'; asking = asking'; bandwidth = bandwidth' }) (begun_anew now (constrained limit r.session))
 constrained_stands k lines' asking' bandwidth' r limit now text st later most owed rest is short anew latest stands =
-    let all : lines'.owed.items ≡ r.session.owed ++ bandwidth_text limit ∷ [] =
-    owed ∙ ap (λ xs. xs ++ text ∷ []) st.lines.owed ∙ ap (λ t. r.session.owed ++ t ∷ []) is in
     record {
-      lines = subst (λ (x : KeptLines). StandsLines x (constrained limit r.session)) (sym rest)
-          (record {
-            owed = all;
-            unsent = st.lines.unsent;
-            last = st.lines.last;
-            most = st.lines.most;
-            sent = st.lines.sent;
-            epoch = st.lines.epoch;
-            life = st.lines.life;
-            end = st.lines.end;
-          });
-      short = subst (λ (x : KeptLines). AreShort x) (sym rest)
-          (record {
-            owed = subst (λ (ts : List (List ℕ)). Each IsShort ts) (sym owed) (each_behind IsShort text k.lines.owed.items st.short.owed short);
-            unsent = st.short.unsent;
-            current = st.short.current;
-            destroyed = st.short.destroyed;
-            timed_out = st.short.timed_out;
-            end = st.short.end;
-          });
+      lines = lines_owed k.lines lines' r.session limit text st.lines owed rest is short;
       round = subst (λ (x : Asking). StandsRound x (begun_anew now (constrained limit r.session))) (sym anew)
           (round_anew k.asking now (constrained limit r.session) most st.round.slots);
       subs = st.subs;

@@ -10,7 +10,7 @@ use Rattle.ls_subs.proofs.Enqueues.{enqueue_stands}
 use Rattle.ls_session.specs.Record.{Record, Question, question_of}
 use Rattle.ls_session.specs.Session.{StandsSession, asked_of}
 use Rattle.ls_session.specs.declared.session.Session.{Session as Kept}
-use Rattle.ls_session.proofs.Moves.{lines_round}
+use Rattle.ls_stream.proofs.Moving.{lines_round}
 
 named_alike : (items : List Item) (sub rank : ℕ) (v : Live) → ref_of (enqueue_at items sub rank v) ≡ ref_of v
 named_alike items sub rank v = by_test (is_at sub rank v) (nat_lt v.slot.last (length (history_of items v.item)))
@@ -73,7 +73,6 @@ session_enqueued k r items sub rank st =
     ap (λ o. cond r.asks (option_map (question_at r) o) None) at in
     record {
       lines = lines_round k.lines r.session (map (enqueue_at items sub rank) r.session.board.round) st.lines;
-      short = st.short;
       round = record {
         slots = st.round.slots ∙ sym (named_enqueued items sub rank r.session.board.round);
         tick = st.round.tick;

@@ -1,9 +1,8 @@
-pub mod Queues
-pub mod Waiting
 pub mod Seats
 pub mod Moves
 pub mod Turns
-pub mod Keeping
+pub mod Firsts
+pub mod Leaving
 pub mod Adding
 pub mod Changing
 pub mod Replies

@@ -4,7 +4,6 @@ use Rattle.std.proofs.Common.{Result, Ok, Err, IfOk, option_map, refl, sym, ◌�
 use Rattle.std.specs.Option.{option_map_or}
 use Rattle.std.proofs.lemmas.Bool.{leb-true}
 use Rattle.std.proofs.lemmas.List.{map-append, take-map, drop-map}
-use Rattle.ls_value.specs.declared.limits.TheConstants.{GREATEST_NUMBER}
 use Rattle.ls_budget.specs.Budget.{Spend, credit_tick, has_credit, debt}
 use Rattle.ls_budget.specs.Due.{due_at as due_answer}
 use Rattle.ls_budget.specs.Kept.{KeptCredit}
@@ -27,12 +26,14 @@ use Rattle.ls_subs.specs.Standing.{ref_of, StandsKeptAt, AskedSlot, AcceptedAs, 
 use Rattle.ls_subs.specs.Subscription.{Appended, told_by}
 use Rattle.ls_session.specs.Asking.{Asking, ask_of, is_now, unasked, with_turns, waiting}
 use Rattle.ls_session.specs.Record.{Record, Question, question_of, answered, answered_by, passed_over, waited}
-use Rattle.ls_session.specs.Session.{StandsSession, StandsRate, IsShort, NumbersLine, PassesOver, SpendsText, asked_of, ask_in}
+use Rattle.ls_stream.proofs.Moving.{lines_roomier, lines_round}
+use Rattle.ls_stream.specs.Standing.{IsShort, IsRoomier, NumbersLine}
+use Rattle.ls_stream.specs.declared.lines.Lines.{Lines as KeptLines}
+use Rattle.ls_session.specs.Session.{StandsSession, StandsRate, PassesOver, SpendsText, asked_of, ask_in}
 use Rattle.ls_session.specs.declared.asking.Asked.{Asked}
-use Rattle.ls_session.specs.declared.lines.Lines.{Lines as KeptLines}
 use Rattle.ls_session.specs.declared.session.Session.{Session as Kept}
-use Rattle.ls_session.proofs.Changing.{Reserved, numbered_stands}
-use Rattle.ls_session.proofs.Moves.{lines_round, lines_reserved, short_reserved, rate_numbered, rate_spent}
+use Rattle.ls_session.proofs.Changing.{numbered_stands}
+use Rattle.ls_session.proofs.Moves.{rate_numbered, rate_spent}
 use Rattle.ls_session.proofs.Seats.{gave_slots}
 use Rattle.ls_session.proofs.Turns.{is_now_due}
 
@@ -95,7 +96,6 @@ passed_stands k k' r st passes =
     (subst (λ (a : Asking). StandsSession (record k { asking = a }) (passed_over r)) (sym passes.asking.rest)
     (record {
       lines = st.lines;
-      short = st.short;
       round = record {
         slots = st.round.slots;
         tick = st.round.tick;
@@ -117,7 +117,6 @@ waited_stands k k' r v tick st is passes =
     (subst (λ (a : Asking). StandsSession (record k { asking = a }) (waited r v)) (sym passes.asking.rest)
     (record {
       lines = st.lines;
-      short = st.short;
       round = record {
         slots = st.round.slots;
         tick = st.round.tick;
@@ -161,7 +160,7 @@ named_back n v t vs =
 
 -- a cut that makes no line
 pub answered_silent : (k : Kept) (lines₁ : KeptLines) (subs' : Subs) (asking' : Asking) (r : Record) (v : Live) (t : Taken) (a : Appended) → StandsSession k r
-    → Reserved k.lines lines₁ → asking' ≡ unasked k.asking → a.told ≡ tells.Nothing
+    → IsRoomier k.lines lines₁ → asking' ≡ unasked k.asking → a.told ≡ tells.Nothing
     → AcceptedAs (what_of r.session.board.lines v t) subs' (asked_slot r v) t a
     → (false ≡ is_some (what_of r.session.board.lines v t))
     × StandsSession (record k { lines = lines₁; subs = subs'; asking = asking' }) (answered r v t)
@@ -180,8 +179,7 @@ answered_silent k lines₁ subs' asking' r v t a st room again silent accepted =
       subst (λ (x : Asking). StandsSession (record k { lines = lines₁; subs = subs'; asking = x }) (answered_by r v t None)) (sym again)
           (record {
             lines = lines_round lines₁ r.session (passed_at r.asked t r.session.board.round)
-                (lines_reserved k.lines lines₁ r.session st.lines room.same room.rest);
-            short = short_reserved k.lines lines₁ st.short room.same room.rest;
+                (lines_roomier k.lines lines₁ r.session st.lines room);
             round = record {
               slots = st.round.slots ∙ sym (named_same r.asked t r.session.board.round);
               tick = st.round.tick;
@@ -199,7 +197,7 @@ answered_silent k lines₁ subs' asking' r v t a st room again silent accepted =
 
 -- a cut that makes a line, which is numbered
 pub answered_line : (k : Kept) (lines₁ lines' : KeptLines) (subs' : Subs) (asking' : Asking) (bandwidth' : KeptCredit) (r : Record) (v : Live) (t : Taken)
-    (a : Appended) → StandsSession k r → Reserved k.lines lines₁ → NumbersLine lines₁ a.after lines' → a.before ≡ [] → k.lines.last < GREATEST_NUMBER
+    (a : Appended) → StandsSession k r → IsRoomier k.lines lines₁ → NumbersLine lines₁ a.after lines' → a.before ≡ []
     → slice_get r.session.board.round r.asked ≡ Some v → asking' ≡ with_turns (gave v.sub v.rank k.asking.turns) k.asking
     → (a.told ≡ tells.Nothing → ⊥)
     → ((what : What) → what_of r.session.board.lines v t ≡ Some what
@@ -209,7 +207,7 @@ pub answered_line : (k : Kept) (lines₁ lines' : KeptLines) (subs' : Subs) (ask
     → AcceptedAs (what_of r.session.board.lines v t) subs' (asked_slot r v) t a
     → (true ≡ is_some (what_of r.session.board.lines v t))
     × StandsSession (record k { lines = lines'; subs = subs'; asking = asking'; bandwidth = bandwidth' }) (answered r v t)
-answered_line k lines₁ lines' subs' asking' bandwidth' r v t a st room numbers empty low here gives speaks short rate accepted =
+answered_line k lines₁ lines' subs' asking' bandwidth' r v t a st room numbers empty here gives speaks short rate accepted =
     by_what (what_of r.session.board.lines v t) refl accepted
   where
     by_what : (o : Option What) → what_of r.session.board.lines v t ≡ o → AcceptedAs o subs' (asked_slot r v) t a
@@ -225,7 +223,7 @@ answered_line k lines₁ lines' subs' asking' bandwidth' r v t a st room numbers
           refl,
           numbered_stands k lines₁ lines' subs' asking' bandwidth' (gave v.sub v.rank k.asking.turns) r l (passed_back r.asked v t r.session.board.round)
               a.after
-              st room numbers text few (omega (arith, low)) d.1 gives
+              st room numbers text few d.1 gives
               (gave_slots k.asking.turns r.session.board.round r.asked v st.subs.apart st.round.slots here
               ∙ sym (named_back r.asked v t r.session.board.round))
               (rate what d.0.0 text few),

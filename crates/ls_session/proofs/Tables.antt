@@ -1,7 +1,7 @@
 -- Tables of refusals, one behind another.
 use Rattle.std.proofs.Common.{◌≡◌, ◌≤◌, ◌<◌, ◌+◌, ◌++◌, ◌&&◌, ◌||◌, not, ℕ, Bool, Option, List, [], ◌∷◌, length, true, false, None, Some, refl, sym, ◌∙◌, ap}
-use Rattle.std.proofs.Common.{cond, arith, nat_le}
-use Rattle.std.proofs.lemmas.Bool.{leb-true, leb-false}
+use Rattle.std.proofs.Common.{cond, arith, nat_le, nat_lt, min, ◌-◌, ◌^◌}
+use Rattle.std.proofs.lemmas.Bool.{leb-true, leb-false, ltb-true, ltb-false}
 use Rattle.std.proofs.lemmas.List.{length-map}
 use Rattle.ls_event.specs.declared.item.ItemDef.{ItemDef}
 use Rattle.ls_request.specs.declared.request.Add.{Add}
@@ -85,3 +85,13 @@ full_or m n b low = by_test (nat_le m n) refl
     by_test : (v : Bool) → nat_le m n ≡ v → b ≡ (v || b)
     by_test false e = refl
     by_test true e = absurd (omega (arith, low, leb-true m n e))
+
+-- too many lines wait, also where the sum ends at the greatest number of 64 bits
+pub waits_is : (n unsent more all : ℕ) → n ≡ unsent → all ≡ min (n + more) (2 ^ 64 - 1) → more ≤ 2 → nat_lt 512 all ≡ nat_lt 512 (unsent + more)
+waits_is n unsent more all is sum few = by_tests (nat_lt 512 all) (nat_lt 512 (unsent + more)) refl refl
+  where
+    by_tests : (a b : Bool) → nat_lt 512 all ≡ a → nat_lt 512 (unsent + more) ≡ b → a ≡ b
+    by_tests true true e f = refl
+    by_tests false false e f = refl
+    by_tests true false e f = absurd (omega (arith, is, sum, ltb-true 512 all e, ltb-false 512 (unsent + more) f))
+    by_tests false true e f = absurd (omega (arith, is, sum, ltb-false 512 all e, ltb-true 512 (unsent + more) f))

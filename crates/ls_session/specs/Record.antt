@@ -1,19 +1,24 @@
 -- A session's record: the session of the world, and where it stands in asking its round; and what each call makes of it
 -- (TLCP 2.1, streams and notifications; this project's profile).
 use Rattle.std.specs.Prelude.{ℕ, ◌+◌, List, [], ◌∷◌, ◌++◌, length, Bool, true, false, Option, None, Some}
-use Rattle.std.specs.Prelude.{nat_le, nat_eq, min, ◌&&◌, slice_get, option_map, if◌then◌else◌}
+use Rattle.std.specs.Prelude.{nat_le, nat_lt, nat_eq, min, ◌&&◌, slice_get, option_map, if◌then◌else◌}
 use Rattle.std.specs.Option.{option_map_or}
 use Rattle.ls_value.specs.declared.limits.TheConstants.{GREATEST_NUMBER}
 use Rattle.ls_event.specs.declared.event.Taken.{Taken}
 use Rattle.ls_event.specs.declared.item.ItemDef.{ItemDef}
 use Rattle.ls_request.specs.declared.request.Add.{Add}
+use Rattle.ls_request.specs.declared.request.Bind.{Bind}
 use Rattle.ls_mirror.specs.Client.{What}
 use Rattle.ls_world.specs.Cases.{first_code}
 use Rattle.ls_world.specs.Lines.{Begins, Configures, text_at}
 use Rattle.ls_world.specs.World.{Live, Board, Life, Alive, Ending, Ended, Session, on_board, is_unsent, given_next}
-use Rattle.ls_world.specs.World.{is_alive, is_of, are_filtered, frequency_of, is_due, due_at}
-use Rattle.ls_world.specs.Acting.{asks_of, add_refusals, change_code, constrain_code, are_too_many, are_spent}
-use Rattle.ls_world.specs.Steps.{end_text}
+use Rattle.ls_world.specs.World.{is_alive, is_of, are_filtered, frequency_of, is_due, due_at, numbered, on_stream}
+use Rattle.ls_world.specs.World.{with_text, is_to_loop, is_bound, unbound_at}
+use Rattle.ls_world.specs.Acting.{asks_of, add_refusals, change_code, constrain_code, bind_code, are_too_many}
+use Rattle.ls_world.specs.Acting.{are_spent}
+use Rattle.ls_world.specs.Steps.{loop_text, end_text}
+use Rattle.ls_session.specs.declared.session.Lost.{Lost}
+use Rattle.ls_session.specs.declared.session.Lost.TheVariants as lost
 use Rattle.ls_subs.specs.Plans.{keys_of_asks}
 use Rattle.ls_subs.specs.Standing.{what_of, told_of, passed_at, passed_back}
 
@@ -35,14 +40,16 @@ pub record Question : Type 0 where
   pub live : Live
   pub due : Bool
 
--- what a turn gives: a line, a question, nothing, nothing before a tick, no number for a line, or that the session has
--- ended
+-- what a turn gives: a line, a question, nothing, nothing before a tick, no number for a line, that the session has a
+-- newer stream, of this epoch, that no stream is bound, or that the session has ended
 pub data Gives : Type 0 where
   Line : List ℕ → Gives
   Asks : Question → Gives
   Nothing : Gives
   Waits : ℕ → Gives
   NoNumber : Gives
+  Superseded : ℕ → Gives
+  Unbound : Gives
   Over : ℕ → Gives
 
 -- a record after a turn, and what the turn gives
@@ -87,21 +94,43 @@ round_turned now r =
     round_asked now (wait_from now r) r.session (from_place now r)
     (slice_get r.session.board.round (from_place now r))
 
--- by what is owed: the first line that is; else the next unsent line; else the round
+-- by what is owed: the first line that is; else LOOP, where the stream is over, and then none is bound; else the next
+-- unsent line; else the round
 abbrev pub owed_turned : ℕ → Record → List (List ℕ) → Turned
 owed_turned now r (text ∷ owed) =
-    record { after = begun_anew now (record r.session { owed = owed }); gives = Line text }
-owed_turned now r [] = if is_unsent r.session then next_turned now r.session else round_turned now r
+    record {
+      after = begun_anew now (on_stream (with_text text) (record r.session { owed = owed }));
+      gives = Line text;
+    }
+owed_turned now r [] =
+    if is_to_loop r.session.streams
+    then record { after = begun_anew now (unbound_at now r.session); gives = Line loop_text }
+    else if is_unsent r.session then next_turned now r.session
+    else round_turned now r
 
--- a turn at a tick: a session that has ended gives END once, and nothing else
-abbrev pub turned_by : ℕ → Record → Life → Turned
-turned_by now r Alive = owed_turned now r r.session.owed
-turned_by now r (Ending code) =
-    record { after = begun_anew now (record r.session { life = Ended code }); gives = Line (end_text code) }
-turned_by now r (Ended code) = record { after = begun_anew now r.session; gives = Over code }
+-- a turn on the stream that is bound: a session that has ended gives END once, and nothing else
+abbrev pub bound_turned : ℕ → Record → Life → Turned
+bound_turned now r Alive = owed_turned now r r.session.owed
+bound_turned now r (Ending code) =
+    record {
+      after = begun_anew now (on_stream (with_text (end_text code)) (record r.session { life = Ended code }));
+      gives = Line (end_text code);
+    }
+bound_turned now r (Ended code) = record { after = begun_anew now r.session; gives = Over code }
 
-abbrev pub turned : ℕ → Record → Turned
-turned now r = turned_by now r r.session.life
+-- what a turn gives where no stream is bound
+abbrev pub gives_unbound : Life → Gives
+gives_unbound Alive = Unbound
+gives_unbound (Ending code) = Over code
+gives_unbound (Ended code) = Over code
+
+-- a turn at a tick, for the stream of an epoch: nothing where the session has a newer one
+abbrev pub turned : ℕ → ℕ → Record → Turned
+turned now epoch r =
+    if nat_lt epoch (length r.session.streams)
+    then record { after = begun_anew now r.session; gives = Superseded (length r.session.streams) }
+    else if is_bound r.session then bound_turned now r r.session.life
+    else record { after = begun_anew now r.session; gives = gives_unbound r.session.life }
 
 -- the question that stands
 abbrev pub question_of : Record → Option Question
@@ -132,7 +161,7 @@ answered_by r v t None =
     }
 answered_by r v t (Some what) =
     begun_anew r.tick
-    (on_board (λ b. record { lines = told_of v r.tick t what b.lines; round = passed_back r.asked v t b.round })
+    (numbered (λ b. record { lines = told_of v r.tick t what b.lines; round = passed_back r.asked v t b.round })
     r.session)
 
 abbrev pub answered : Record → Live → Taken → Record
@@ -151,6 +180,10 @@ changing_code s sub = unless_ended s (change_code s sub)
 
 abbrev pub constraining_code : Session → Option ℕ
 constraining_code s = unless_ended s (constrain_code s)
+
+-- why a new stream is refused
+abbrev pub binding_code : Session → Bind → Option ℕ
+binding_code s b = unless_ended s (bind_code s b)
 
 -- and why one line more can't be numbered
 abbrev pub numbering_code : Session → Option ℕ
@@ -175,3 +208,17 @@ abbrev pub ended_by : Life → Option ℕ
 ended_by Alive = None
 ended_by (Ending code) = Some code
 ended_by (Ended code) = Some code
+
+-- what is answered to the loss of the stream of an epoch: the session has a newer one, the stream was bound and is no
+-- longer, or none was
+abbrev pub loss_of : ℕ → Session → Lost
+loss_of epoch s =
+    if nat_lt epoch (length s.streams) then lost.Superseded (length s.streams)
+    else if is_bound s then lost.Unbound
+    else lost.NotBound
+
+-- and the record then
+abbrev pub after_loss : ℕ → Lost → Record → Record
+after_loss now lost.Unbound r = begun_anew now (unbound_at now r.session)
+after_loss now (lost.Superseded epoch) r = r
+after_loss now lost.NotBound r = r

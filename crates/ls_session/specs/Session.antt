@@ -1,7 +1,6 @@
 -- What a session keeps, and the record that it stands for. It says nothing of items or their histories.
-use Rattle.std.specs.Prelude.{◌≡◌, ◌≤◌, ◌<◌, ◌⊎◌, ℕ, ◌+◌, List, [], ◌∷◌, ◌++◌, length, map, Bool, true, false}
-use Rattle.std.specs.Prelude.{Option, None, Some, is_some, option_map, nat_eq, nat_lt, if◌then◌else◌}
-use Rattle.std.specs.VecDeque.{deque_len, deque_capacity}
+use Rattle.std.specs.Prelude.{◌≡◌, ◌≤◌, ◌<◌, ◌⊎◌, ℕ, ◌+◌, List, [], ◌∷◌, length, map, Bool, true, false}
+use Rattle.std.specs.Prelude.{Option, None, Some, is_some, option_map, nat_eq, if◌then◌else◌}
 use Rattle.ls_value.specs.declared.limits.TheConstants.{GREATEST_NUMBER}
 use Rattle.ls_budget.specs.Budget.{Spend, credit_tick}
 use Rattle.ls_budget.specs.Kept.{KeptCredit, StandsBandwidth}
@@ -9,79 +8,31 @@ use Rattle.ls_budget.specs.Due.{due_at as due_answer}
 use Rattle.ls_budget.specs.declared.limits.TheConstants.{GREATEST_TICK}
 use Rattle.ls_turns.specs.Round.{node_of_place, slots_of}
 use Rattle.ls_turns.specs.declared.slot_ref.SlotRef.{SlotRef}
-use Rattle.ls_world.specs.Lines.{Line as NumberedLine, Configures, line_text, spends_behind}
-use Rattle.ls_world.specs.World.{Board, Rate, Life, Alive, Ending, Ended, Session, due_at, with_frequency}
-use Rattle.ls_world.specs.Acting.{destroyed}
-use Rattle.ls_world.specs.Lawful.{Each}
-use Rattle.ls_world.specs.Steps.{end_text}
-use Rattle.ls_world.specs.declared.TheConstants.{MOST_GROUP_ITEMS, MOST_LINE}
+use Rattle.ls_stream.specs.Standing.{StandsLines, IsShort, IsReadyFor, current_text}
+use Rattle.ls_stream.specs.declared.lines.StreamTurn.{StreamTurn}
+use Rattle.ls_stream.specs.declared.lines.StreamTurn.TheVariants as stream
+use Rattle.ls_world.specs.Lines.{Line as NumberedLine, Configures, spends_behind}
+use Rattle.ls_world.specs.World.{Board, Rate, Session, due_at, with_frequency}
+use Rattle.ls_world.specs.declared.TheConstants.{MOST_GROUP_ITEMS}
 use Rattle.ls_subs.specs.declared.plan.AddPlan.{AddPlan}
 use Rattle.ls_subs.specs.declared.plan.PlanItem.{PlanItem}
 use Rattle.ls_subs.specs.Kept.{has_sub, room_of}
 use Rattle.ls_subs.specs.Plans.{IsReady as IsReadyItems}
 use Rattle.ls_subs.specs.Standing.{ref_of, StandsSubs}
 use Rattle.ls_session.specs.Asking.{Asking, Passes}
-use Rattle.ls_session.specs.Record.{Record, Question, question_of, Gives, Line, Asks, Nothing, Waits, NoNumber, Over}
+use Rattle.ls_session.specs.Record.{Record, Question, question_of, Gives, Line, Asks, Nothing, Waits, NoNumber}
+use Rattle.ls_session.specs.Record.{Superseded, Unbound, Over}
 use Rattle.ls_session.specs.declared.asking.Asked.{Asked}
-use Rattle.ls_session.specs.declared.lines.Lines.{Lines as KeptLines}
 use Rattle.ls_session.specs.declared.session.Ask.{Ask}
-use Rattle.ls_session.specs.declared.session.Life.{Life as KeptLife}
-use Rattle.ls_session.specs.declared.session.Life.TheVariants as life
 use Rattle.ls_session.specs.declared.session.Reply.{Reply}
 use Rattle.ls_session.specs.declared.session.Reply.TheVariants as reply
 use Rattle.ls_session.specs.declared.session.Session.{Session as Kept}
 use Rattle.ls_session.specs.declared.session.Turn.{Turn}
 use Rattle.ls_session.specs.declared.session.Turn.TheVariants as turn
 
--- the texts of the lines numbered from n + 1 on, the newest of all lines standing first
-abbrev pub texts_behind : ℕ → List NumberedLine → List (List ℕ)
-texts_behind n [] = []
-texts_behind n (l ∷ lines) = if nat_lt n (length lines + 1) then texts_behind n lines ++ line_text lines l ∷ [] else []
-
--- the code of a session that its client left for too long
-abbrev pub timed_out : ℕ
-timed_out = 73
-
--- whether and why a session has ended, as it is kept
-abbrev pub life_of : KeptLife → Life
-life_of life.Alive = Alive
-life_of (life.Ending code) = Ending code
-life_of (life.Ended code) = Ended code
-
 -- the line that the last turn gave
 abbrev pub current_of : Kept → List ℕ
-current_of k = k.lines.current
-
--- the texts of END that are ready: for each cause while a session is alive, and then for the one that ended it
-abbrev pub KeepsEnd : List ℕ → List ℕ → List ℕ → Life → Type 0
-KeepsEnd for_destroyed for_timed_out end Alive =
-    (for_destroyed ≡ end_text destroyed) × (for_timed_out ≡ end_text timed_out)
-KeepsEnd for_destroyed for_timed_out end (Ending code) = end ≡ end_text code
-KeepsEnd for_destroyed for_timed_out end (Ended code) = Unit {0}
-
--- the lines that are kept stand for a session: what is owed, the texts of the lines that aren't given yet, numbers that
--- are in their range, and whether it has ended
-pub record StandsLines (k : KeptLines) (s : Session) : Type 0 where
-  pub owed : k.owed.items ≡ s.owed
-  pub unsent : k.unsent.items ≡ texts_behind s.sent s.board.lines
-  pub last : k.last ≡ length s.board.lines
-  pub most : length s.board.lines ≤ GREATEST_NUMBER
-  pub sent : s.sent ≤ length s.board.lines
-  pub epoch : k.epoch ≡ length s.streams
-  pub life : life_of k.life ≡ s.life
-  pub end : KeepsEnd k.destroyed k.timed_out k.end s.life
-
--- a text is no longer than a line may be, and so is each that is kept
-abbrev pub IsShort : List ℕ → Type 0
-IsShort text = length text ≤ MOST_LINE
-
-pub record AreShort (k : KeptLines) : Type 0 where
-  pub owed : Each IsShort k.owed.items
-  pub unsent : Each IsShort k.unsent.items
-  pub current : IsShort k.current
-  pub destroyed : IsShort k.destroyed
-  pub timed_out : IsShort k.timed_out
-  pub end : IsShort k.end
+current_of k = current_text k.lines
 
 -- a question as it is kept
 abbrev pub asked_of : ℕ → Session → Question → Asked
@@ -108,23 +59,32 @@ pub record StandsRate (k : KeptCredit) (rate : Rate) (lines : List NumberedLine)
 -- what is kept stands for a record
 pub record StandsSession (k : Kept) (r : Record) : Type 0 where
   pub lines : StandsLines k.lines r.session
-  pub short : AreShort k.lines
   pub round : StandsRound k.asking r
   pub subs : StandsSubs k.subs r.session.board.lines r.session.board.round
   pub rate : StandsRate k.bandwidth r.session.rate r.session.board.lines r.tick
 
--- what a turn answers where nothing is left to ask
+-- what a turn answers, by what was given before the round is asked
+abbrev pub turn_of : StreamTurn → Turn
+turn_of stream.Line = turn.Send
+turn_of (stream.Superseded epoch) = turn.Superseded epoch
+turn_of stream.Unbound = turn.Unbound
+turn_of (stream.Ended code) = turn.Ended code
+turn_of stream.Nothing = turn.Idle
+
+-- where nothing is left to ask
 abbrev pub turn_of_wait : Option ℕ → Turn
 turn_of_wait None = turn.Idle
 turn_of_wait (Some tick) = turn.NotDue tick
 
--- what a turn answers, by what it gives; the line is the session's current one
+-- and by what it gives; the line is the session's current one
 abbrev pub AnswersTurn : Gives → Turn → Kept → Type 0
 AnswersTurn (Line text) t k = (t ≡ turn.Send) × (current_of k ≡ text)
 AnswersTurn (Asks q) t k = t ≡ turn.Ask (record { slot = ref_of q.live; due = q.due })
 AnswersTurn Nothing t k = t ≡ turn.Idle
 AnswersTurn (Waits tick) t k = t ≡ turn.NotDue tick
 AnswersTurn NoNumber t k = t ≡ turn.Spent
+AnswersTurn (Superseded epoch) t k = t ≡ turn.Superseded epoch
+AnswersTurn Unbound t k = t ≡ turn.Unbound
 AnswersTurn (Over code) t k = t ≡ turn.Ended code
 
 -- whether a reply suits a question: a slot that is due has a cut or nothing, and another waits or has nothing
@@ -163,13 +123,8 @@ SpendsText text tick old new =
     → credit_tick limit spends tick ≡ tick → IsShort text
     → (new.latest ≡ tick) × StandsBandwidth new limit (record { tick = tick; bytes = length text + 2 } ∷ spends)
 
--- a session is ready for one line more: it has room and a number for it
-pub record IsReadyForLine (k : KeptLines) : Type 0 where
-  pub unsent : deque_len k.unsent + 1 ≤ deque_capacity k.unsent
-  pub number : k.last + 1 ≤ GREATEST_NUMBER
-
 -- a session is ready for a subscription: it isn't live, its items are ranked, and there is room for its slots and its
--- lines, which are short, and numbers for these
+-- lines, which are short
 pub record IsReady (k : Kept) (p : AddPlan) : Type 0 where
   pub new : has_sub k.subs p.sub ≡ false
   pub items : IsReadyItems p.sub p.items.items
@@ -177,17 +132,9 @@ pub record IsReady (k : Kept) (p : AddPlan) : Type 0 where
   pub subs : 1 ≤ room_of k.subs
   pub spare : length p.items.items ≤ k.asking.turns.spare
   pub room : length k.asking.turns.seats + length p.items.items ≤ k.asking.room
-  pub unsent : deque_len k.lines.unsent + 2 ≤ deque_capacity k.lines.unsent
-  pub numbers : k.lines.last + 2 ≤ GREATEST_NUMBER
+  pub lines : IsReadyFor 2 k.lines
   pub begins : IsShort p.begins
   pub configures : IsShort p.configures
-
--- a line is numbered, and waits to be given; all else stays
-pub record NumbersLine (old : KeptLines) (text : List ℕ) (new : KeptLines) : Type 0 where
-  pub unsent : new.unsent.items ≡ old.unsent.items ++ text ∷ []
-  pub length : deque_len new.unsent ≡ deque_len old.unsent + 1
-  pub room : deque_capacity new.unsent ≡ deque_capacity old.unsent
-  pub rest : new ≡ record old { unsent = new.unsent; last = old.last + 1 }
 
 -- how the slots of a subscription's items are named, from this place on
 abbrev pub refs_from : ℕ → ℕ → List PlanItem → List ℕ → List SlotRef

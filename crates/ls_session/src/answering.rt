@@ -9,7 +9,7 @@ ghost use Rattle.ls_subs.specs.Standing.{ref_of, Suits, what_of};
 ghost use Rattle.ls_session.specs.Asking.{is_now, ask_of, waiting, with_turns};
 ghost use Rattle.ls_session.specs.Record.{Record, question_of, passed_over, waited, answered};
 ghost use Rattle.ls_session.specs.Session.{StandsSession, IsOther, PassesOver, SpendsText, suits};
-ghost use Rattle.ls_session.specs.Session.{IsReadyForLine, NumbersLine};
+ghost use Rattle.ls_stream.specs.Standing.{IsReadyFor, NumbersLine};
 ghost use Rattle.ls_session.specs.declared.session.Reply.TheVariants as reply_is;
 
 use crate::asking::Asked;
@@ -106,7 +106,7 @@ impl Session {
             → (told ≡ is_some (what_of r.session.board.lines v taken)) × StandsSession self.new (answered r v taken)) }
         ensures err { OnErr result ((r : Record) → StandsSession self.old r → StandsSession self.new r) }
     {
-        if self.lines.last >= GREATEST_NUMBER {
+        if self.lines.last() >= GREATEST_NUMBER {
             return Ok(false);
         }
         are_small(slot.sub, slot.place);
@@ -134,7 +134,7 @@ impl Session {
 
     /// The line of this text is numbered, and its slot goes to the back of the round.
     fn note(&mut self, text: Vec<u8>, slot: &SlotRef)
-        requires ready { IsReadyForLine self.old.lines }
+        requires ready { IsReadyFor 1 self.old.lines }
         requires named { has_slot slot.now.sub slot.now.place self.old.asking.turns ≡ true }
         ensures line { NumbersLine self.old.lines text.items self.new.lines }
         ensures back { self.new.asking

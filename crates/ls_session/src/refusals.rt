@@ -1,16 +1,17 @@
 //! Why requests on a session are refused (this project's profile).
 ghost use Rattle.std.specs.Prelude.{◌≡◌, ◌≤◌, ◌+◌, ◌||◌, ◌∷◌, [], not, false, None, nat_le, nat_lt};
-ghost use Rattle.std.specs.VecDeque.{deque_len};
 ghost use Rattle.ls_value.specs.declared.limits.TheConstants.{GREATEST_NUMBER};
 ghost use Rattle.ls_world.specs.declared.TheConstants.{MOST_SUBSCRIPTIONS};
 ghost use Rattle.ls_world.specs.Cases.{first_code};
 ghost use Rattle.ls_world.specs.World.{is_used};
 ghost use Rattle.ls_world.specs.Acting.{subscriptions, are_too_many, are_spent};
 ghost use Rattle.ls_subs.specs.Kept.{has_sub};
-ghost use Rattle.ls_session.specs.Record.{Record, changing_code, constraining_code, numbering_code};
+ghost use Rattle.ls_session.specs.Record.{Record, binding_code, changing_code, constraining_code, numbering_code};
 ghost use Rattle.ls_session.specs.Session.{StandsSession};
+ghost use Rattle.ls_stream.specs.Standing.{MayBind, last_line};
 
 use crate::session::Session;
+use ls_request::Bind;
 use ls_value::GREATEST_NUMBER;
 use ls_world::{MOST_SUBSCRIPTIONS, MOST_UNSENT};
 
@@ -31,7 +32,7 @@ impl Session {
             → result ≡ first_code (
             (71, nat_le MOST_SUBSCRIPTIONS (subscriptions r.session.board.round) || nat_lt free slots)
             ∷ (74, are_spent r.session 2) ∷ []) }
-        ensures left { result ≡ None → self.now.lines.last + 2 ≤ GREATEST_NUMBER }
+        ensures left { result ≡ None → last_line self.now.lines + 2 ≤ GREATEST_NUMBER }
     {
         first_code(&[(71, self.is_full(slots, free)), (74, self.has_spent(2))])
     }
@@ -40,7 +41,7 @@ impl Session {
     /// or there is no room or no number for its line.
     pub(crate) fn code_of_change(&self, sub: u32) -> Option<u16>
         ensures code { (r : Record) → StandsSession self.now r → result ≡ changing_code r.session sub }
-        ensures left { result ≡ None → self.now.lines.last + 1 ≤ GREATEST_NUMBER }
+        ensures left { result ≡ None → last_line self.now.lines + 1 ≤ GREATEST_NUMBER }
     {
         if self.is_alive() {
             first_code(&[
@@ -58,7 +59,20 @@ impl Session {
         ensures { (r : Record) → StandsSession self.now r → result ≡ constraining_code r.session }
     {
         if self.is_alive() {
-            first_code(&[(70, self.lines.owed.len() >= MOST_UNSENT)])
+            first_code(&[(70, self.lines.owed() >= MOST_UNSENT)])
+        } else {
+            Some(20)
+        }
+    }
+
+    /// Why a session can't have a new stream: it has ended, the client can't go on behind its count, or no epoch is
+    /// left.
+    pub(crate) fn code_of_bind(&self, bind: &Bind) -> Option<u16>
+        ensures code { (r : Record) → StandsSession self.now r → result ≡ binding_code r.session bind.now }
+        ensures may { result ≡ None → MayBind self.now.lines bind.now }
+    {
+        if self.is_alive() {
+            self.lines.code_of_bind(bind)
         } else {
             Some(20)
         }
@@ -67,7 +81,7 @@ impl Session {
     /// Why one line more can't be numbered: the session has ended, or there is no room or no number for it.
     pub(crate) fn code_of_line(&self) -> Option<u16>
         ensures code { (r : Record) → StandsSession self.now r → result ≡ numbering_code r.session }
-        ensures left { result ≡ None → self.now.lines.last + 1 ≤ GREATEST_NUMBER }
+        ensures left { result ≡ None → last_line self.now.lines + 1 ≤ GREATEST_NUMBER }
     {
         if self.is_alive() {
             first_code(&[(70, self.has_waiting(1)), (74, self.has_spent(1))])
@@ -88,20 +102,20 @@ impl Session {
     }
 
     /// Whether, with so many lines more, too many would wait to be given.
-    fn has_waiting(&self, more: usize) -> bool
+    fn has_waiting(&self, more: u64) -> bool
         requires { more ≤ 2 }
         ensures { (r : Record) → StandsSession self.now r → result ≡ are_too_many r.session more }
     {
-        self.lines.unsent.len() + more > MOST_UNSENT
+        self.lines.unsent().saturating_add(more) > MOST_UNSENT as u64
     }
 
     /// Whether there are no numbers for so many lines.
     fn has_spent(&self, more: u64) -> bool
         requires { more ≤ 2 }
-        ensures own { result ≡ nat_lt GREATEST_NUMBER (self.now.lines.last + more) }
+        ensures own { result ≡ nat_lt GREATEST_NUMBER (last_line self.now.lines + more) }
         ensures spent { (r : Record) → StandsSession self.now r → result ≡ are_spent r.session more }
     {
-        self.lines.last.saturating_add(more) > GREATEST_NUMBER
+        self.lines.last().saturating_add(more) > GREATEST_NUMBER
     }
 }
 

@@ -2,7 +2,6 @@
 //! another bandwidth (TLCP 2.1, control).
 ghost use Rattle.std.specs.Prelude.{◌≡◌, ◌≤◌, ◌<◌, ◌+◌, ℕ, List, length, map, None, Some, IfOk, OnOk, OnErr, IsErrOf};
 ghost use Rattle.std.specs.Option.{ForSome};
-ghost use Rattle.std.specs.VecDeque.{deque_len, deque_capacity};
 ghost use Rattle.ls_value.specs.declared.limits.TheConstants.{GREATEST_NUMBER};
 ghost use Rattle.ls_budget.specs.declared.limits.TheConstants.{GREATEST_TICK};
 ghost use Rattle.ls_event.specs.declared.item.ItemDef.{ItemDef};
@@ -11,22 +10,23 @@ ghost use Rattle.ls_request.specs.declared.request.Add.{Add as Adding};
 ghost use Rattle.ls_request.specs.Ranges.{AddFits};
 ghost use Rattle.ls_world.specs.Cases.{first_code};
 ghost use Rattle.ls_world.specs.Lawful.{Each};
-ghost use Rattle.ls_world.specs.World.{Live, on_board, removed, reconfigured, constrained, frequency_in, is_filtered};
+ghost use Rattle.ls_world.specs.World.{Live, numbered, removed, reconfigured, constrained, frequency_in, is_filtered};
 ghost use Rattle.ls_world.specs.Acting.{add_refusals};
 ghost use Rattle.ls_subs.specs.Plans.{IsPlan, JoinAll, MayJoin};
 ghost use Rattle.ls_subs.specs.Standing.{ref_of};
 ghost use Rattle.ls_subs.specs.declared.plan.Refusal.TheVariants as Refusal;
 ghost use Rattle.ls_session.specs.Record.{Record, begun_anew, with_plan, adding_code, changing_code, constraining_code};
 ghost use Rattle.ls_session.specs.Record.{numbering_code, slots_of};
-ghost use Rattle.ls_session.specs.Session.{StandsSession, IsReady, IsReadyForLine, NumbersLine, configured};
+ghost use Rattle.ls_session.specs.Session.{StandsSession, IsReady, configured};
+ghost use Rattle.ls_stream.specs.Standing.{IsReadyFor, NumbersLine, last_line};
 
-use crate::opening::bandwidth_text;
 use crate::session::Session;
 use crate::telling::{conf_text, unsub_text};
 use ls_config::Config;
 use ls_event::Mode;
 use ls_line::{Line, text};
 use ls_request::Add;
+use ls_stream::bandwidth_text;
 use ls_subs::{AddPlan, Refusal, SlotRef, frequency_in, is_filtered};
 use ls_value::{Bytes, NoMemory};
 
@@ -85,7 +85,7 @@ impl Session {
         requires slots { length slots.now ≡ length plan.items.items }
         ensures { (r : Record) (defs : List ItemDef) (a : Adding) (vs : List Live) → StandsSession self.old r
             → IsPlan defs a plan → JoinAll plan.items.items slots.now vs
-            → StandsSession self.new (begun_anew r.tick (on_board (with_plan defs a vs) r.session)) }
+            → StandsSession self.new (begun_anew r.tick (numbered (with_plan defs a vs) r.session)) }
     {
         let AddPlan {
             sub,
@@ -104,7 +104,7 @@ impl Session {
     /// lines wait, 74 where no number is left. A refusal changes nothing.
     pub fn prepare_line(&mut self, line: &Line) -> Result<Bytes, Refusal>
         ensures text { IfOk result (λ t. t ≡ text_of_line line.now) }
-        ensures ready { OnOk result (IsReadyForLine self.new.lines) }
+        ensures ready { OnOk result (IsReadyFor 1 self.new.lines) }
         ensures accepted { OnOk result ((r : Record) → StandsSession self.old r → numbering_code r.session ≡ None) }
         ensures refused { (code : ℕ) → IsErrOf result (Refusal.Code code) → (r : Record) → StandsSession self.old r
             → numbering_code r.session ≡ Some code }
@@ -120,13 +120,13 @@ impl Session {
 
     /// The line of this text is numbered, and waits to be given. Its number is answered. No memory is taken.
     pub fn finish_line(&mut self, text: Bytes) -> u64
-        requires { IsReadyForLine self.old.lines }
-        ensures number { result ≡ self.old.lines.last + 1 }
+        requires { IsReadyFor 1 self.old.lines }
+        ensures number { result ≡ last_line self.old.lines + 1 }
         ensures line { NumbersLine self.old.lines text self.new.lines }
         ensures rest { self.new ≡ record self.old { lines = self.new.lines } }
     {
         self.lines.number(text);
-        self.lines.last
+        self.lines.last()
     }
 
     /// A subscription ends: UNSUB is numbered, and its slots leave the round and are handed back. It is refused, in
@@ -136,7 +136,7 @@ impl Session {
         ensures accepted { IfOk result (λ slots. (r : Record) → StandsSession self.old r
             → (changing_code r.session sub ≡ None)
             × (slots.items ≡ map ref_of (slots_of sub r.session.board.round))
-            × StandsSession self.new (begun_anew r.tick (on_board (removed sub) r.session))) }
+            × StandsSession self.new (begun_anew r.tick (numbered (removed sub) r.session))) }
         ensures refused { (code : ℕ) → IsErrOf result (Refusal.Code code) → (r : Record) → StandsSession self.old r
             → changing_code r.session sub ≡ Some code }
         ensures err { OnErr result ((r : Record) → StandsSession self.old r → StandsSession self.new r) }
@@ -150,10 +150,10 @@ impl Session {
 
     /// A subscription ends: UNSUB is numbered, and its slots leave the round and are handed back.
     fn end_sub(&mut self, sub: u32) -> Result<Vec<SlotRef>, NoMemory>
-        requires { self.old.lines.last + 1 ≤ GREATEST_NUMBER }
+        requires { last_line self.old.lines + 1 ≤ GREATEST_NUMBER }
         ensures ok { IfOk result (λ slots. (r : Record) → StandsSession self.old r
             → (slots.items ≡ map ref_of (slots_of sub r.session.board.round))
-            × StandsSession self.new (begun_anew r.tick (on_board (removed sub) r.session))) }
+            × StandsSession self.new (begun_anew r.tick (numbered (removed sub) r.session))) }
         ensures err { OnErr result ((r : Record) → StandsSession self.old r → StandsSession self.new r) }
     {
         let line = unsub_text(self.alloc, sub)?;
@@ -172,7 +172,7 @@ impl Session {
         requires { ForSome frequency (λ f. 0 < f) }
         ensures accepted { OnOk result ((r : Record) → StandsSession self.old r
             → (changing_code r.session sub ≡ None)
-            × StandsSession self.new (begun_anew r.tick (on_board (reconfigured sub frequency) r.session))) }
+            × StandsSession self.new (begun_anew r.tick (numbered (reconfigured sub frequency) r.session))) }
         ensures refused { (code : ℕ) → IsErrOf result (Refusal.Code code) → (r : Record) → StandsSession self.old r
             → changing_code r.session sub ≡ Some code }
         ensures err { OnErr result ((r : Record) → StandsSession self.old r → StandsSession self.new r) }
@@ -192,10 +192,10 @@ impl Session {
         frequency: Option<u64>,
         filtered: bool,
     ) -> Result<(), NoMemory>
-        requires left { self.old.lines.last + 1 ≤ GREATEST_NUMBER }
+        requires left { last_line self.old.lines + 1 ≤ GREATEST_NUMBER }
         requires some { ForSome frequency (λ f. 0 < f) }
         ensures ok { OnOk result ((r : Record) → StandsSession self.old r
-            → StandsSession self.new (begun_anew r.tick (on_board (configured sub frequency filtered) r.session))) }
+            → StandsSession self.new (begun_anew r.tick (numbered (configured sub frequency filtered) r.session))) }
         ensures err { OnErr result ((r : Record) → StandsSession self.old r → StandsSession self.new r) }
     {
         let line = conf_text(self.alloc, sub, frequency, filtered)?;

@@ -4,27 +4,21 @@ ghost use Rattle.std.specs.Prelude.{nat_lt, nat_le, IfOk, IfSome, option_map};
 ghost use Rattle.std.specs.Option.{ForSome};
 ghost use Rattle.ls_budget.specs.declared.limits.TheConstants.{GREATEST_TICK};
 ghost use Rattle.ls_world.specs.Lines.{text_at};
-ghost use Rattle.ls_world.specs.World.{live_at, opened, ended, is_alive};
+ghost use Rattle.ls_world.specs.World.{live_at, opened, ended, is_alive, timed_out};
 ghost use Rattle.ls_world.specs.Acting.{destroyed};
 ghost use Rattle.ls_world.specs.declared.TheConstants.{MOST_LINE};
 ghost use Rattle.ls_subs.specs.Standing.{ref_of};
 ghost use Rattle.ls_session.specs.Record.{Record, begun_anew, ended_by};
-ghost use Rattle.ls_session.specs.Session.{StandsSession, current_of, timed_out};
+ghost use Rattle.ls_session.specs.Session.{StandsSession, current_of};
 
 use crate::asking::Asking;
-use crate::lines::Lines;
 use ls_budget::Bandwidth;
 use ls_event::Taken;
 use ls_request::Create;
+use ls_stream::{Life, Lines};
 use ls_subs::{SlotRef, Subs};
 use ls_value::NoMemory;
 use std::alloc::Global;
-
-/// The code of a session that a request destroyed.
-pub const DESTROYED: u16 = 31;
-
-/// The code of a session that its client left for too long.
-pub const TIMED_OUT: u16 = 73;
 
 /// The question what a slot has to tell next.
 #[derive(Clone, Copy, Debug, PartialEq, Eq)]
@@ -60,27 +54,37 @@ pub enum Turn {
         /// The least tick, in ms, at which one of these is due.
         at: u64,
     },
-    /// Nothing: the session has ended for the cause of this code, and its client was told.
+    /// Nothing: the session has ended for the cause of this code, and its client was told, or has no stream.
     Ended {
         /// The cause's number.
         code: u16,
     },
+    /// Nothing: the session has a newer stream.
+    Superseded {
+        /// The epoch of that one.
+        epoch: u64,
+    },
+    /// Nothing: no stream is bound.
+    Unbound,
     /// Nothing: there is no number for a line.
     Spent,
 }
 
-/// Whether a session has ended, and for the cause of which code.
+/// What the loss of a stream comes to.
 #[derive(Clone, Copy, Debug, PartialEq, Eq)]
-pub enum Life {
-    /// It hasn't.
-    Alive,
-    /// It has, and its client is to be told.
-    Ending(u16),
-    /// It has, and its client was told.
-    Ended(u16),
+pub enum Lost {
+    /// It was bound, and now none is.
+    Unbound,
+    /// The session has a newer stream, of this epoch, and stays as it is.
+    Superseded {
+        /// The epoch of that one.
+        epoch: u64,
+    },
+    /// No stream was bound.
+    NotBound,
 }
 
-/// A session: the lines of its stream, its subscriptions, the round of their slots, and its bandwidth. It keeps the
+/// A session: the lines of its streams, its subscriptions, the round of their slots, and its bandwidth. It keeps the
 /// allocator that its constructor took.
 #[derive(Drop)]
 pub struct Session {
@@ -92,12 +96,13 @@ pub struct Session {
 }
 
 impl Session {
-    /// A session of this number at a tick, in ms, whose stream is owed CONOK, SERVNAME and CONS. The texts of END are
-    /// made now, so that the session ends without memory.
+    /// A session of this number at a tick, in ms, whose first stream is owed CONOK, SERVNAME and CONS. The texts of END
+    /// are made now, so that the session ends without memory.
     pub fn new(alloc: Global, id: u64, create: &Create, now: u64) -> Result<Session, NoMemory>
         requires { ForSome create.now.bandwidth (λ limit. 0 < limit) }
         ensures { IfOk result (λ k. now ≤ GREATEST_TICK
-            → StandsSession k (begun_anew now (opened id create.now.keepalive create.now.bandwidth))) }
+            → StandsSession k (begun_anew now
+            (opened id create.now.keepalive create.now.bandwidth create.now.length))) }
     {
         let lines = Lines::new(alloc, id, create)?;
         let asking = Asking::new(alloc, now)?;
@@ -115,11 +120,12 @@ impl Session {
         ensures line { result.now ≡ current_of self.now }
         ensures short { (r : Record) → StandsSession self.now r → length result.now ≤ MOST_LINE }
     {
-        self.lines.current.as_slice()
+        self.lines.current()
     }
 
-    /// The session ends for the cause of a code, [`DESTROYED`] or [`TIMED_OUT`]: its slots leave the round and are
-    /// handed back. One that has ended stays as it is, and hands back none. No memory is taken.
+    /// The session ends for the cause of a code, [`DESTROYED`](ls_stream::DESTROYED) or
+    /// [`TIMED_OUT`](ls_stream::TIMED_OUT): its slots leave the round and are handed back. One that has ended stays as
+    /// it is, and hands back none. No memory is taken.
     pub fn finish(&mut self, code: u16) -> Vec<SlotRef>
         requires { (code ≡ destroyed) ⊎ (code ≡ timed_out) }
         ensures alive { (r : Record) → StandsSession self.old r → is_alive r.session.life ≡ true
@@ -146,51 +152,42 @@ impl Session {
         self.subs.find(sub, place)
     }
 
-    /// The text of a numbered line that isn't given yet. Given lines aren't kept.
+    /// The text of a numbered line that is kept: `None` exactly where the line was given up, or isn't numbered.
     pub fn line(&self, n: u64) -> Option<&[u8]>
         ensures text { IfSome result (λ t. (r : Record) → StandsSession self.now r
             → t.now ≡ text_at r.session.board.lines n) }
         ensures kept { (r : Record) → StandsSession self.now r
-            → is_some result ≡ (nat_lt r.session.sent n && nat_le n (length r.session.board.lines)) }
+            → is_some result ≡ (nat_lt r.session.given_up n && nat_le n (length r.session.board.lines)) }
     {
-        let sent = self.sent();
-        if n <= sent || n > self.lines.last {
-            return None;
-        }
-        match self.lines.unsent.get((n - sent - 1) as usize) {
-            Some(text) => Some(text.as_slice()),
-            None => None,
-        }
+        self.lines.line(n)
     }
 
     /// How many lines were given.
     pub fn sent(&self) -> u64
         ensures { (r : Record) → StandsSession self.now r → result ≡ r.session.sent }
     {
-        self.lines
-            .last
-            .saturating_sub(self.lines.unsent.len() as u64)
+        self.lines.sent()
     }
 
     /// How many lines were numbered.
     pub fn last(&self) -> u64
         ensures { (r : Record) → StandsSession self.now r → result ≡ length r.session.board.lines }
     {
-        self.lines.last
+        self.lines.last()
     }
 
     /// How many streams it has had.
     pub fn epoch(&self) -> u64
         ensures { (r : Record) → StandsSession self.now r → result ≡ length r.session.streams }
     {
-        self.lines.epoch
+        self.lines.epoch()
     }
 
     /// The code of the cause for which it has ended: `None` exactly where it hasn't.
     pub fn ended(&self) -> Option<u16>
         ensures { (r : Record) → StandsSession self.now r → result ≡ ended_by r.session.life }
     {
-        match self.lines.life {
+        match self.lines.life() {
             Life::Alive => None,
             Life::Ending(code) => Some(code),
             Life::Ended(code) => Some(code),
@@ -201,7 +198,7 @@ impl Session {
     pub fn is_alive(&self) -> bool
         ensures { (r : Record) → StandsSession self.now r → result ≡ is_alive r.session.life }
     {
-        match self.lines.life {
+        match self.lines.life() {
             Life::Alive => true,
             Life::Ending(_) => false,
             Life::Ended(_) => false,

@@ -1,7 +1,7 @@
 //! Texts of the lines that tell of a change of a subscription (TLCP 2.1, UNSUB and CONF).
 ghost use Rattle.std.specs.Prelude.{◌≡◌, ◌<◌, ◌^◌, [], Some, IfOk};
 ghost use Rattle.ls_world.specs.Lines.{Ends, Configures, line_text};
-ghost use Rattle.ls_session.specs.Session.{IsShort};
+ghost use Rattle.ls_stream.specs.Standing.{IsShort};
 
 use ls_line::{Line, text};
 use ls_subs::configure_text;

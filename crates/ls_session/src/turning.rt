@@ -2,66 +2,35 @@
 ghost use Rattle.std.specs.Prelude.{◌≡◌, ◌≤◌, false, slice_get};
 ghost use Rattle.ls_budget.specs.declared.limits.TheConstants.{GREATEST_TICK};
 ghost use Rattle.ls_session.specs.Asking.{begun};
-ghost use Rattle.ls_session.specs.Record.{Record, turned, owed_turned, round_turned, round_asked};
-ghost use Rattle.ls_session.specs.Session.{StandsSession, AnswersTurn, turn_of_wait};
-ghost use Rattle.ls_session.specs.declared.session.Turn.TheVariants as turn;
+ghost use Rattle.ls_session.specs.Record.{Record, turned, round_turned, round_asked};
+ghost use Rattle.ls_session.specs.Session.{StandsSession, AnswersTurn, turn_of, turn_of_wait};
 
 use crate::asking::Asked;
 use crate::budgets::is_now;
-use crate::session::{Ask, Life, Session, Turn};
-use ls_value::{Bytes, GREATEST_NUMBER};
-use std::mem::swap;
+use crate::session::{Ask, Session, Turn};
+use ls_stream::StreamTurn;
+use ls_value::GREATEST_NUMBER;
 
 impl Session {
-    /// A turn at a tick, in ms, which isn't before that of the last turn: an owed line, else the next numbered line
-    /// that isn't given, else the question what the next slot of the round has to tell, else nothing, before the least
-    /// tick at which one of the slots that wait is due. The round begins anew at another tick, and where a question
-    /// wasn't answered. A session that has ended gives END once, and nothing else. No memory is taken.
-    pub fn turn(&mut self, now: u64) -> Turn
+    /// A turn at a tick, in ms, which isn't before that of the last turn, for the stream of an epoch: an owed line,
+    /// else LOOP where the stream is over, which leaves the session without one, else the next numbered line that isn't
+    /// given, else the question what the next slot of the round has to tell, else nothing, before the least tick at
+    /// which one of the slots that wait is due. The round begins anew at another tick, and where a question wasn't
+    /// answered. A session that has ended gives END once, and nothing else. Nothing is given on an older stream, or
+    /// where none is bound. No memory is taken.
+    pub fn turn(&mut self, now: u64, epoch: u64) -> Turn
         ensures { (r : Record) → StandsSession self.old r → r.tick ≤ now → now ≤ GREATEST_TICK
-            → AnswersTurn (turned now r).gives result self.new × StandsSession self.new (turned now r).after }
+            → AnswersTurn (turned now epoch r).gives result self.new
+            × StandsSession self.new (turned now epoch r).after }
     {
-        match self.lines.life {
-            Life::Alive => self.turn_alive(now),
-            Life::Ending(code) => {
+        let given = self.lines.turn(now, epoch);
+        match given {
+            StreamTurn::Nothing => self.turn_round(now),
+            _ => {
                 self.asking.begin(now);
-                self.lines.life = Life::Ended(code);
-                swap(&mut self.lines.current, &mut self.lines.end);
-                Turn::Send
-            }
-            Life::Ended(code) => {
-                self.asking.begin(now);
-                Turn::Ended { code }
+                turn_of(given)
             }
         }
-    }
-
-    /// The turn of a session that hasn't ended.
-    fn turn_alive(&mut self, now: u64) -> Turn
-        ensures { (r : Record) → StandsSession self.old r → r.tick ≤ now → now ≤ GREATEST_TICK
-            → AnswersTurn (owed_turned now r r.session.owed).gives result self.new
-            × StandsSession self.new (owed_turned now r r.session.owed).after }
-    {
-        if let Some(line) = self.lines.owed.pop_front() {
-            return self.give(line, now);
-        }
-        if let Some(line) = self.lines.unsent.pop_front() {
-            return self.give(line, now);
-        }
-        self.turn_round(now)
-    }
-
-    /// The line is the current one, and the round begins anew.
-    fn give(&mut self, line: Bytes, now: u64) -> Turn
-        ensures gives { result ≡ turn.Send }
-        ensures line { self.new ≡ record self.old {
-          lines = record self.old.lines { current = line };
-          asking = begun now self.old.asking;
-        } }
-    {
-        self.asking.begin(now);
-        self.lines.current = line;
-        Turn::Send
     }
 
     /// The round goes on, or begins anew.
@@ -90,7 +59,7 @@ impl Session {
             due: self.due(&slot, now),
         };
         let due = is_now(asked.due);
-        if due && self.lines.last >= GREATEST_NUMBER {
+        if due && self.lines.last() >= GREATEST_NUMBER {
             self.asking.begin(now);
             return Turn::Spent;
         }
@@ -109,5 +78,18 @@ impl Session {
             None => Turn::Idle,
             Some(at) => Turn::NotDue { at },
         }
+    }
+}
+
+/// What a turn gives that gave this before the round is asked.
+fn turn_of(given: StreamTurn) -> Turn
+    ensures { result ≡ turn_of given }
+{
+    match given {
+        StreamTurn::Line => Turn::Send,
+        StreamTurn::Superseded { epoch } => Turn::Superseded { epoch },
+        StreamTurn::Unbound => Turn::Unbound,
+        StreamTurn::Ended { code } => Turn::Ended { code },
+        StreamTurn::Nothing => Turn::Idle,
     }
 }

@@ -9,7 +9,6 @@ pub mod Keeping
 pub mod Places
 pub mod Accepting
 pub mod Asks
-pub mod Milli
 pub mod Narrow
 pub mod Planning
 pub mod Mapped

@@ -19,6 +19,8 @@ mod event_text;
 #[cfg(test)]
 mod form;
 #[cfg(test)]
+mod keep;
+#[cfg(test)]
 mod line;
 #[cfg(test)]
 mod made;

@@ -13,11 +13,12 @@ use Rattle.ls_world.specs.Script.{known_of}
 use Rattle.ls_world.proofs.Unmoved.{Unlinked, declared_by, does_unmoved}
 
 -- a connection keeps its name
-names_kept : (n session : ℕ) (cs : List Connection) → map (λ (c : Connection). c.name) (change n (λ c. record c { session = Some session }) cs)
+names_kept : (n session epoch : ℕ) (cs : List Connection)
+    → map (λ (c : Connection). c.name) (change n (λ c. record c { session = Some session; epoch = epoch }) cs)
     ≡ map (λ (c : Connection). c.name) cs
-names_kept n session [] = refl
-names_kept zero session (c ∷ cs) = refl
-names_kept (suc n) session (c ∷ cs) = ap (λ ns. c.name ∷ ns) (names_kept n session cs)
+names_kept n session epoch [] = refl
+names_kept zero session epoch (c ∷ cs) = refl
+names_kept (suc n) session epoch (c ∷ cs) = ap (λ ns. c.name ∷ ns) (names_kept n session epoch cs)
 
 -- and an item its definition
 definitions_kept : (n : ℕ) (e : Entry) (items : List Item) → map (λ (i : Item). i.definition) (change n (grown e) items)
@@ -37,14 +38,15 @@ knows_unlinked k =
         sessions = λ w ss p. p;
         grows = λ w item e p. ap (λ ds. record (known_of w) { items = ds }) (definitions_kept item e w.items) ∙ p;
       };
-      links = λ w connection session p. ap (λ ns. record (known_of w) { connections = ns }) (names_kept connection session w.connections) ∙ p;
+      links = λ w connection session epoch p.
+          ap (λ ns. record (known_of w) { connections = ns }) (names_kept connection session epoch w.connections) ∙ p;
     }
 
 connects_known : (w : World) (name : List ℕ) (l : LinkKind) → known_of (connects w name l)
     ≡ record (known_of w) { connections = (known_of w).connections ++ name ∷ [] }
 connects_known w name l =
     ap (λ ns. record (known_of w) { connections = ns }) (map-append (λ (c : Connection). c.name) w.connections
-    (record { name = name; link = l; session = None } ∷ []))
+    (record { name = name; link = l; session = None; epoch = 0 } ∷ []))
 
 declared_known : (w : World) (s : Step) → known_of (declared_by w s) ≡ known_after (known_of w) s
 declared_known w (step.Set name) = refl
@@ -86,5 +88,6 @@ declared_counts w (step.Lose connection) = refl
 
 pub does_counts : (w : World) (s : Step) (times : ℕ) → (does w s times).after.line ≡ w.line
 does_counts w s times =
-    does_unmoved (Counts w.line) (record { rest = record { sessions = λ v ss p. p; grows = λ v item e p. p }; links = λ v connection session p. p }) w s times
+    does_unmoved (Counts w.line)
+    (record { rest = record { sessions = λ v ss p. p; grows = λ v item e p. p }; links = λ v connection session epoch p. p }) w s times
     (declared_counts w s)

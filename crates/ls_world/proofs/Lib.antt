@@ -11,3 +11,5 @@ pub mod Naming
 pub mod EachKey
 pub mod Short
 pub mod Weights
+pub mod Texts
+pub mod Milli

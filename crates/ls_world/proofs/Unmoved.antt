@@ -1,11 +1,13 @@
 -- What events, enqueues, turns and requests leave of a world as it was.
-use Rattle.std.proofs.Common.{ℕ, ◌+◌, List, [], ◌∷◌, ◌++◌, length, Option, None, codes, cond, nat_lt, slice_get}
+use Rattle.std.proofs.Common.{ℕ, ◌+◌, List, [], ◌∷◌, ◌++◌, length, Option, None, Some, codes, cond, map, nat_lt, slice_get}
 use Rattle.std.specs.Prelude.{option_and_then}
 use Rattle.ls_event.specs.declared.event.Entry.{Entry}
 use Rattle.ls_event.specs.declared.event.Event.TheVariants.{Update, Clear}
 use Rattle.ls_form.specs.declared.form.Pair.{Pair}
 use Rattle.ls_form.specs.Forms.{form_of}
+use Rattle.ls_request.specs.declared.request.LinkKind.{LinkKind}
 use Rattle.ls_request.specs.declared.request.LinkKind.TheVariants as link
+use Rattle.ls_request.specs.declared.request.Bind.{Bind}
 use Rattle.ls_request.specs.declared.request.Create.{Create}
 use Rattle.ls_request.specs.declared.request.Op.{Op}
 use Rattle.ls_request.specs.declared.request.Op.TheVariants as op
@@ -16,12 +18,12 @@ use Rattle.ls_step.specs.declared.step.Step.{Step}
 use Rattle.ls_step.specs.declared.step.Step.TheVariants as step
 use Rattle.ls_step.specs.Adding.{add_pairs}
 use Rattle.ls_world.specs.World.{World, Session, history_of, change, live_at, enqueued_in, on_board, opened, ended, removed, is_alive}
-use Rattle.ls_world.specs.World.{reconfigured, constrained}
-use Rattle.ls_world.specs.Acting.{subscribed, add_code, change_code, constrain_code, create_code, destroyed}
+use Rattle.ls_world.specs.World.{reconfigured, constrained, numbered, forced, rebound, is_bound, unbound_at, unless_timed_out}
+use Rattle.ls_world.specs.Acting.{subscribed, add_code, change_code, constrain_code, create_code, bind_code, destroyed}
 use Rattle.ls_world.specs.Steps.{Stepped, Once, repeated, session_of, grown, is_whole, cause_to_refuse, publishes, with_link, creates, operated, operates}
-use Rattle.ls_world.specs.Steps.{session_named, refuses}
-use Rattle.ls_world.specs.Steps.{acts, is_opening, malformed, request_on, requests, connects, plain_create, enqueue_once, TurnGives, Gave, Idle, NotDue, Spent}
-use Rattle.ls_world.specs.Steps.{Over}
+use Rattle.ls_world.specs.Steps.{session_named, refuses, refuses_stream, bound, binds, epoch_of, link_of, loses, stays}
+use Rattle.ls_world.specs.Steps.{acts, is_opening, malformed, request_over, requests, connects, plain_create, enqueue_once, TurnGives, Gave, Idle, NotDue}
+use Rattle.ls_world.specs.Steps.{Spent, Superseded, Unbound, Over, SessionTurn}
 use Rattle.ls_world.specs.Steps.{session_turn, took, take_once, does}
 use Rattle.ls_world.proofs.Rules.{found_rule, session_rule, cond_rule, repeated_keeps}
 
@@ -30,10 +32,10 @@ pub record Unmoved (P : World → Type 0) : Type 0 where
   pub sessions : (w : World) (ss : List Session) → P w → P (record w { sessions = ss })
   pub grows : (w : World) (item : ℕ) (e : Entry) → P w → P (record w { items = change item (grown e) w.items })
 
--- and whichever session a connection is given
+-- and whichever session and epoch a connection is given
 pub record Unlinked (P : World → Type 0) : Type 0 where
   pub rest : Unmoved P
-  pub links : (w : World) (connection session : ℕ) → P w → P (with_link connection session w)
+  pub links : (w : World) (connection session epoch : ℕ) → P w → P (with_link connection session epoch w)
 
 -- enqueues and turns
 pub enqueues_unmoved : (P : World → Type 0) → Unmoved P → (connection sub rank times : ℕ) (w : World) → P w
@@ -50,13 +52,24 @@ took_unmoved P k w connection n s (Gave text) p = k.sessions w (change n (λ old
 took_unmoved P k w connection n s Idle p = k.sessions w (change n (λ old. s) w.sessions) p
 took_unmoved P k w connection n s (NotDue tick) p = k.sessions w (change n (λ old. s) w.sessions) p
 took_unmoved P k w connection n s Spent p = p
+took_unmoved P k w connection n s (Superseded epoch) p = p
+took_unmoved P k w connection n s Unbound p = p
 took_unmoved P k w connection n s (Over code) p = p
 
 pub takes_unmoved : (P : World → Type 0) → Unmoved P → (connection times : ℕ) (w : World) → P w → P (repeated (take_once connection) times w).after
 takes_unmoved P k connection times w p =
     repeated_keeps P (take_once connection) times w
     (λ v q. session_rule (λ (r : Once). P r.after) v.sessions (session_of v connection) _ _ q
-    (λ n s is. took_unmoved P k v connection n (session_turn v.tick v.items s).session (session_turn v.tick v.items s).gives q)) p
+    (λ n s is. let t : SessionTurn = session_turn v.tick v.items (epoch_of v connection) s in
+    took_unmoved P k v connection n t.session t.gives q)) p
+
+-- a loss
+loses_unmoved : (P : World → Type 0) → Unmoved P → (w : World) (connection : ℕ) → P w → P (loses w connection).after
+loses_unmoved P k w connection p =
+    session_rule (λ (r : Stepped). P r.after) w.sessions (session_of w connection) _ _ p
+    (λ n s is. cond_rule (λ (r : Stepped). P r.after) (nat_lt (epoch_of w connection) (length s.streams)) _ _ (λ t. p)
+    (λ t. cond_rule (λ (r : Stepped). P r.after) (is_bound s) _ _
+    (λ t. k.sessions w (change n (unbound_at w.tick) w.sessions) p) (λ t. p)))
 
 -- a publish
 pub publishes_unmoved : (P : World → Type 0) → Unmoved P → (w : World) (item : ℕ) (e : Entry) → P w → P (publishes w item e).after
@@ -68,9 +81,9 @@ publishes_unmoved P k w item e p =
 -- requests
 creates_unmoved : (P : World → Type 0) → Unlinked P → (w : World) (connection : ℕ) (c : Create) → P w → P (creates w connection c).after
 creates_unmoved P k w connection c p =
-    let ss : List Session = w.sessions ++ opened (length w.sessions + 1) c.keepalive c.bandwidth ∷ [] in
+    let ss : List Session = w.sessions ++ opened (length w.sessions + 1) c.keepalive c.bandwidth c.length ∷ [] in
     found_rule (λ (r : Stepped). P r.after) (create_code w c) _ _
-    (λ x. k.links (record w { sessions = ss }) connection (length w.sessions) (k.rest.sessions w ss p)) (λ code x. p)
+    (λ x. k.links (record w { sessions = ss }) connection (length w.sessions) 1 (k.rest.sessions w ss p)) (λ code x. p)
 
 operated_unmoved : (P : World → Type 0) → Unmoved P → (w : World) (connection : ℕ) (req : List ℕ) (n : ℕ) (code : Option ℕ) (f : Session → Session) → P w
     → P (operated w connection req n code f).after
@@ -80,17 +93,25 @@ operated_unmoved P k w connection req n code f p =
 operates_unmoved : (P : World → Type 0) → Unmoved P → (w : World) (connection : ℕ) (req : List ℕ) (o : Op) (n : ℕ) (s : Session) → P w
     → P (operates w connection req o n s).after
 operates_unmoved P k w connection req (op.Add a) n s p = operated_unmoved P k w connection req n (add_code w s a) (subscribed w a) p
-operates_unmoved P k w connection req (op.Delete sub) n s p = operated_unmoved P k w connection req n (change_code s sub) (on_board (removed sub)) p
+operates_unmoved P k w connection req (op.Delete sub) n s p = operated_unmoved P k w connection req n (change_code s sub) (numbered (removed sub)) p
 operates_unmoved P k w connection req (op.Reconf sub frequency) n s p =
-    operated_unmoved P k w connection req n (change_code s sub) (on_board (reconfigured sub frequency)) p
+    operated_unmoved P k w connection req n (change_code s sub) (numbered (reconfigured sub frequency)) p
 operates_unmoved P k w connection req (op.Constrain limit) n s p =
     operated_unmoved P k w connection req n (constrain_code s) (constrained limit) p
-operates_unmoved P k w connection req op.ForceRebind n s p = p
+operates_unmoved P k w connection req op.ForceRebind n s p = operated_unmoved P k w connection req n None forced p
 operates_unmoved P k w connection req op.Destroy n s p = operated_unmoved P k w connection req n None (ended destroyed) p
+
+binds_unmoved : (P : World → Type 0) → Unlinked P → (w : World) (connection : ℕ) (b : Bind) → P w → P (binds w connection b).after
+binds_unmoved P k w connection b p =
+    session_rule (λ (r : Stepped). P r.after) w.sessions (session_named w connection (Some b.session)) _ _ p
+    (λ n s is. cond_rule (λ (r : Stepped). P r.after) (is_alive s.life) _ _
+    (λ t. found_rule (λ (r : Stepped). P r.after) (bind_code s b) _ _
+    (λ x. k.links (record w { sessions = change n (rebound b.session b) w.sessions }) connection n (length s.streams + 1)
+    (k.rest.sessions w (change n (rebound b.session b) w.sessions) p)) (λ code x. p)) (λ t. p))
 
 acts_unmoved : (P : World → Type 0) → Unlinked P → (w : World) (connection : ℕ) (r : Request) → P w → P (acts w connection r).after
 acts_unmoved P k w connection (request.Create c) p = creates_unmoved P k w connection c p
-acts_unmoved P k w connection (request.Bind b) p = p
+acts_unmoved P k w connection (request.Bind b) p = binds_unmoved P k w connection b p
 acts_unmoved P k w connection (request.Control c) p =
     session_rule (λ (r : Stepped). P r.after) w.sessions (session_named w connection c.session) _
     (λ n s. cond (is_alive s.life) (operates w connection c.req c.op n s) (refuses w connection c.req 20)) p
@@ -101,10 +122,10 @@ malformed_unmoved : (P : World → Type 0) (w : World) (connection : ℕ) (name 
 malformed_unmoved P w connection name req p =
     cond_rule (λ (r : Stepped). P r.after) (is_opening name) _ _ (λ t. p) (λ t. found_rule (λ (r : Stepped). P r.after) req _ _ (λ x. p) (λ r x. p))
 
-requests_unmoved : (P : World → Type 0) → Unlinked P → (w : World) (connection : ℕ) (name : List ℕ) (ps : Option (List Pair)) → P w
-    → P (requests w connection name ps).after
-requests_unmoved P k w connection name ps p =
-    found_rule (λ (r : Stepped). P r.after) (request_on w connection name ps) _ (acts w connection)
+requests_unmoved : (P : World → Type 0) → Unlinked P → (w : World) (connection : ℕ) (l : LinkKind) (name : List ℕ) (ps : Option (List Pair))
+    → P w → P (requests w connection l name ps).after
+requests_unmoved P k w connection l name ps p =
+    found_rule (λ (r : Stepped). P r.after) (request_over l name ps) _ (acts w connection)
     (λ x. malformed_unmoved P w connection name (option_and_then (req_behind name) ps) p) (λ r x. acts_unmoved P k w connection r p)
 
 -- what a step itself declares
@@ -129,15 +150,15 @@ declared_by w (step.Lose connection) = w
 pub does_unmoved : (P : World → Type 0) → Unlinked P → (w : World) (s : Step) (times : ℕ) → P (declared_by w s) → P (does w s times).after
 does_unmoved P k w (step.Set name) times p = p
 does_unmoved P k w (step.Item name kind fields) times p = p
-does_unmoved P k w (step.Tick ms) times p = p
+does_unmoved P k w (step.Tick ms) times p = k.rest.sessions (record w { tick = ms }) (map (unless_timed_out ms) w.sessions) p
 does_unmoved P k w (step.Conn name l) times p = p
 does_unmoved P k w (step.Open name) times p =
     creates_unmoved P k (connects w name link.Ws) (length w.connections) plain_create p
-does_unmoved P k w (step.Add connection words) times p = requests_unmoved P k w connection (codes "control") (add_pairs w.line words) p
-does_unmoved P k w (step.Request connection name parameters) times p = requests_unmoved P k w connection name (form_of parameters) p
+does_unmoved P k w (step.Add connection words) times p = requests_unmoved P k w connection link.Ws (codes "control") (add_pairs w.line words) p
+does_unmoved P k w (step.Request connection name parameters) times p = requests_unmoved P k w connection (link_of w connection) name (form_of parameters) p
 does_unmoved P k w (step.Publish adapter seq item cells) times p = publishes_unmoved P k.rest w item
     (record { adapter = adapter; seq = seq; event = Update cells }) p
 does_unmoved P k w (step.Clear adapter seq item) times p = publishes_unmoved P k.rest w item (record { adapter = adapter; seq = seq; event = Clear }) p
 does_unmoved P k w (step.Enqueue connection sub rank) times p = enqueues_unmoved P k.rest connection sub rank times w p
 does_unmoved P k w (step.Take connection) times p = takes_unmoved P k.rest connection times w p
-does_unmoved P k w (step.Lose connection) times p = p
+does_unmoved P k w (step.Lose connection) times p = loses_unmoved P k.rest w connection p

@@ -10,12 +10,13 @@ use Rattle.ls_event.specs.declared.event.Mode.TheVariants as mode
 use Rattle.ls_event.specs.declared.event.Snap.{Snap}
 use Rattle.ls_event.specs.Joining.{is_mode_of, rows_asked, buffer_size}
 use Rattle.ls_request.specs.declared.request.Add.{Add}
+use Rattle.ls_request.specs.declared.request.Bind.{Bind}
 use Rattle.ls_request.specs.declared.request.Create.{Create}
 use Rattle.ls_value.specs.Values.{are_distinct}
 use Rattle.ls_world.specs.Cutting.{Ask}
 use Rattle.ls_world.specs.Cases.{first_code}
 use Rattle.ls_world.specs.World.{World, Live, Session, definitions, shape_in, fields_in, is_used, all_live}
-use Rattle.ls_world.specs.World.{free_number, added, on_board, alive, frequency_in}
+use Rattle.ls_world.specs.World.{free_number, added, numbered, alive, frequency_in}
 use Rattle.ls_world.specs.declared.TheConstants.{MOST_GROUP_ITEMS, MOST_SESSIONS, MOST_SUBSCRIPTIONS, MOST_UNSENT}
 use Rattle.ls_event.specs.declared.limits.TheConstants.{MOST_FIELDS, MOST_SLOTS}
 use Rattle.ls_value.specs.declared.limits.TheConstants.{GREATEST_NUMBER}
@@ -24,6 +25,7 @@ use Rattle.ls_value.specs.declared.limits.TheConstants.{GREATEST_NUMBER}
 abbrev pub message_of : ℕ → List ℕ
 message_of code =
     if code == 2 then codes "Unknown adapter set"
+    else if code == 4 then codes "Recovery not possible"
     else if code == 8 then codes "Too many sessions"
     else if code == 19 then codes "Unknown subscription"
     else if code == 20 then codes "Unknown session"
@@ -99,7 +101,7 @@ asks_of defs a = map (λ n. ask_of a n (places_among (fields_in defs n) a.schema
 -- a session with the subscription that an add asks for
 abbrev pub subscribed : World → Add → Session → Session
 subscribed w a =
-    on_board (added w.items (free_number w.sessions) a.sub (length a.schema) (asks_of (definitions w.items) a))
+    numbered (added w.items (free_number w.sessions) a.sub (length a.schema) (asks_of (definitions w.items) a))
 
 -- how many subscriptions are in a round: each has one first item
 abbrev pub subscriptions : List Live → ℕ
@@ -165,3 +167,13 @@ create_code w c =
     ∷ (8, nat_le MOST_SESSIONS (alive w.sessions))
     ∷ (74, nat_le GREATEST_NUMBER (length w.sessions))
     ∷ [])
+
+-- whether a client may go on behind the lines that it says it has: the next one is kept, or is yet to be numbered
+abbrev pub may_resume : Session → Option ℕ → Bool
+may_resume s None = true
+may_resume s (Some count) = nat_le s.given_up count && nat_le count (length s.board.lines)
+
+-- what a bind is refused for, in this order
+abbrev pub bind_code : Session → Bind → Option ℕ
+bind_code s b =
+    first_code ((4, not (may_resume s b.recover)) ∷ (74, nat_le GREATEST_NUMBER (length s.streams)) ∷ [])

@@ -53,28 +53,57 @@ NoTurn h w s k =
     ⊎ ((row_at k (keyed s.plan.shape h s.cursor) ≡ None)
     ⊎ ((c : ℕ) × (last_clear h s.cursor s.last ≡ Some c))))
 
--- the row of a key's turn, by the client's row of the key and the item's: ADD where the item alone has one, UPDATE
--- where both have one and they differ, DELETE where the client alone has one. Else there is no row
-abbrev pub IsKeyRow : KeyPlaces → ℕ → List ℕ → Option (List Value) → Option (List Value) → List Value → Type 0
-IsKeyRow at fields k None None r = ⊥
-IsKeyRow at fields k None (Some new) r = r ≡ with_word at (codes "ADD") new
-IsKeyRow at fields k (Some old) None r = r ≡ delete_row at fields k
-IsKeyRow at fields k (Some old) (Some new) r = (old ≡ new → ⊥) × (r ≡ with_word at (codes "UPDATE") new)
+-- a key's turn: where a schema of so many fields shows the key and the command, the key, and the rows of it that the
+-- client and the item have
+pub record KeyTurn : Type 0 where
+  pub at : KeyPlaces
+  pub fields : ℕ
+  pub key : List ℕ
+  pub client : Option (List Value)
+  pub item : Option (List Value)
 
--- a row tells a client, to whom this had come, of a key as the item had it after so many events of its history, at the
--- places of a schema
-pub record HadKey (p : Shape) (h : List Entry) (places : List ℕ) (before : List What) (i : ℕ) (r : List Value) : Type 0
-  where
-    pub within : i ≤ length h
-    pub key : List ℕ
-    pub row : IsKeyRow (keys_shown_at p places) (length places) key (table_at (keys_shown_at p places) key before)
-        (projected_row places (row_at key (keyed p h i))) r
+-- its row: ADD where the item alone has one, UPDATE where both have one and they differ, DELETE where the client alone
+-- has one. Else there is no row
+abbrev pub IsRowOf : KeyTurn → Option (List Value) → Option (List Value) → List Value → Type 0
+IsRowOf t None None r = ⊥
+IsRowOf t None (Some new) r = r ≡ with_word t.at (codes "ADD") new
+IsRowOf t (Some old) None r = r ≡ delete_row t.at t.fields t.key
+IsRowOf t (Some old) (Some new) r = (old ≡ new → ⊥) × (r ≡ with_word t.at (codes "UPDATE") new)
+
+abbrev pub IsKeyRow : KeyTurn → List Value → Type 0
+IsKeyRow t r = IsRowOf t t.client t.item r
+
+-- an item as a schema shows it: its shape, its history, and the places of the schema in it
+pub record ShownItem : Type 0 where
+  pub shape : Shape
+  pub history : List Entry
+  pub places : List ℕ
+
+-- the turn of a key of it after so many events, of a client to whom this had come
+abbrev pub key_turn_at : ShownItem → List What → ℕ → List ℕ → KeyTurn
+key_turn_at v before i key =
+    let at : KeyPlaces = keys_shown_at v.shape v.places in
+    record {
+      at = at;
+      fields = length v.places;
+      key = key;
+      client = table_at at key before;
+      item = projected_row v.places (row_at key (keyed v.shape v.history i));
+    }
+
+-- a row is that of the turn of a key of the item after so many events
+pub record HadKey (v : ShownItem) (before : List What) (i : ℕ) (r : List Value) : Type 0 where
+  pub within : i ≤ length v.history
+  pub key : List ℕ
+  pub row : IsKeyRow (key_turn_at v before i key) r
 
 -- a line of mode COMMAND, by what had come before it: a row tells of all events that were enqueued then
 pub record IsKeyLine (p : Shape) (h : List Entry) (places : List ℕ) (before : List What) (c : Came) : Type 0 where
   pub reached : c.upto ≤ c.at
   pub within : c.at ≤ length h
-  pub rows : (r : List Value) → c.what ≡ Row r → (c.upto ≡ c.at) × HadKey p h places before c.upto r
+  pub rows :
+      (r : List Value) → c.what ≡ Row r
+      → (c.upto ≡ c.at) × HadKey (record { shape = p; history = h; places = places }) before c.upto r
 
 -- each tells of no more than so many events
 abbrev pub AreUpTo : ℕ → List Came → Type 0

@@ -83,16 +83,23 @@ abbrev pub Follows : ℕ → List ℕ → Type 0
 Follows from [] = Unit {0}
 Follows from (n ∷ ns) = (n ≡ from + length ns + 1) × Follows from ns
 
--- those of each stream do, and the last number given is that of the newest
-abbrev pub LawfulStreams : ℕ → List Stream → Type 0
-LawfulStreams sent [] = ⊥
-LawfulStreams sent (t ∷ ts) = (sent ≡ t.from + length t.given) × Each (λ u. Follows u.from u.given) (t ∷ ts)
+-- those of a stream do, and are of numbered lines
+pub record LawfulStream (lines : ℕ) (t : Stream) : Type 0 where
+  pub follows : Follows t.from t.given
+  pub numbered : t.from + length t.given ≤ lines
 
--- a session's board is lawful, no more lines were given than numbered, and each stream has its own without a gap
+-- each stream that a session ever had is lawful, and the last number given is that of the newest
+abbrev pub LawfulStreams : ℕ → ℕ → List Stream → Type 0
+LawfulStreams lines sent [] = ⊥
+LawfulStreams lines sent (t ∷ ts) = (sent ≡ t.from + length t.given) × Each (LawfulStream lines) (t ∷ ts)
+
+-- a session's board is lawful, no more lines were given than numbered, none is given up that wasn't given, and each
+-- stream has its own without a gap
 pub record LawfulSession (items : List Item) (s : Session) : Type 0 where
   pub board : LawfulBoard items s.board
   pub sent : s.sent ≤ length s.board.lines
-  pub streams : LawfulStreams s.sent s.streams
+  pub given_up : s.given_up ≤ s.sent
+  pub streams : LawfulStreams (length s.board.lines) s.sent s.streams
 
 -- an item has a shape (as many fields as it may have, and in kind COMMAND a key and a command apart), fields with
 -- distinct names, and a history

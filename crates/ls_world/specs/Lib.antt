@@ -11,7 +11,6 @@ pub mod DistinctMode
 pub mod CommandMode
 pub mod ClientKeys
 pub mod Steps
-pub mod Built
 pub mod Script
 pub mod Lawful
 pub mod Ranges

@@ -78,6 +78,11 @@ abbrev pub text_at : List Line → ℕ → List ℕ
 text_at [] n = []
 text_at (l ∷ lines) n = if n == length lines + 1 then line_text lines l else text_at lines n
 
+-- the texts of the lines numbered from n + 1 on, in their order, where the newest of all lines stands first
+abbrev pub texts_behind : ℕ → List Line → List (List ℕ)
+texts_behind n [] = []
+texts_behind n (l ∷ lines) = if nat_lt n (length lines + 1) then texts_behind n lines ++ line_text lines l ∷ [] else []
+
 -- whether a line that tells is an update, U
 abbrev pub is_update : What → Bool
 is_update (Row r) = true

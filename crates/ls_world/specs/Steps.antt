@@ -1,6 +1,6 @@
 -- One step of the world, and what it prints (this project's profile).
 use Rattle.std.specs.Prelude.{ℕ, zero, suc, ◌+◌, List, [], ◌∷◌, ◌++◌, length, Bool, true, false, Option, None, Some}
-use Rattle.std.specs.Prelude.{◌&&◌, nat_lt, nat_le, nat_eq, codes, if◌then◌else◌, slice_get, option_and_then}
+use Rattle.std.specs.Prelude.{map, ◌&&◌, nat_lt, nat_le, nat_eq, codes, if◌then◌else◌, slice_get, option_and_then}
 use Rattle.std.specs.List.{list_any}
 use Rattle.std.specs.Option.{option_map_or}
 use Rattle.ls_event.specs.declared.event.Entry.{Entry}
@@ -18,6 +18,7 @@ use Rattle.ls_request.specs.declared.request.LinkKind.{LinkKind}
 use Rattle.ls_request.specs.declared.request.LinkKind.TheVariants as link
 use Rattle.ls_request.specs.declared.request.Request.{Request}
 use Rattle.ls_request.specs.declared.request.Request.TheVariants as request
+use Rattle.ls_request.specs.declared.request.Bind.{Bind}
 use Rattle.ls_request.specs.declared.request.Create.{Create}
 use Rattle.ls_request.specs.declared.request.Op.{Op}
 use Rattle.ls_request.specs.declared.request.Op.TheVariants as op
@@ -33,8 +34,11 @@ use Rattle.ls_world.specs.Cases.{with_found}
 use Rattle.ls_world.specs.Lines.{text_at}
 use Rattle.ls_world.specs.World.{World, Item, Life, Alive, Ending, Ended, Session, history_of, change, live_at}
 use Rattle.ls_world.specs.World.{enqueued_in, least_far, round_of, taken_in, on_board, is_unsent, given_next, removed}
+use Rattle.ls_world.specs.World.{numbered, on_stream, with_text, is_to_loop, is_bound, unbound_at, rebound, forced}
 use Rattle.ls_world.specs.World.{reconfigured, constrained, is_due, least_wait, opened, ended, is_alive}
-use Rattle.ls_world.specs.Acting.{message_of, subscribed, add_code, change_code, constrain_code, create_code, destroyed}
+use Rattle.ls_world.specs.World.{unless_timed_out}
+use Rattle.ls_world.specs.Acting.{message_of, subscribed, add_code, change_code, constrain_code, create_code, bind_code}
+use Rattle.ls_world.specs.Acting.{destroyed}
 use Rattle.ls_value.specs.declared.limits.TheConstants.{GREATEST_NUMBER}
 
 -- the world after a step, and what is printed
@@ -72,9 +76,12 @@ abbrev pub with_living : {A : Type 0} → List Session → Option ℕ → A → 
 with_living sessions place none f =
     with_session sessions place none (λ n s. if is_alive s.life then f n s else none)
 
--- a connection's session, name and link
+-- a connection's session, epoch, name and link
 abbrev pub session_of : World → ℕ → Option ℕ
 session_of w connection = option_and_then (λ c. c.session) (slice_get w.connections connection)
+
+abbrev pub epoch_of : World → ℕ → ℕ
+epoch_of w connection = option_map_or (λ c. c.epoch) (slice_get w.connections connection) 0
 
 abbrev pub name_of : World → ℕ → List ℕ
 name_of w connection = option_map_or (λ c. c.name) (slice_get w.connections connection) []
@@ -125,22 +132,32 @@ publishes w item e =
     (λ cause. stays w (refused_out cause))
     else stays w [])
 
--- a connection has a session, by its place from 0
-abbrev pub with_link : ℕ → ℕ → World → World
-with_link connection session w =
-    record w { connections = change connection (λ c. record c { session = Some session }) w.connections }
+-- a connection has a session, by its place from 0, and the stream of an epoch
+abbrev pub with_link : ℕ → ℕ → ℕ → World → World
+with_link connection session epoch w =
+    record w {
+      connections = change connection (λ c. record c { session = Some session; epoch = epoch }) w.connections;
+    }
 
--- a new session, which is the connection's
+-- a new session, whose first stream is the connection's
 abbrev pub created : World → ℕ → Create → World
 created w connection c =
-    with_link connection (length w.sessions)
-    (record w { sessions = w.sessions ++ opened (length w.sessions + 1) c.keepalive c.bandwidth ∷ [] })
+    with_link connection (length w.sessions) 1
+    (record w { sessions = w.sessions ++ opened (length w.sessions + 1) c.keepalive c.bandwidth c.length ∷ [] })
+
+-- a request for a stream is refused (TLCP 2.1, CONERR)
+abbrev pub refuses_stream : World → ℕ → ℕ → Stepped
+refuses_stream w connection code = stays w (on w connection (text_of_line (line.ConErr code (message_of code))))
 
 -- a create_session: the session is made, or it is refused
 abbrev pub creates : World → ℕ → Create → Stepped
 creates w connection c =
-    with_found (create_code w c) (stays (created w connection c) [])
-    (λ code. stays w (on w connection (text_of_line (line.ConErr code (message_of code)))))
+    with_found (create_code w c) (stays (created w connection c) []) (refuses_stream w connection)
+
+-- a new stream of the session of a place, which is the connection's
+abbrev pub bound : World → ℕ → ℕ → Session → Bind → World
+bound w connection n s b =
+    with_link connection n (length s.streams + 1) (record w { sessions = change n (rebound b.session b) w.sessions })
 
 -- an answer to a control request (TLCP 2.1, REQOK and REQERR)
 abbrev pub request_ok : World → ℕ → List ℕ → List Out
@@ -149,10 +166,6 @@ request_ok w connection req = on w connection (text_of_line (line.ReqOk req))
 abbrev pub refuses : World → ℕ → List ℕ → ℕ → Stepped
 refuses w connection req code = stays w (on w connection (text_of_line (line.ReqErr req code (message_of code))))
 
--- what isn't built yet changes nothing
-abbrev pub unbuilt : World → Stepped
-unbuilt w = stays w []
-
 -- what a control request does with a session: it is changed, or the request is refused
 abbrev pub operated : World → ℕ → List ℕ → ℕ → Option ℕ → (Session → Session) → Stepped
 operated w connection req n code f =
@@ -160,17 +173,18 @@ operated w connection req n code f =
     (record { after = record w { sessions = change n f w.sessions }; outs = request_ok w connection req })
     (refuses w connection req)
 
--- a subscription is added, ended, or gets another frequency; the session gets another bandwidth, or is ended
+-- a subscription is added, ended, or gets another frequency; the session gets another bandwidth, or is ended; its
+-- stream is forced to be over
 abbrev pub operates : World → ℕ → List ℕ → Op → ℕ → Session → Stepped
 operates w connection req (op.Add a) n s = operated w connection req n (add_code w s a) (subscribed w a)
 operates w connection req (op.Delete sub) n s =
-    operated w connection req n (change_code s sub) (on_board (removed sub))
+    operated w connection req n (change_code s sub) (numbered (removed sub))
 operates w connection req (op.Reconf sub frequency) n s =
-    operated w connection req n (change_code s sub) (on_board (reconfigured sub frequency))
+    operated w connection req n (change_code s sub) (numbered (reconfigured sub frequency))
 operates w connection req (op.Constrain limit) n s =
     operated w connection req n (constrain_code s) (constrained limit)
 operates w connection req op.Destroy n s = operated w connection req n None (ended destroyed)
-operates w connection req op.ForceRebind n s = unbuilt w
+operates w connection req op.ForceRebind n s = operated w connection req n None forced
 
 -- the session that a control request names by its number from 1, or the connection's
 abbrev pub session_named : World → ℕ → Option ℕ → Option ℕ
@@ -178,10 +192,16 @@ session_named w connection None = session_of w connection
 session_named w connection (Some zero) = None
 session_named w connection (Some (suc n)) = Some n
 
+-- a bind_session: the session that it names has a new stream, or it is refused
+abbrev pub binds : World → ℕ → Bind → Stepped
+binds w connection b =
+    with_living w.sessions (session_named w connection (Some b.session)) (refuses_stream w connection 20) (λ n s.
+    with_found (bind_code s b) (stays (bound w connection n s b) []) (refuses_stream w connection))
+
 -- a request that was read; a control request names a session that hasn't ended
 abbrev pub acts : World → ℕ → Request → Stepped
 acts w connection (request.Create c) = creates w connection c
-acts w connection (request.Bind b) = unbuilt w
+acts w connection (request.Bind b) = binds w connection b
 acts w connection (request.Control c) =
     with_living w.sessions (session_named w connection c.session) (refuses w connection c.req 20)
     (operates w connection c.req c.op)
@@ -194,24 +214,26 @@ is_opening name = if is_word (codes "create_session") name then true else is_wor
 -- a request that is malformed, by its name, and by its LS_reqId where that could be read
 abbrev pub malformed : World → ℕ → List ℕ → Option (List ℕ) → Stepped
 malformed w connection name req =
-    if is_opening name then stays w (on w connection (text_of_line (line.ConErr 65 (message_of 65))))
+    if is_opening name then refuses_stream w connection 65
     else with_found req (stays w (on w connection (text_of_line (line.Error 65 (message_of 65)))))
     (λ r. refuses w connection r 65)
 
--- the request that pairs say, on a connection
-abbrev pub request_on : World → ℕ → List ℕ → Option (List Pair) → Option Request
-request_on w connection name ps = option_and_then (request_of (link_of w connection) name) ps
+-- the request that pairs say, as it is read over a link
+abbrev pub request_over : LinkKind → List ℕ → Option (List Pair) → Option Request
+request_over l name ps = option_and_then (request_of l name) ps
 
--- a request by its name and its pairs, which are none where its parameters are no form
-abbrev pub requests : World → ℕ → List ℕ → Option (List Pair) → Stepped
-requests w connection name ps =
-    with_found (request_on w connection name ps)
+-- a request on a connection by its name and its pairs, which are none where its parameters are no form, as it is read
+-- over a link
+abbrev pub requests : World → ℕ → LinkKind → List ℕ → Option (List Pair) → Stepped
+requests w connection l name ps =
+    with_found (request_over l name ps)
     (malformed w connection name (option_and_then (req_behind name) ps))
     (acts w connection)
 
 -- a new connection
 abbrev pub connects : World → List ℕ → LinkKind → World
-connects w name l = record w { connections = w.connections ++ record { name = name; link = l; session = None } ∷ [] }
+connects w name l =
+    record w { connections = w.connections ++ record { name = name; link = l; session = None; epoch = 0 } ∷ [] }
 
 -- a create_session without parameters: with the keep-alive that is meant where none is said
 abbrev pub plain_create : Create
@@ -234,13 +256,15 @@ enqueue_once connection sub rank w =
     (out.Moved (v.slot.last + 1))
     else ends w out.UpToDate))
 
--- what a session's turn gives: a line, nothing, nothing before a tick, no number for a line, or that the session has
--- ended for the cause of a code
+-- what a session's turn gives: a line, nothing, nothing before a tick, no number for a line, that the session has a
+-- newer stream, of this epoch, that no stream is bound, or that it has ended for the cause of a code
 pub data TurnGives : Type 0 where
   Gave : List ℕ → TurnGives
   Idle : TurnGives
   NotDue : ℕ → TurnGives
   Spent : TurnGives
+  Superseded : ℕ → TurnGives
+  Unbound : TurnGives
   Over : ℕ → TurnGives
 
 -- a session after its turn, and what the turn gives
@@ -268,27 +292,46 @@ round_turn now items s =
       session = on_board (taken_in (is_due now s) now items) s;
       gives = waits_until (least_wait now items s);
     })
-    (λ t. next_given (on_board (taken_in (is_due now s) now items) s))
+    (λ t. next_given (numbered (taken_in (is_due now s) now items) s))
 
--- a session's turn, by what is owed: the first line that is owed; else the next unsent line; else what its round gives
-abbrev pub turn_owing : ℕ → List Item → Session → List (List ℕ) → SessionTurn
-turn_owing now items s (text ∷ owed) = record { session = record s { owed = owed }; gives = Gave text }
-turn_owing now items s [] = if is_unsent s then next_given s else round_turn now items s
+-- what tells a client that its stream is over, and that its session has ended (TLCP 2.1, LOOP and END)
+abbrev pub loop_text : List ℕ
+loop_text = text_of_line line.Loop
 
--- what tells a client that its session has ended (TLCP 2.1, END)
 abbrev pub end_text : ℕ → List ℕ
 end_text code = text_of_line (line.End code (message_of code))
 
--- a session's turn: one that has ended gives END once, and nothing else
-abbrev pub turn_living : ℕ → List Item → Session → Life → SessionTurn
-turn_living now items s Alive = turn_owing now items s s.owed
-turn_living now items s (Ending code) =
-    record { session = record s { life = Ended code }; gives = Gave (end_text code) }
-turn_living now items s (Ended code) = record { session = s; gives = Over code }
+-- a line was given that isn't numbered
+abbrev pub gives_text : List ℕ → Session → SessionTurn
+gives_text text s = record { session = on_stream (with_text text) s; gives = Gave text }
 
--- at a tick
-abbrev pub session_turn : ℕ → List Item → Session → SessionTurn
-session_turn now items s = turn_living now items s s.life
+-- a session's turn, by what is owed: the first line that is owed; else LOOP, where the stream is over, and then none is
+-- bound; else the next unsent line; else what its round gives
+abbrev pub turn_owing : ℕ → List Item → Session → List (List ℕ) → SessionTurn
+turn_owing now items s (text ∷ owed) = gives_text text (record s { owed = owed })
+turn_owing now items s [] =
+    if is_to_loop s.streams then record { session = unbound_at now s; gives = Gave loop_text }
+    else if is_unsent s then next_given s
+    else round_turn now items s
+
+-- a session's turn on the stream that is bound: one that has ended gives END once, and nothing else
+abbrev pub turn_bound : ℕ → List Item → Session → Life → SessionTurn
+turn_bound now items s Alive = turn_owing now items s s.owed
+turn_bound now items s (Ending code) = gives_text (end_text code) (record s { life = Ended code })
+turn_bound now items s (Ended code) = record { session = s; gives = Over code }
+
+-- what a turn gives where no stream is bound
+abbrev pub gives_unbound : Life → TurnGives
+gives_unbound Alive = Unbound
+gives_unbound (Ending code) = Over code
+gives_unbound (Ended code) = Over code
+
+-- at a tick, for the stream of an epoch: nothing where the session has a newer one
+abbrev pub session_turn : ℕ → List Item → ℕ → Session → SessionTurn
+session_turn now items epoch s =
+    if nat_lt epoch (length s.streams) then record { session = s; gives = Superseded (length s.streams) }
+    else if is_bound s then turn_bound now items s s.life
+    else record { session = s; gives = gives_unbound s.life }
 
 -- a turn of the session of this place: the line is printed, or why there is none
 abbrev pub took : World → ℕ → ℕ → Session → TurnGives → Once
@@ -298,13 +341,29 @@ took w connection n s Idle = ends (record w { sessions = change n (λ old. s) w.
 took w connection n s (NotDue tick) =
     ends (record w { sessions = change n (λ old. s) w.sessions }) (out.NotDue tick)
 took w connection n s Spent = ends w out.Spent
+took w connection n s (Superseded epoch) = ends w (out.Superseded epoch)
+took w connection n s Unbound = ends w out.Unbound
 took w connection n s (Over code) = ends w (out.Ended code)
 
 -- a turn of a connection's session
 abbrev pub take_once : ℕ → World → Once
 take_once connection w =
     with_session w.sessions (session_of w connection) (ends w out.NoSession) (λ n s.
-    took w connection n (session_turn w.tick w.items s).session (session_turn w.tick w.items s).gives)
+    let t : SessionTurn = session_turn w.tick w.items (epoch_of w connection) s in
+    took w connection n t.session t.gives)
+
+-- the stream of a connection is lost: from this tick on the session has none, where this is its newest one and is bound
+abbrev pub loses : World → ℕ → Stepped
+loses w connection =
+    with_session w.sessions (session_of w connection) (stays w (out.NoSession ∷ [])) (λ n s.
+    if nat_lt (epoch_of w connection) (length s.streams) then stays w (out.Superseded (length s.streams) ∷ [])
+    else if is_bound s
+    then record { after = record w { sessions = change n (unbound_at w.tick) w.sessions }; outs = out.Lost ∷ [] }
+    else stays w (out.Unbound ∷ []))
+
+-- the clock is set, and the sessions end that were without a stream for too long
+abbrev pub ticks : World → ℕ → World
+ticks w now = record w { tick = now; sessions = map (unless_timed_out now) w.sessions }
 
 -- one step, made at most so often
 abbrev pub does : World → Step → ℕ → Stepped
@@ -313,17 +372,19 @@ does w (step.Item name k fields) times =
     stays (record w {
       items = w.items ++ record { definition = record { name = name; kind = k; fields = fields }; history = [] } ∷ [];
     }) []
-does w (step.Tick ms) times = stays (record w { tick = ms }) []
+does w (step.Tick ms) times = stays (ticks w ms) []
 does w (step.Conn name l) times = stays (connects w name l) []
 does w (step.Open name) times = creates (connects w name link.Ws) (length w.connections) plain_create
-does w (step.Add connection words) times = requests w connection (codes "control") (add_pairs w.line words)
-does w (step.Request connection name parameters) times = requests w connection name (form_of parameters)
+does w (step.Add connection words) times =
+    requests w connection link.Ws (codes "control") (add_pairs w.line words)
+does w (step.Request connection name parameters) times =
+    requests w connection (link_of w connection) name (form_of parameters)
 does w (step.Publish adapter seq item cells) times =
     publishes w item (record { adapter = adapter; seq = seq; event = Update cells })
 does w (step.Clear adapter seq item) times = publishes w item (record { adapter = adapter; seq = seq; event = Clear })
 does w (step.Enqueue connection sub rank) times = repeated (enqueue_once connection sub rank) times w
 does w (step.Take connection) times = repeated (take_once connection) times w
-does w (step.Lose connection) times = unbuilt w
+does w (step.Lose connection) times = loses w connection
 
 -- these steps, one after another
 abbrev pub does_all : World → List Repeat → World

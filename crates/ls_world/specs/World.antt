@@ -1,8 +1,8 @@
 -- The world: all items with their whole histories, all sessions with all their numbered lines, and the connections
 -- (this project's profile).
 use Rattle.std.specs.Prelude.{◌==◌, ℕ, zero, suc, ◌+◌, List, [], ◌∷◌, ◌++◌, length, map, min, max, Bool, true, false}
-use Rattle.std.specs.Prelude.{not, ◌&&◌, ◌||◌, Option, None, Some, nat_lt, nat_le, codes, if◌then◌else◌}
-use Rattle.std.specs.Prelude.{option_and_then}
+use Rattle.std.specs.Prelude.{not, ◌&&◌, ◌||◌, Option, None, Some, is_some, nat_lt, nat_le, codes, if◌then◌else◌}
+use Rattle.std.specs.Prelude.{option_and_then, unwrap_or}
 use Rattle.std.specs.Prelude.{sum_by}
 use Rattle.std.specs.Option.{option_map_or}
 use Rattle.std.specs.List.{flat_map}
@@ -18,12 +18,16 @@ use Rattle.ls_event.specs.Cuts.{is_pending}
 use Rattle.ls_event.specs.Slots.{Slot, enqueued, is_far}
 use Rattle.ls_event.specs.Joining.{plan_of, joined}
 use Rattle.ls_request.specs.declared.request.LinkKind.{LinkKind}
+use Rattle.ls_request.specs.declared.request.Bind.{Bind}
+use Rattle.ls_keep.specs.Keeping.{given_up_after}
 use Rattle.ls_mirror.specs.declared.command.KeyPlaces.{KeyPlaces}
 use Rattle.ls_world.specs.Cases.{with_found}
 use Rattle.ls_world.specs.Came.{Came}
 use Rattle.ls_line.specs.declared.line.Line.TheVariants as line
 use Rattle.ls_line.specs.Lines.{text_of_line}
 use Rattle.ls_world.specs.Lines.{Line, Begins, Ends, Configures, Tells, came, updated, spends_behind, limit_text}
+use Rattle.ls_world.specs.Lines.{text_at, texts_behind}
+use Rattle.ls_world.specs.declared.TheConstants.{MOST_UNBOUND}
 use Rattle.ls_world.specs.Tables.{keys_shown_at}
 use Rattle.ls_world.specs.Cutting.{Wanted, Ask, Turn, turn}
 
@@ -48,10 +52,15 @@ pub record Board : Type 0 where
   pub lines : List Line
   pub round : List Live
 
--- a stream: the number after which it was bound, and the numbers given on it, the newest first
+-- a stream: the number after which it was bound, the numbers of the lines given on it, the newest first, how many bytes
+-- all lines given on it have with CR LF, its content length in bytes, if it has one, and whether a force_rebind came
+-- for it (TLCP 2.1, create_session, bind_session, force_rebind)
 pub record Stream : Type 0 where
   pub from : ℕ
   pub given : List ℕ
+  pub bytes : ℕ
+  pub content : Option ℕ
+  pub forced : Bool
 
 -- a session is alive; or it has ended for the cause of a code, and its client is to be told, or was told
 pub data Life : Type 0 where
@@ -65,21 +74,26 @@ pub record Rate : Type 0 where
   pub limit : Option ℕ
   pub behind : ℕ
 
--- a session: its board, its bandwidth, the number sent last, the lines owed to its stream, its streams, the newest
--- first, and whether it has ended
+-- a session: its board, its bandwidth, the number sent last, the given-up number, up to which no line is kept, the
+-- lines owed to its stream, its streams, the newest first, the tick since which no stream is bound, if none is, and
+-- whether it has ended. Its epoch is the number of its streams.
 pub record Session : Type 0 where
   pub board : Board
   pub rate : Rate
   pub sent : ℕ
+  pub given_up : ℕ
   pub owed : List (List ℕ)
   pub streams : List Stream
+  pub unbound : Option ℕ
   pub life : Life
 
--- a connection: its name, what it goes over, and the session of its last create, if it ever had one
+-- a connection: its name, what it goes over, and the session and the epoch of its last create or bind; before the first
+-- one there is no session, and the epoch is 0
 pub record Connection : Type 0 where
   pub name : List ℕ
   pub link : LinkKind
   pub session : Option ℕ
+  pub epoch : ℕ
 
 -- the number of script lines so far, the adapter set's name, the last tick, and the items, the sessions and the
 -- connections, each in the order in which they came
@@ -347,10 +361,24 @@ least_wait now items s = least_of (waits_of now items s s.board.round)
 abbrev pub on_board : (Board → Board) → Session → Session
 on_board f s = record s { board = f s.board }
 
--- a line of this number was given on the newest stream
-abbrev pub noted_in : ℕ → List Stream → List Stream
-noted_in n [] = []
-noted_in n (t ∷ ts) = record t { given = n ∷ t.given } ∷ ts
+-- as a line was numbered or given, lines that aren't to be kept are given up
+abbrev pub trimmed : Session → Session
+trimmed s = record s { given_up = given_up_after s.given_up s.sent (texts_behind 0 s.board.lines) }
+
+-- a step of the board that numbers lines
+abbrev pub numbered : (Board → Board) → Session → Session
+numbered f s = trimmed (on_board f s)
+
+-- a change of the newest stream
+abbrev pub on_stream : (Stream → Stream) → Session → Session
+on_stream f s = record s { streams = change 0 f s.streams }
+
+-- a line was given on a stream, and it is the numbered one of this number
+abbrev pub with_text : List ℕ → Stream → Stream
+with_text text t = record t { bytes = t.bytes + (length text + 2) }
+
+abbrev pub with_line : ℕ → List ℕ → Stream → Stream
+with_line n text t = record (with_text text t) { given = n ∷ t.given }
 
 -- whether a numbered line isn't given yet
 abbrev pub is_unsent : Session → Bool
@@ -358,7 +386,27 @@ is_unsent s = nat_lt s.sent (length s.board.lines)
 
 -- the next unsent line is given, if there is one
 abbrev pub given_next : Session → Session
-given_next s = if is_unsent s then record s { sent = s.sent + 1; streams = noted_in (s.sent + 1) s.streams } else s
+given_next s =
+    if is_unsent s
+    then trimmed (on_stream (with_line (s.sent + 1) (text_at s.board.lines (s.sent + 1)))
+    (record s { sent = s.sent + 1 }))
+    else s
+
+-- whether a stream is over: it is forced to be, or the bytes given on it have reached its content length
+abbrev pub is_over : Stream → Bool
+is_over t = t.forced || option_map_or (λ most. nat_le most t.bytes) t.content false
+
+-- whether the newest one is, so that its client is to be told (TLCP 2.1, LOOP)
+abbrev pub is_to_loop : List Stream → Bool
+is_to_loop [] = false
+is_to_loop (t ∷ ts) = is_over t
+
+-- whether a stream is bound, and a session without one from a tick on
+abbrev pub is_bound : Session → Bool
+is_bound s = not (is_some s.unbound)
+
+abbrev pub unbound_at : ℕ → Session → Session
+unbound_at tick s = record s { unbound = Some tick }
 
 -- what tells of a bandwidth (TLCP 2.1, CONS)
 abbrev pub bandwidth_text : Option ℕ → List ℕ
@@ -371,17 +419,44 @@ opening_lines number keepalive limit =
     text_of_line (line.ConOk (codes "S" ++ decimal number) keepalive) ∷ text_of_line line.ServName
     ∷ bandwidth_text limit ∷ []
 
--- a session that begins, by its number from 1, its keep-alive and its bandwidth
-abbrev pub opened : ℕ → ℕ → Option ℕ → Session
-opened number keepalive limit =
+-- a stream that begins behind a number, by its content length
+abbrev pub begun : ℕ → Option ℕ → Stream
+begun from content = record { from = from; given = []; bytes = 0; content = content; forced = false }
+
+-- a session that begins, by its number from 1, its keep-alive, its bandwidth and the content length of its stream
+abbrev pub opened : ℕ → ℕ → Option ℕ → Option ℕ → Session
+opened number keepalive limit content =
     record {
       board = record { lines = []; round = [] };
       rate = record { limit = limit; behind = 0 };
       sent = 0;
+      given_up = 0;
       owed = opening_lines number keepalive limit;
-      streams = record { from = 0; given = [] } ∷ [];
+      streams = begun 0 content ∷ [];
+      unbound = None;
       life = Alive;
     }
+
+-- a new stream behind the count that a client tells is told it (TLCP 2.1, PROG)
+abbrev pub count_lines : Option ℕ → List (List ℕ)
+count_lines None = []
+count_lines (Some count) = text_of_line (line.Prog count) ∷ []
+
+-- a new stream of the session of a number, as a bind asks for it: it begins behind the count that the client tells, and
+-- else behind the line given last, and only its own lines are owed (TLCP 2.1, bind_session)
+abbrev pub rebound : ℕ → Bind → Session → Session
+rebound number b s =
+    let from : ℕ = unwrap_or b.recover s.sent in
+    record s {
+      sent = from;
+      owed = opening_lines number b.keepalive s.rate.limit ++ count_lines b.recover;
+      streams = begun from b.length ∷ s.streams;
+      unbound = None;
+    }
+
+-- the newest stream is forced to be over
+abbrev pub forced : Session → Session
+forced s = on_stream (λ t. record t { forced = true }) s
 
 -- a session has another bandwidth: CONS is owed, and the credit begins anew
 abbrev pub constrained : Option ℕ → Session → Session
@@ -403,3 +478,13 @@ is_alive (Ended code) = false
 
 abbrev pub alive : List Session → ℕ
 alive sessions = sum_by (λ s. if is_alive s.life then 1 else 0) sessions
+
+-- the code of a session that was without a stream for too long; it ends at the first tick that is told then
+abbrev pub timed_out : ℕ
+timed_out = 73
+
+abbrev pub is_timed_out : ℕ → Session → Bool
+is_timed_out now s = is_alive s.life && option_map_or (λ since. nat_le (since + MOST_UNBOUND) now) s.unbound false
+
+abbrev pub unless_timed_out : ℕ → Session → Session
+unless_timed_out now s = if is_timed_out now s then ended timed_out s else s

@@ -2,9 +2,9 @@
 //!
 //! `World` is all items with their histories, all sessions with all their lines, and the connections. It begins as
 //! `empty`. `does` is the world after a step, and what the step prints; `step` does a script's line, and `output_of` is
-//! what a whole script prints. `add_code` and `create_code` say why a request is refused, `is_built` which steps are
-//! built yet, `wire` which line of the protocol a numbered line is. `Lawful` says when a world is lawful: what each
-//! client decodes from the bytes of its lines are states that its item had, and it never goes back.
+//! what a whole script prints. `add_code`, `create_code` and `bind_code` say why a request is refused, `wire` which
+//! line of the protocol a numbered line is. `Lawful` says when a world is lawful: what each client decodes from the
+//! bytes of its lines are states that its item had, and it never goes back.
 //!
 //! A contract of the engine begins with each world that its state stands for, and ends with the world after the step:
 //!
@@ -13,7 +13,7 @@
 //! ```
 //!
 //! What follows of the definitions is in `ls_laws`. The proofs here are the lemmas that the engine's crates need too.
-//! Of Rust there are only limits, and why a line of a script isn't done.
+//! Of Rust there are only limits.
 #![tactic(auto)]
 
 /// How many items a group names at most.
@@ -31,11 +31,5 @@ pub const MOST_UNSENT: usize = 512;
 /// How many bytes a line has at most, without CR LF.
 pub const MOST_LINE: usize = 16_384;
 
-/// Why a line of a script isn't done.
-#[derive(Clone, Copy, Debug, PartialEq, Eq)]
-pub enum Refused {
-    /// It is outside the grammar, or names something that isn't declared.
-    BadScript,
-    /// It asks for something that isn't built yet.
-    NotBuilt,
-}
+/// For how long a session may be without a stream, in ms: after that it ends.
+pub const MOST_UNBOUND: u64 = 30_000;

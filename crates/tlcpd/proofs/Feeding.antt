@@ -1,22 +1,21 @@
 -- What feeding a line, and then more lines, does.
-use Rattle.std.proofs.Common.{◌≡◌, ℕ, ◌+◌, ◌<◌, ◌-◌, List, [], ◌∷◌, ◌++◌, length, take, drop, get_or, arith}
-use Rattle.std.proofs.Common.{refl, sym, ◌∙◌, ap, subst, append_assoc, append-nil, length-append, ◌⊎◌, ⊎_elim, inl, inr}
+use Rattle.std.proofs.Common.{◌≡◌, ℕ, ◌+◌, ◌<◌, ◌-◌, List, [], ◌∷◌, ◌++◌, length, take, drop, get_or, arith, false}
+use Rattle.std.proofs.Common.{refl, sym, ◌∙◌, ap, subst, append_assoc, append-nil, ◌⊎◌, ⊎_elim, inl, inr}
 use Rattle.std.proofs.lemmas.List.{take-append-drop}
-use Rattle.std.specs.Prelude.{Option, Some, None, Result, Ok, Err}
+use Rattle.std.specs.Prelude.{Option, Some, None}
 use Rattle.std.specs.Io.KnownBytes.{Appends}
 use Rattle.ls_outside.proofs.Bytes.{appends_on}
-use Rattle.ls_world.specs.declared.Refused.{Refused}
 use Rattle.ls_world.specs.World.{World}
 use Rattle.ls_world.specs.Steps.{Stepped}
-use Rattle.ls_world.specs.Script.{step, whole_from, rest_from, output_of, text_of_outs, world_of, done}
+use Rattle.ls_world.specs.Script.{step, whole_from, rest_from, output_of, text_of_outs, world_of, has_bad_line}
 use Rattle.ls_world.specs.Script.{IsPrefix, last_line}
 use Rattle.tlcpd.specs.declared.engine.Engine.{Engine}
-use Rattle.tlcpd.specs.Engine.{StandsEngine, Steps, Refuses}
+use Rattle.tlcpd.specs.Engine.{StandsEngine, Steps, IsBad}
 use Rattle.tlcpd.specs.Replay.{Progress, progress_after, line_after, rest_after, Kept, kept_with, StandsWithin, StandsFor}
 use Rattle.tlcpd.specs.Replay.{Meets, Feeds, Holds, Writes, EndsNoLine}
 use Rattle.tlcpd.specs.declared.replay.Fed.{Fed}
 use Rattle.tlcpd.specs.declared.replay.Fed.TheVariants as fed
-use Rattle.tlcpd.proofs.ScriptLines.{GoesOn, goes_on, Stops, stops, text_begins, lines_counted}
+use Rattle.tlcpd.proofs.ScriptLines.{GoesOn, goes_on, Stops, stops, text_begins}
 use Rattle.tlcpd.proofs.ScriptLines.{whole_from-append, rest_from-append}
 use Rattle.tlcpd.proofs.PieceLines.{whole_from-line, whole_from-kept, progress_line, progress_rest, next_front}
 
@@ -30,9 +29,9 @@ pub line_held : (w : World) (line text u u' : List ℕ) (e : Engine) → Steps (
     → Holds fed.All w (line ∷ []) u u'
 line_held w line text u u' e steps is = by_step (step w line) refl steps
   where
-    by_step : (r : Result Stepped Refused) → step w line ≡ r → Steps r [] text e → Holds fed.All w (line ∷ []) u u'
-    by_step (Err c) made x = absurd x
-    by_step (Ok s) made x =
+    by_step : (o : Option Stepped) → step w line ≡ o → Steps o [] text e → Holds fed.All w (line ∷ []) u u'
+    by_step None made x = absurd x
+    by_step (Some s) made x =
         record { text = text; behind = is; met = (rw made refl, rw made (x.0 ∙ sym (append-nil (text_of_outs s.outs)))) }
 
 -- the engine behind a line that is done
@@ -40,20 +39,20 @@ pub line_engine : (w : World) (line text : List ℕ) (e : Engine) → Steps (ste
     → StandsEngine e (world_of w (line ∷ []))
 line_engine w line text e steps = by_step (step w line) refl steps
   where
-    by_step : (r : Result Stepped Refused) → step w line ≡ r → Steps r [] text e
+    by_step : (o : Option Stepped) → step w line ≡ o → Steps o [] text e
         → StandsEngine e (world_of w (line ∷ []))
-    by_step (Err c) made x = absurd x
-    by_step (Ok s) made x = rw made x.1
+    by_step None made x = absurd x
+    by_step (Some s) made x = rw made x.1
 
--- a line that is refused
-pub line_refused : (w : World) (line u u' : List ℕ) (refused : Refused) (number : ℕ) (e : Engine)
-    → Refuses w line refused e → number ≡ e.line → u' ≡ u → Holds (fed.Stopped refused number) w (line ∷ []) u u'
-line_refused w line u u' refused number e is same kept =
-    let made : step w line ≡ Err refused = is.0 in
+-- a bad line
+pub bad_line : (w : World) (line u u' : List ℕ) (number : ℕ) (e : Engine)
+    → IsBad w line e → number ≡ e.line → u' ≡ u → Holds (fed.Stopped number) w (line ∷ []) u u'
+bad_line w line u u' number e is same kept =
+    let made : step w line ≡ None = is.0 in
     record {
       text = [];
       behind = kept ∙ sym (append-nil u);
-      met = (rw made (same ∙ is.1 ∙ omega arith), rw made (omega arith), rw made refl, rw made refl);
+      met = (rw made refl, rw made (same ∙ is.1 ∙ omega arith), rw made refl);
     }
 
 -- want of memory: no more is held back
@@ -67,19 +66,15 @@ prefix_in part mid all x y = (x.0 ++ y.0, y.1 ∙ ap (λ t. t ++ y.0) x.1 ∙ ap
 prefix_behind : (front part all : List ℕ) → IsPrefix part all → IsPrefix (front ++ part) (front ++ all)
 prefix_behind front part all x = (x.0, ap (λ t. front ++ t) x.1 ∙ sym (append_assoc front part x.0))
 
--- each of the first lines is done, and then come more
+-- none of the first lines is bad, and then come more
 pub met_on : (a : Fed) (w : World) (xs ys : List (List ℕ)) (s t : List ℕ) → Meets fed.All w xs s
     → Meets a (world_of w xs) ys t → Meets a w (xs ++ ys) (s ++ t)
 met_on fed.All w xs ys s t first met =
     let g : GoesOn w xs ys = goes_on w xs ys first.0 in
-    (omega (arith, g.count, met.0, length-append xs ys), rw (first.1, met.1) (sym g.text))
-met_on (fed.Stopped refused number) w xs ys s t first met =
-    let g : GoesOn w xs ys = goes_on w xs ys first.0 in (
-      omega (arith, g.count, met.0, lines_counted w xs first.0),
-      omega (arith, g.count, met.1, length-append xs ys),
-      g.cause ∙ met.2,
-      rw (first.1, met.3) (sym g.text),
-    )
+    (g.bad ∙ met.0, rw (first.1, met.1) (sym g.text))
+met_on (fed.Stopped number) w xs ys s t first met =
+    let g : GoesOn w xs ys = goes_on w xs ys first.0 in
+    (g.bad ∙ met.0, met.1 ∙ ap (λ n. n + 1) g.count, rw (first.1, met.2) (sym g.text))
 met_on fed.WriteFault w xs ys s t first met =
     let g : GoesOn w xs ys = goes_on w xs ys first.0 in
     rw (first.1, g.text) (prefix_behind (output_of w xs) t (output_of (world_of w xs) ys) met)
@@ -120,7 +115,7 @@ held_on a w xs ys h i u u' f g =
 met_prefix : (a : Fed) (w : World) (lines : List (List ℕ)) (text : List ℕ) → Meets a w lines text
     → IsPrefix text (output_of w lines)
 met_prefix fed.All w lines text met = ([], sym met.1 ∙ sym (append-nil text))
-met_prefix (fed.Stopped refused number) w lines text met = ([], sym met.3 ∙ sym (append-nil text))
+met_prefix (fed.Stopped number) w lines text met = ([], sym met.2 ∙ sym (append-nil text))
 met_prefix fed.WriteFault w lines text met = met
 met_prefix fed.NoMemory w lines text met = met
 
@@ -147,20 +142,20 @@ written_on a before w lines h i j u u' f g =
           g.ends;
     }
 
-pub progress_on : (p : Progress) (xs ys : List ℕ) → done p.world (whole_from p.carry xs) ≡ length (whole_from p.carry xs)
+pub progress_on : (p : Progress) (xs ys : List ℕ) → has_bad_line p.world (whole_from p.carry xs) ≡ false
     → progress_after (progress_after p xs) ys ≡ progress_after p (xs ++ ys)
-progress_on p xs ys all =
+progress_on p xs ys good =
     let ls : List (List ℕ) = whole_from (rest_from p.carry xs) ys in
-    let g : GoesOn p.world (whole_from p.carry xs) ls = goes_on p.world (whole_from p.carry xs) ls all in
+    let g : GoesOn p.world (whole_from p.carry xs) ls = goes_on p.world (whole_from p.carry xs) ls good in
     rw (whole_from-append, rest_from-append, g.world) refl
 
 -- a call stopped, so what comes behind doesn't count
 met_stopped : (a : Fed) (w : World) (xs ys : List (List ℕ)) (t : List ℕ) → (a ≡ fed.All → ⊥) → Meets a w xs t
     → Meets a w (xs ++ ys) t
 met_stopped fed.All w xs ys t stopped met = absurd (stopped refl)
-met_stopped (fed.Stopped refused number) w xs ys t stopped met =
-    let s : Stops w xs ys = stops w xs ys met.1 in
-    (rw s.count met.0, omega (arith, s.count, met.1, length-append xs ys), s.cause ∙ met.2, (rw s.text met.3))
+met_stopped (fed.Stopped number) w xs ys t stopped met =
+    let s : Stops w xs ys = stops w xs ys met.0 in
+    (s.bad, rw s.count met.1, rw s.text met.2)
 met_stopped fed.WriteFault w xs ys t stopped met =
     prefix_in t (output_of w xs) (output_of w (xs ++ ys)) met (text_begins w xs ys)
 met_stopped fed.NoMemory w xs ys t stopped met =
@@ -185,11 +180,11 @@ line_fed a p front line h i u u' plain f g =
     subst (λ (ys : List (List ℕ)). Feeds a p.world ys h i u') (sym same) all
 
 pub line_stands : (k : Kept) (p : Progress) (front line : List ℕ) → EndsNoLine line
-    → done p.world (whole_from p.carry front) ≡ length (whole_from p.carry front)
+    → has_bad_line p.world (whole_from p.carry front) ≡ false
     → StandsWithin k (line_after (progress_after p front) line) → StandsWithin k (progress_after p (next_bytes front line))
-line_stands k p front line plain all st =
+line_stands k p front line plain good st =
     subst (λ (q : Progress). StandsWithin k q)
-    (sym (progress_line (progress_after p front) line plain) ∙ progress_on p front (line ++ 10 ∷ []) all) st
+    (sym (progress_line (progress_after p front) line plain) ∙ progress_on p front (line ++ 10 ∷ []) good) st
 
 -- a line at which a call stops, so that the rest of the piece doesn't count
 pub line_stopped : (a : Fed) (p : Progress) (piece front rest : List ℕ) (n : ℕ) (h i : Option (List ℕ)) (u : List ℕ)
@@ -234,11 +229,11 @@ rest_fed a p piece front rest h i u answer is plain f =
     }
 
 pub rest_stands : (k : Kept) (p : Progress) (piece front rest : List ℕ) → piece ≡ front ++ rest → EndsNoLine rest
-    → done p.world (whole_from p.carry front) ≡ length (whole_from p.carry front)
+    → has_bad_line p.world (whole_from p.carry front) ≡ false
     → StandsWithin k (rest_after (progress_after p front) rest) → StandsWithin k (progress_after p piece)
-rest_stands k p piece front rest is plain all st =
+rest_stands k p piece front rest is plain good st =
     subst (λ (q : Progress). StandsWithin k q)
-    (sym (progress_rest (progress_after p front) rest plain) ∙ progress_on p front rest all
+    (sym (progress_rest (progress_after p front) rest plain) ∙ progress_on p front rest good
     ∙ ap (λ bytes. progress_after p bytes) (sym is)) st
 
 -- no line is left

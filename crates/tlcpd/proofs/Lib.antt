@@ -4,3 +4,4 @@ pub mod RunWords
 pub mod PieceLines
 pub mod Feeding
 pub mod Runs
+pub mod Completing

@@ -3,7 +3,6 @@ use Rattle.std.proofs.Common.{◌≡◌, ℕ, ◌+◌, List, [], ◌++◌, refl,
 use Rattle.std.specs.Io.KnownBytes.{Consumes, Keeps, IsAtEnd}
 use Rattle.ls_outside.specs.Causes.{Rose, RoseBy}
 use Rattle.ls_outside.proofs.Bytes.{appends_on, consumes_on}
-use Rattle.ls_world.specs.declared.Refused.TheVariants.{BadScript, NotBuilt}
 use Rattle.ls_world.specs.World.{empty}
 use Rattle.ls_world.specs.Script.{whole_from, rest_from, last_line, lines_of, world_of, done}
 use Rattle.ls_laws.proofs.Scripts.{lawful_script}
@@ -30,32 +29,17 @@ going_on k k' c l0 l1 l2 h0 h1 h2 go took f all =
 whole_text : (a : Fed) (lines : List (List ℕ)) (w : List ℕ) → Meets a empty lines (w ++ []) → Meets a empty lines w
 whole_text a lines w met = subst (λ (t : List ℕ). Meets a empty lines t) (append-nil w) met
 
--- each line from the start was done
+-- no line from the start is bad
 all_done : (read w : List ℕ) (ended : Bool) → Meets fed.All empty (lines_of ended read) w → DoesAll (lines_of ended read) w
-all_done read w ended met = record { count = met.0; text = met.1; lawful = lawful_script (lines_of ended read) }
+all_done read w ended met = record { good = met.0; text = met.1; lawful = lawful_script (lines_of ended read) }
 
 -- what a call says of the lines from the start is the outcome
 outcome_of : (a : Fed) (read : List ℕ) (w : List ℕ) (ended : Bool) → (a ≡ fed.All → ended ≡ true)
     → Meets a empty (lines_of ended read) w → Outcome (status_at a) read w ended
 outcome_of fed.All read w ended e met = (e refl, all_done read w ended met)
-outcome_of (fed.Stopped BadScript line) read w ended e met =
-    let n : line ≡ 0 + done empty (lines_of ended read) + 1 = met.0 in
-    record {
-      number = omega (arith, n);
-      within = omega (arith, n, met.1);
-      cause = met.2;
-      text = met.3;
-      lawful = lawful_script (lines_of ended read);
-    }
-outcome_of (fed.Stopped NotBuilt line) read w ended e met =
-    let n : line ≡ 0 + done empty (lines_of ended read) + 1 = met.0 in
-    record {
-      number = omega (arith, n);
-      within = omega (arith, n, met.1);
-      cause = met.2;
-      text = met.3;
-      lawful = lawful_script (lines_of ended read);
-    }
+outcome_of (fed.Stopped line) read w ended e met =
+    let n : line ≡ 0 + done empty (lines_of ended read) + 1 = met.1 in
+    record { bad = met.0; number = omega (arith, n); text = met.2; lawful = lawful_script (lines_of ended read) }
 outcome_of fed.WriteFault read w ended e met = met
 outcome_of fed.NoMemory read w ended e met = met
 
@@ -149,15 +133,13 @@ ran_faulted k l0 l1 l2 h0 h1 go kept =
 -- the causes of a status
 pub not_usage : (a : Fed) → status_at a ≡ status.Usage → ⊥
 not_usage fed.All h = cc h
-not_usage (fed.Stopped BadScript line) h = cc h
-not_usage (fed.Stopped NotBuilt line) h = cc h
+not_usage (fed.Stopped line) h = cc h
 not_usage fed.WriteFault h = cc h
 not_usage fed.NoMemory h = cc h
 
 not_read_fault : (a : Fed) → status_at a ≡ status.ReadFault → ⊥
 not_read_fault fed.All h = cc h
-not_read_fault (fed.Stopped BadScript line) h = cc h
-not_read_fault (fed.Stopped NotBuilt line) h = cc h
+not_read_fault (fed.Stopped line) h = cc h
 not_read_fault fed.WriteFault h = cc h
 not_read_fault fed.NoMemory h = cc h
 
@@ -166,7 +148,6 @@ read_cause a f g i j h = absurd (not_read_fault a h)
 
 pub write_fault : (a : Fed) → status_at a ≡ status.WriteFault → a ≡ fed.WriteFault
 write_fault fed.All h = absurd (cc h)
-write_fault (fed.Stopped BadScript line) h = absurd (cc h)
-write_fault (fed.Stopped NotBuilt line) h = absurd (cc h)
+write_fault (fed.Stopped line) h = absurd (cc h)
 write_fault fed.WriteFault h = refl
 write_fault fed.NoMemory h = absurd (cc h)

@@ -1,12 +1,11 @@
 -- What a run of the program did.
-use Rattle.std.specs.Prelude.{◌≡◌, ℕ, ◌+◌, ◌≤◌, List, [], ◌∷◌, ◌++◌, length, Bool, true, false, Option, Some, codes}
+use Rattle.std.specs.Prelude.{◌≡◌, ◌⊎◌, ℕ, ◌+◌, List, [], ◌∷◌, ◌++◌, Bool, true, false, Option, None, Some, codes}
+use Rattle.std.specs.Prelude.{if◌then◌else◌}
 use Rattle.std.specs.Fmt.{decimal}
 use Rattle.std.specs.Io.KnownBytes.{Consumes, Appends, IsAtEnd}
-use Rattle.ls_world.specs.declared.Refused.{Refused}
-use Rattle.ls_world.specs.declared.Refused.TheVariants.{BadScript, NotBuilt}
 use Rattle.ls_world.specs.World.{empty}
 use Rattle.ls_world.specs.Lawful.{Lawful}
-use Rattle.ls_world.specs.Script.{lines_of, output_of, world_of, done, first_refused, whole_from, IsPrefix}
+use Rattle.ls_world.specs.Script.{lines_of, output_of, world_of, done, has_bad_line, whole_from, IsPrefix}
 use Rattle.tlcpd.specs.Replay.{start, progress_after, Kept, StandsFor, Feeds}
 use Rattle.tlcpd.specs.declared.running.Status.{Status}
 use Rattle.tlcpd.specs.declared.running.Status.TheVariants as status
@@ -17,18 +16,17 @@ use Rattle.tlcpd.specs.declared.replay.Fed.TheVariants as fed
 abbrev pub IsReplay : List (List ℕ) → Type 0
 IsReplay words = words ≡ codes "replay" ∷ []
 
--- each line was done, what they print was written, and the world that they make is lawful
+-- no line is bad, what they print was written, and the world that they make is lawful
 pub record DoesAll (lines : List (List ℕ)) (written : List ℕ) : Type 0 where
-  pub count : done empty lines ≡ length lines
+  pub good : has_bad_line empty lines ≡ false
   pub text : written ≡ output_of empty lines
   pub lawful : Lawful (world_of empty lines)
 
--- the line of this number, from 1, was the first to be refused, what those before it print was written, and the world
--- that they make is lawful
-pub record StopsAt (line : ℕ) (refused : Refused) (lines : List (List ℕ)) (written : List ℕ) : Type 0 where
+-- the line of this number, from 1, is the first bad one, what those before it print was written, and the world that
+-- they make is lawful
+pub record StopsAt (line : ℕ) (lines : List (List ℕ)) (written : List ℕ) : Type 0 where
+  pub bad : has_bad_line empty lines ≡ true
   pub number : line ≡ done empty lines + 1
-  pub within : line ≤ length lines
-  pub cause : first_refused empty lines ≡ Some refused
   pub text : written ≡ output_of empty lines
   pub lawful : Lawful (world_of empty lines)
 
@@ -39,8 +37,7 @@ Outcome status.Usage read written ended = (read ≡ []) × (written ≡ [])
 Outcome status.ReadFault read written ended = (ended ≡ false) × DoesAll (lines_of ended read) written
 Outcome status.WriteFault read written ended = IsPrefix written (output_of empty (lines_of ended read))
 Outcome status.NoMemory read written ended = IsPrefix written (output_of empty (lines_of ended read))
-Outcome (status.BadScript line) read written ended = StopsAt line BadScript (lines_of ended read) written
-Outcome (status.NotBuilt line) read written ended = StopsAt line NotBuilt (lines_of ended read) written
+Outcome (status.BadScript line) read written ended = StopsAt line (lines_of ended read) written
 
 -- some bytes were read and some were written, as the status says; the source is at its end where ended
 pub record Ran (result : Status) (left left' held held' : Option (List ℕ)) : Type 0 where
@@ -52,6 +49,18 @@ pub record Ran (result : Status) (left left' held held' : Option (List ℕ)) : T
   pub at_end : ended ≡ true → IsAtEnd left'
   pub outcome : Outcome result read written ended
 
+-- how a script ends, if neither a read nor a write fails and memory suffices
+abbrev pub end_of : List (List ℕ) → Status
+end_of lines = if has_bad_line empty lines then status.BadScript (done empty lines + 1) else status.Ok
+
+-- a script that the source tells was done to its end, or to its first bad line, and all that it prints was written;
+-- or memory was wanting
+abbrev pub Completes : Status → Option (List ℕ) → Option (List ℕ) → Option (List ℕ) → Type 0
+Completes result None held held' = Unit {0}
+Completes result (Some script) held held' =
+    ((result ≡ end_of (lines_of true script)) × Appends held held' (output_of empty (lines_of true script)))
+    ⊎ (result ≡ status.NoMemory)
+
 -- a run between two pieces: each line of the bytes read so far is done, and what they print is written
 pub record Going (k : Kept) (left left' held held' : Option (List ℕ)) : Type 0 where
   pub read : List ℕ
@@ -62,8 +71,7 @@ pub record Going (k : Kept) (left left' held held' : Option (List ℕ)) : Type 0
 -- the status where no more is done
 abbrev pub status_at : Fed → Status
 status_at fed.All = status.Ok
-status_at (fed.Stopped BadScript line) = status.BadScript line
-status_at (fed.Stopped NotBuilt line) = status.NotBuilt line
+status_at (fed.Stopped line) = status.BadScript line
 status_at fed.WriteFault = status.WriteFault
 status_at fed.NoMemory = status.NoMemory
 
@@ -75,7 +83,6 @@ number_at (status.BadScript line) = 3
 number_at status.ReadFault = 4
 number_at status.WriteFault = 5
 number_at status.NoMemory = 6
-number_at (status.NotBuilt line) = 9
 
 -- what is shown of a fault
 abbrev pub fault_text : Status → List ℕ
@@ -85,4 +92,3 @@ fault_text status.ReadFault = codes "read fault"
 fault_text status.WriteFault = codes "write fault"
 fault_text status.NoMemory = codes "out of memory"
 fault_text (status.BadScript line) = codes "bad script line " ++ decimal line
-fault_text (status.NotBuilt line) = codes "not built, line " ++ decimal line

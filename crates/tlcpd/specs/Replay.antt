@@ -1,8 +1,8 @@
 -- A script that is read piece by piece: how far it has come, and what is written and held back of what its lines print.
-use Rattle.std.specs.Prelude.{◌≡◌, ◌==◌, ℕ, ◌+◌, ◌<◌, List, [], ◌∷◌, ◌++◌, length, Option, Some, false, ◌⊎◌}
+use Rattle.std.specs.Prelude.{◌≡◌, ◌==◌, ℕ, ◌+◌, List, [], ◌∷◌, ◌++◌, Option, true, false, ◌⊎◌}
 use Rattle.std.specs.Io.KnownBytes.{Appends}
 use Rattle.ls_world.specs.World.{World, empty}
-use Rattle.ls_world.specs.Script.{whole_from, rest_from, output_of, world_of, done, first_refused, IsPrefix}
+use Rattle.ls_world.specs.Script.{whole_from, rest_from, output_of, world_of, done, has_bad_line, IsPrefix}
 use Rattle.tlcpd.specs.declared.engine.Engine.{Engine}
 use Rattle.tlcpd.specs.Engine.{StandsEngine}
 use Rattle.tlcpd.specs.declared.replay.Fed.{Fed}
@@ -52,10 +52,9 @@ pub record StandsFor (k : Kept) (p : Progress) : Type 0 where
 
 -- what an answer says of lines that were met, from this world on, and of a text that was made of what they print
 abbrev pub Meets : Fed → World → List (List ℕ) → List ℕ → Type 0
-Meets fed.All w lines text = (done w lines ≡ length lines) × (text ≡ output_of w lines)
-Meets (fed.Stopped refused number) w lines text =
-    (number ≡ w.line + done w lines + 1) × (done w lines < length lines)
-    × (first_refused w lines ≡ Some refused) × (text ≡ output_of w lines)
+Meets fed.All w lines text = (has_bad_line w lines ≡ false) × (text ≡ output_of w lines)
+Meets (fed.Stopped number) w lines text =
+    (has_bad_line w lines ≡ true) × (number ≡ w.line + done w lines + 1) × (text ≡ output_of w lines)
 Meets fed.WriteFault w lines text = IsPrefix text (output_of w lines)
 Meets fed.NoMemory w lines text = IsPrefix text (output_of w lines)
 

@@ -8,9 +8,9 @@ use ls_cells::Cells;
 use ls_config::{Config, read as read_config};
 use ls_event::{ItemDef, Kind, MOST_FIELDS, read_event};
 use ls_line::Line;
-use ls_request::{Add, Control, Create, LinkKind, Op, Request, read as read_request};
-use ls_session::{Ask, Reply, Session, Turn};
-use ls_subs::PlanItem;
+use ls_request::{Add, Bind, Control, Create, LinkKind, Op, Request, read as read_request};
+use ls_session::{Ask, DESTROYED, Lost, Reply, Session, Turn};
+use ls_subs::{PlanItem, Refusal};
 use ls_value::{NoMemory, Text};
 use std::alloc::Global;
 use std::test::Fail;
@@ -55,6 +55,16 @@ const CONFIGURED: &[u8] = b"CONF,1,2.0,filtered\n";
 const HELD: &[u8] = b"U,1,1,3\n";
 
 const CONSTRAINED: &[u8] = b"CONS,1.25\n";
+
+/// What the first session is told on its second stream, behind six lines; and on that one once it is forced to be over.
+const RECOVERED: &[u8] = b"CONOK,S1,50000,9000,*
+SERVNAME,tlcpd
+CONS,unlimited
+PROG,6
+U,2,1,2
+";
+
+const LOOPED: &[u8] = b"LOOP,0\n";
 
 /// The line of a client's message, alone and behind the lines that open a session.
 const MESSAGE: &[u8] = b"MSGDONE,chat,1";
@@ -201,10 +211,10 @@ fn tell(session: &mut Session, cells: &mut Cells, ask: Ask) -> Result<(), NoMemo
     Ok(())
 }
 
-/// How a session's turn at a tick ends: with a line, or how else.
+/// How a session's turn at a tick ends on its newest stream: with a line, or how else.
 fn turned(session: &mut Session, cells: &mut Cells, now: u64) -> Result<Turn, NoMemory> {
     for _ in 0..100 {
-        match session.turn(now) {
+        match session.turn(now, session.epoch()) {
             Turn::Ask(ask) => tell(session, cells, ask)?,
             turn => return Ok(turn),
         }
@@ -378,6 +388,71 @@ fn is_limited(alloc: Global) -> Result<bool, NoMemory> {
     };
     let mut served = begun(alloc, &config)?;
     Ok(are_limited(alloc, &mut served, &config)? && constrains(alloc, &mut served)?)
+}
+
+/// A request for a new stream of the first session, behind so many lines.
+fn bind_of(count: u64) -> Bind {
+    Bind {
+        session: 1,
+        recover: Some(count),
+        keepalive: 9000,
+        length: None,
+    }
+}
+
+/// The code for which a bind is refused at a tick, if it is.
+fn refused(session: &mut Session, count: u64, now: u64) -> Result<Option<u16>, NoMemory> {
+    match session.bind(&bind_of(count), now) {
+        Ok(_) => Ok(None),
+        Err(Refusal::Code(code)) => Ok(Some(code)),
+        Err(Refusal::NoMemory) => Err(NoMemory),
+    }
+}
+
+/// The first stream is lost, once, and nothing is given without one.
+fn loses(served: &mut Served) -> Result<bool, NoMemory> {
+    let lost = served.one.lose(1, 8) == Lost::Unbound && served.one.since() == Some(8);
+    let again = served.one.lose(1, 9) == Lost::NotBound && served.one.since() == Some(8);
+    let turn = turned(&mut served.one, &mut served.cells, 9)?;
+    Ok(lost && again && turn == Turn::Unbound)
+}
+
+/// A second stream goes on behind six of seven lines, and the first one is superseded.
+fn recovers(alloc: Global, served: &mut Served) -> Result<bool, NoMemory> {
+    let beyond = refused(&mut served.one, 8, 10)? == Some(4);
+    let within = refused(&mut served.one, 6, 10)?.is_none() && served.one.since().is_none();
+    let old = served.one.turn(10, 1) == Turn::Superseded { epoch: 2 }
+        && served.one.lose(1, 10) == Lost::Superseded { epoch: 2 };
+    let told = lines_at(alloc, &mut served.one, &mut served.cells, 10)?;
+    Ok(beyond && within && old && told.as_slice() == RECOVERED)
+}
+
+/// The second stream is forced to be over, and the session ends without one.
+fn loops(alloc: Global, served: &mut Served) -> Result<bool, NoMemory> {
+    let forced = served.one.force_rebind().is_ok();
+    let told = lines_at(alloc, &mut served.one, &mut served.cells, 11)?;
+    let unbound = served.one.since() == Some(11) && served.one.lose(2, 12) == Lost::NotBound;
+    let left = served.one.finish(DESTROYED).len() == 2;
+    let ended = turned(&mut served.one, &mut served.cells, 12)?;
+    let unknown = refused(&mut served.one, 7, 12)? == Some(20);
+    let over = left && unknown && ended == Turn::Ended { code: DESTROYED };
+    Ok(forced && told.as_slice() == LOOPED && unbound && over)
+}
+
+/// Whether a session is gone on with on another stream, and then without one.
+fn is_bound_anew(alloc: Global) -> Result<bool, NoMemory> {
+    let Ok(config) = read_config(alloc, ITEMS) else {
+        return Ok(false);
+    };
+    let mut served = begun(alloc, &config)?;
+    let told = first_told(alloc, &mut served, &config)? && loses(&mut served)?;
+    Ok(told && recovers(alloc, &mut served)? && loops(alloc, &mut served)?)
+}
+
+#[test]
+fn a_stream_is_lost_and_bound_anew(rt: HostRuntime) -> Result<(), Fail> {
+    assert!(rt; is_bound_anew(rt.alloc())?);
+    Ok(())
 }
 
 #[test]

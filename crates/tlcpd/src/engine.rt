@@ -1,21 +1,20 @@
 //! The engine: one line of a script at a time.
 ghost use Rattle.std.specs.Prelude.{◌≡◌, IfOk, OnOk, IsErrOf};
-ghost use Rattle.ls_world.specs.declared.Refused.{Refused as LineCause};
 ghost use Rattle.ls_world.specs.World.{World, empty};
 ghost use Rattle.ls_world.specs.Script.{step};
-ghost use Rattle.tlcpd.specs.Engine.{StandsEngine, Steps, Refuses};
+ghost use Rattle.tlcpd.specs.Engine.{StandsEngine, Steps, IsBad};
 
-use ls_hub::{Hub, StepRefused};
+use ls_hub::Hub;
 use ls_script::{Repeat, Script, ScriptRefused};
 use ls_value::NoMemory;
-use ls_world::Refused;
 use std::alloc::Global;
 
 /// Why a line isn't done.
 #[derive(Clone, Copy, Debug, PartialEq, Eq)]
 pub enum LineRefused {
-    /// The line itself is refused.
-    Line(Refused),
+    /// It is outside the grammar of scripts, or names something that isn't declared.
+    BadLine,
+
     /// Memory was refused.
     NoMemory,
 }
@@ -28,22 +27,8 @@ impl From<ScriptRefused> for LineRefused {
 
     fn from(cause: ScriptRefused) -> LineRefused {
         match cause {
-            ScriptRefused::BadLine => LineRefused::Line(Refused::BadScript),
+            ScriptRefused::BadLine => LineRefused::BadLine,
             ScriptRefused::NoMemory => LineRefused::NoMemory,
-        }
-    }
-}
-
-impl From<StepRefused> for LineRefused {
-    ghost use Rattle.std.specs.Prelude.{◌≡◌};
-    ghost use Rattle.tlcpd.specs.Engine.{step_cause};
-
-    ghost from_gives = { λ s e. e ≡ step_cause s };
-
-    fn from(cause: StepRefused) -> LineRefused {
-        match cause {
-            StepRefused::NotBuilt => LineRefused::Line(Refused::NotBuilt),
-            StepRefused::NoMemory => LineRefused::NoMemory,
         }
     }
 }
@@ -87,12 +72,12 @@ impl Engine {
     }
 
     /// Does a line of the script, and appends what it prints. After an error nothing is known of the text, and of the
-    /// engine no more than the number of the line that is refused. A script of 2^64 - 1 lines ends as want of memory.
+    /// engine no more than the number of a bad line. A script of 2^64 - 1 lines ends as want of memory.
     pub fn line(&mut self, line: &[u8], text: &mut Vec<u8>) -> Result<(), LineRefused>
         ensures ok { OnOk result ((w : World) → StandsEngine self.old w
             → Steps (step w line.now) text.old.items text.new.items self.new) }
-        ensures refused { (r : LineCause) → IsErrOf result (LineRefused.Line r)
-            → (w : World) → StandsEngine self.old w → Refuses w line.now r self.new }
+        ensures bad { IsErrOf result LineRefused.BadLine
+            → (w : World) → StandsEngine self.old w → IsBad w line.now self.new }
     {
         if self.line == u64::MAX {
             return Err(LineRefused::NoMemory);

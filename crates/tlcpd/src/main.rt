@@ -5,7 +5,8 @@
 //! has each done by an `engine::Engine`, and writes what the lines of a piece print at once. `Engine::line` does one
 //! line: it reads its step and has the hub do it.
 //!
-//! What `run` promises is `Ran` in specs/. It serves no network: a script stands for the feeds and the clients.
+//! What `run` promises is `Ran` and `Completes` in specs/. It serves no network: a script stands for the feeds and the
+//! clients.
 #![tactic(auto)]
 
 #[cfg(test)]
@@ -45,8 +46,7 @@ Status   0  the script was read to its end, and each line was done
          4  a read failed
          5  a write failed
          6  memory was refused
-         9  a line asks for what isn't built yet
-Standard error has the cause, with the line's number at 3 and 9.
+Standard error has the cause, with the line's number at 3.
 ";
 
 /// What `--version` shows.

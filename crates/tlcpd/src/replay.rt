@@ -10,7 +10,6 @@ ghost use Rattle.tlcpd.specs.Replay.{StandsWithin, StandsFor, Feeds, Holds, Writ
 use crate::engine::{Engine, LineRefused};
 use ls_outside::{Put, Sink, write_all};
 use ls_value::NoMemory;
-use ls_world::Refused;
 use memchr::memchr;
 use std::alloc::Global;
 use std::marker::Model;
@@ -24,11 +23,8 @@ pub enum Fed {
     /// Each line that ended in them was done, and what it prints was written.
     All,
 
-    /// A line was refused, so nothing of it or behind it was done. What the lines before it print was written.
+    /// A line is bad, so nothing of it or behind it was done. What the lines before it print was written.
     Stopped {
-        /// Why it was refused.
-        refused: Refused,
-
         /// Its number in the script, from 1.
         line: u64,
     },
@@ -210,8 +206,7 @@ fn done(engine: &mut Engine, line: &[u8], text: &mut Vec<u8>, unwritten: &mut Ve
             Ok(()) => Fed::All,
             Err(_) => Fed::NoMemory,
         },
-        Err(LineRefused::Line(refused)) => Fed::Stopped {
-            refused,
+        Err(LineRefused::BadLine) => Fed::Stopped {
             line: engine.number(),
         },
         Err(LineRefused::NoMemory) => Fed::NoMemory,

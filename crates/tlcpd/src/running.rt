@@ -2,13 +2,12 @@
 ghost use Rattle.std.specs.Prelude.{◌≡◌, ◌⊎◌, ◌↔◌, IsTrue, map};
 ghost use Rattle.std.specs.String.{string_bytes};
 ghost use Rattle.ls_outside.specs.Causes.{Rose, RoseBy};
-ghost use Rattle.tlcpd.specs.Ran.{Ran, IsReplay, status_at, number_at};
+ghost use Rattle.tlcpd.specs.Ran.{Ran, Completes, IsReplay, status_at, number_at};
 ghost use Rattle.tlcpd.specs.Replay.{StandsFor, start};
 
 use crate::replay::{Fed, Replay};
 use ls_outside::{Got, Sink, Source};
 use ls_value::NoMemory;
-use ls_world::Refused;
 use std::alloc::Global;
 use std::fmt;
 use std::sync::Wait;
@@ -42,12 +41,6 @@ pub enum Status {
         /// Its number in the script, from 1.
         line: u64,
     },
-
-    /// A line asks for something that isn't built yet. Each line before it was done.
-    NotBuilt {
-        /// Its number in the script, from 1.
-        line: u64,
-    },
 }
 
 impl Status {
@@ -62,7 +55,6 @@ impl Status {
             Status::ReadFault => 4,
             Status::WriteFault => 5,
             Status::NoMemory => 6,
-            Status::NotBuilt { line: _ } => 9,
         }
     }
 }
@@ -82,7 +74,6 @@ impl fmt::Display for Status {
             Status::WriteFault => write!(f, "write fault"),
             Status::NoMemory => write!(f, "out of memory"),
             Status::BadScript { line } => write!(f, "bad script line {line}"),
-            Status::NotBuilt { line } => write!(f, "not built, line {line}"),
         }
     }
 }
@@ -103,14 +94,7 @@ fn status_of(fed: Fed) -> Status
 {
     match fed {
         Fed::All => Status::Ok,
-        Fed::Stopped {
-            refused: Refused::BadScript,
-            line,
-        } => Status::BadScript { line },
-        Fed::Stopped {
-            refused: Refused::NotBuilt,
-            line,
-        } => Status::NotBuilt { line },
+        Fed::Stopped { line } => Status::BadScript { line },
         Fed::WriteFault => Status::WriteFault,
         Fed::NoMemory => Status::NoMemory,
     }
@@ -177,6 +161,10 @@ fn play<R: Wait, S: Source, K: Sink>(
 ///
 /// `replay` reads a script from the source to its end, piece by piece, does its lines one by one, and writes what the
 /// lines of a piece print before the next one is read. Other words are answered `Status::Usage`.
+///
+/// Where neither a read nor a write fails, and fewer than 3,000 reads find no byte yet, a script without a bad line is
+/// done whole and ends `Status::Ok`, and another is done to its first bad line and ends `Status::BadScript` with its
+/// number, or memory was wanting.
 pub fn run<R: Wait, S: Source, K: Sink>(
     rt: &R,
     alloc: Global,
@@ -189,6 +177,11 @@ pub fn run<R: Wait, S: Source, K: Sink>(
     ensures read_fault { result ≡ Status.ReadFault → Rose (S.faults source.old) (S.faults source.new)
         ⊎ RoseBy 3000 (S.waits source.old) (S.waits source.new) }
     ensures write_fault { result ≡ Status.WriteFault → Rose (K.faults sink.old) (K.faults sink.new) }
+    ensures complete { IsReplay (map string_bytes words.now)
+        → ¬ Rose (S.faults source.old) (S.faults source.new)
+        → ¬ RoseBy 3000 (S.waits source.old) (S.waits source.new)
+        → ¬ Rose (K.faults sink.old) (K.faults sink.new)
+        → Completes result (S.unread source.old) (K.held sink.old) (K.held sink.new) }
 {
     if !is_replay(words) {
         return Status::Usage;
@@ -201,7 +194,17 @@ mod budgets;
 #[cfg(test)]
 mod codes;
 #[cfg(test)]
+mod drawn;
+#[cfg(test)]
+mod edges;
+#[cfg(test)]
 mod longest;
+#[cfg(test)]
+mod plain;
+#[cfg(test)]
+mod recovery;
+#[cfg(test)]
+mod streams;
 #[cfg(test)]
 mod tests;
 #[cfg(test)]

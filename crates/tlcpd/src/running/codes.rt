@@ -4,7 +4,7 @@ use crate::running::longest::Long;
 use crate::running::worked::Row;
 
 /// Requests that are refused, subscriptions and sessions that end, and several of each.
-pub(crate) const REQUESTED: [Row; 8] = [
+pub(crate) const REQUESTED: [Row; 9] = [
     // The refusals of an add and of a delete, by their codes.
     (
         b"item q MERGE x\nitem d DISTINCT y\nopen c\nreq c control LS_reqId=1&LS_session=S\
@@ -108,6 +108,16 @@ pub(crate) const REQUESTED: [Row; 8] = [
         b"d:REQOK,a\nd:REQERR,b,20,Unknown session\nd:REQERR,e,20,Unknown session\n\
           d:REQOK,f\nc:END,31,Destroyed by request\n-ended 31\n\
           -none\n",
+    ),
+    // A bind behind more lines than there are, and a session that was without a stream for too long.
+    (
+        b"open c\ntake c 3\nreq c bind_session LS_session=S1&LS_recovery_from=1\nlose c\n\
+          tick 30000\ntake c\nreq c bind_session LS_session=S1\n\
+          req c control LS_reqId=a&LS_op=force_rebind\n",
+        Status::Ok,
+        b"c:CONOK,S1,50000,5000,*\nc:SERVNAME,tlcpd\nc:CONS,unlimited\n\
+          c:CONERR,4,Recovery not possible\n-lost\n-ended 73\n\
+          c:CONERR,20,Unknown session\nc:REQERR,a,20,Unknown session\n",
     ),
 ];
 
@@ -213,7 +223,8 @@ pub(crate) const LINES: Long = (
     ],
 );
 
-/// One slot more than a server may give, and one where others left; 64 names of a group, and 65.
+/// One slot more than a server may give, and one where others left by a request; 64 names of a group, and 65; and 64
+/// slots more than there are left, until a session times out.
 pub(crate) const SLOTS: Long = (
     &[
         ("item i# MERGE x\n", 1, 65),
@@ -239,6 +250,28 @@ pub(crate) const SLOTS: Long = (
             0,
             1,
         ),
+        (
+            "req d control LS_reqId=e&LS_op=add&LS_subId=2&LS_mode=MERGE&LS_schema=x&LS_g\
+              roup=i1",
+            0,
+            1,
+        ),
+        ("+i#", 2, 65),
+        (
+            "\nlose c\ntick 29999\nreq d control LS_reqId=f&LS_op=add&LS_subId=2&LS_mode=MERGE&LS_schema=x&LS_g\
+              roup=i1",
+            0,
+            1,
+        ),
+        ("+i#", 2, 65),
+        (
+            "\ntick 30000\nreq d control LS_reqId=g&LS_op=add&LS_subId=2&LS_mode=MERGE&LS_schema=x&LS_g\
+              roup=i1",
+            0,
+            1,
+        ),
+        ("+i#", 2, 65),
+        ("\n", 0, 1),
     ],
     &[
         (
@@ -253,7 +286,8 @@ pub(crate) const SLOTS: Long = (
         ),
         (
             "d:REQERR,a,71,Too many subscriptions\nd:REQERR,b,21,Bad group\n\
-              c:REQOK,c\nd:REQOK,d\n",
+              c:REQOK,c\nd:REQOK,d\nd:REQERR,e,71,Too many subscriptions\n\
+              -lost\nd:REQERR,f,71,Too many subscriptions\nd:REQOK,g\n",
             0,
             1,
         ),

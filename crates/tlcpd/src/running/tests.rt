@@ -1,9 +1,14 @@
-//! Runs over memory: worked scripts, the greatest sizes, and reads and writes that fail, each in turn.
+//! Runs over memory: worked scripts, streams that are lost, the greatest sizes, and reads and writes that fail, each in
+//! turn.
 use super::*;
 use crate::running::budgets::{BUDGETS, CHANGES, LOST, OWED};
 use crate::running::codes::{FIELDS, LINES, REQUESTED, SESSIONS, SLOTS, SUBSCRIPTIONS};
 use crate::running::longest::{
     BACKLOG, BYTES, KEYS, Long, RAW_256, RAW_300, SILENT, WIDE, text_of,
+};
+use crate::running::recovery::{BOUND, GIVEN_AGAIN, KEPT, OWED_WITHOUT_STREAM, RECOVERED, UNSENT};
+use crate::running::streams::{
+    ALL_TIMED_OUT, FAR, LOOPED, OWED_OVER_HTTP, OWED_OVER_WS, RECOVERED_OVER_HTTP, TIMED_OUT,
 };
 use crate::running::worked::{QUOTE, QUOTE_PRINTED, REFUSED, Row, WORKED};
 use crate::tests::words_of;
@@ -68,7 +73,7 @@ fn holds<R: Wait>(rt: &R, alloc: Global, case: &Case) -> Result<bool, AllocError
 }
 
 /// Whether a script that is read and written without a fault ends so, and prints this.
-fn prints<R: Wait>(
+pub(crate) fn prints<R: Wait>(
     rt: &R,
     alloc: Global,
     script: &[u8],
@@ -96,6 +101,15 @@ fn worked_scripts(rt: HostRuntime) -> Result<(), Fail> {
     assert!(rt; first_unlike(&rt, rt.alloc(), &REFUSED)?.is_none());
     assert!(rt; first_unlike(&rt, rt.alloc(), &REQUESTED)?.is_none());
     assert!(rt; first_unlike(&rt, rt.alloc(), &BUDGETS)?.is_none());
+    Ok(())
+}
+
+#[test]
+fn streams_that_are_lost(rt: HostRuntime) -> Result<(), Fail> {
+    assert!(rt; first_unlike(&rt, rt.alloc(), &RECOVERED)?.is_none());
+    assert!(rt; first_unlike(&rt, rt.alloc(), &BOUND)?.is_none());
+    assert!(rt; first_unlike(&rt, rt.alloc(), &LOOPED)?.is_none());
+    assert!(rt; first_unlike(&rt, rt.alloc(), &TIMED_OUT)?.is_none());
     Ok(())
 }
 
@@ -210,6 +224,23 @@ fn the_limits_of_requests(rt: HostRuntime) -> Result<(), Fail> {
         CHANGES,
         OWED,
         LOST,
+    ];
+    assert!(rt; first_long_unlike(&rt, rt.alloc(), &long)?.is_none());
+    Ok(())
+}
+
+#[test]
+fn many_lines_of_streams(rt: HostRuntime) -> Result<(), Fail> {
+    let long = [
+        KEPT,
+        GIVEN_AGAIN,
+        UNSENT,
+        OWED_WITHOUT_STREAM,
+        OWED_OVER_HTTP,
+        OWED_OVER_WS,
+        RECOVERED_OVER_HTTP,
+        ALL_TIMED_OUT,
+        FAR,
     ];
     assert!(rt; first_long_unlike(&rt, rt.alloc(), &long)?.is_none());
     Ok(())

@@ -169,7 +169,7 @@ pub(crate) const WORKED: [Row; 17] = [
 ];
 
 /// Scripts with a line that is refused, and what is printed before it.
-pub(crate) const REFUSED: [Row; 8] = [
+pub(crate) const REFUSED: [Row; 9] = [
     // Undeclared item.
     (
         b"item q MERGE x\npub 1 1 ghost x=1\n",
@@ -184,22 +184,29 @@ pub(crate) const REFUSED: [Row; 8] = [
     ),
     // No line.
     (b"stop\n", Status::BadScript { line: 1 }, b""),
-    // Over http.
-    (b"conn c http\n", Status::NotBuilt { line: 1 }, b""),
-    // A loss.
-    (b"open c\nlose c\n", Status::NotBuilt { line: 2 }, b""),
-    // A change of a stream, and a bind.
+    // Another link.
+    (b"open c\nconn h tcp\n", Status::BadScript { line: 2 }, b""),
+    // No such connection.
     (
-        b"open c\nreq c control LS_reqId=1&LS_op=force_rebind\n",
-        Status::NotBuilt { line: 2 },
-        b"",
+        b"open c\nlose c\nlose d\nlose c\n",
+        Status::BadScript { line: 3 },
+        b"-lost\n",
     ),
+    // A stream is lost once a line.
+    (b"open c\nlose c 1\n", Status::BadScript { line: 2 }, b""),
+    // A connection that is there already.
     (
-        b"open c\nreq c bind_session LS_session=S1\n",
-        Status::NotBuilt { line: 2 },
-        b"",
+        b"conn c http\nreq c bind_session LS_session=S1\nconn c ws\n",
+        Status::BadScript { line: 3 },
+        b"c:CONERR,20,Unknown session\n",
     ),
-    // An update without the command of the item.
+    // A name of a request that has another form.
+    (
+        b"open c\ntake c\nreq c bind:session LS_session=S1\ntake c\n",
+        Status::BadScript { line: 3 },
+        b"c:CONOK,S1,50000,5000,*\n",
+    ),
+    // An adapter of number 0.
     (
         b"item q MERGE x\npub 1 1 q x=A\npub 0 1 q x=B\n",
         Status::BadScript { line: 3 },

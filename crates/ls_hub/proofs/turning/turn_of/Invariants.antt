@@ -10,4 +10,4 @@ use Rattle.ls_hub.proofs.turning.turn_of.Given as goal
 abbrev pub invariant-loop : goal.invariant-loop
 invariant-loop l = (items : List Item) (before behind : List Live) (r : Record) → StandsSession l.initial.session r → r.tick ≤ l.now
     → l.now ≤ GREATEST_TICK → StandsCells l.initial.cells items (before ++ r.session.board.round ++ behind)
-    → GoesOn l.now items before behind r l.session l.cells
+    → GoesOn l.now items l.epoch before behind r l.session l.cells

@@ -1,6 +1,7 @@
 use Rattle.std.proofs.Common.{None, Some, ◌≡◌, arith}
-use Rattle.ls_session.specs.Session.{IsShort}
-use Rattle.ls_session.proofs.Limits.{ok_is, conf_short}
+use Rattle.ls_stream.specs.Standing.{IsShort}
+use Rattle.ls_session.proofs.Limits.{conf_short}
+use Rattle.ls_stream.proofs.Lengths.{ok_is}
 use Rattle.ls_session.proofs.telling.conf_text.Goals as goal
 
 pub returns-in-None-clause-short : goal.returns-in-None-clause-short

@@ -1,6 +1,7 @@
 use Rattle.std.proofs.Common.{arith}
-use Rattle.ls_session.specs.Session.{IsShort}
-use Rattle.ls_session.proofs.Limits.{ok_is, unsub_short}
+use Rattle.ls_stream.specs.Standing.{IsShort}
+use Rattle.ls_session.proofs.Limits.{unsub_short}
+use Rattle.ls_stream.proofs.Lengths.{ok_is}
 use Rattle.ls_session.proofs.telling.unsub_text.Goals as goal
 
 pub returns-clause-short : goal.returns-clause-short

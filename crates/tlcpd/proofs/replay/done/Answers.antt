@@ -1,5 +1,5 @@
 use Rattle.std.proofs.Common.{ap, refl, Err}
-use Rattle.tlcpd.proofs.Feeding.{line_held, line_engine, line_refused}
+use Rattle.tlcpd.proofs.Feeding.{line_held, line_engine, bad_line}
 use Rattle.tlcpd.proofs.replay.done.Goals as goal
 
 pub returns-in-Ok-extend_from_slice-clause-holds : goal.returns-in-Ok-extend_from_slice-clause-holds
@@ -12,8 +12,8 @@ pub returns-in-Ok-extend_from_slice-clause-all : goal.returns-in-Ok-extend_from_
 returns-in-Ok-extend_from_slice-clause-all c = λ is w st.
     line_engine w c.args.line.now c.line.new.text.items c.line.new.self (rw c.clear.ensures.items at c.in-Ok.ensures.ok w st)
 
-pub returns-in-Err-Line-clause-holds : goal.returns-in-Err-Line-clause-holds
-returns-in-Err-Line-clause-holds c = λ w st.
-    line_refused w c.args.line.now _ _ c.in-Err-Line.refused c.number.result c.line.new.self
-    (c.in-Err-Line.ensures.refused c.in-Err-Line.refused (ap (λ e. Err e) c.in-Err-Line.field-0-is) w st)
+pub returns-in-Err-BadLine-clause-holds : goal.returns-in-Err-BadLine-clause-holds
+returns-in-Err-BadLine-clause-holds c = λ w st.
+    bad_line w c.args.line.now _ _ c.number.result c.line.new.self
+    (c.in-Err-BadLine.ensures.bad (ap (λ e. Err e) c.in-Err-BadLine.field-0-is) w st)
     c.number.ensures refl

@@ -11,6 +11,6 @@ pub returns : goal.returns
 returns c = λ w st.
     rw c.has_moved.ensures
     (enqueue_did c.args.self.now _ w c.args.connection c.args.sub c.args.rank c.in-Some.slot c.in_ok-answer.answer _ _ st
-    (record { config = refl; tick = refl; connections = refl; alive = refl; sessions = refl })
+    (record { config = refl; tick = refl; connections = refl; living = refl; sessions = refl })
     (named_in w c.args.connection c.args.sub c.args.rank _ c.in-Some.slot (c.slot_of.ensures w st) c.in-Some.is) c.in_ok-answer.ensures.ok
     (c.in_ok-append-2.ensures ∙ ap (λ o. c.args.text.now.items ++ text_of_out o) c.out_enqueued.ensures))

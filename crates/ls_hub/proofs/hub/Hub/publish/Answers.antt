@@ -11,7 +11,7 @@ returns-then-not-takes c = λ w st.
 pub returns : goal.returns
 returns c = λ w st.
     publishes_did c.args.self.now _ w c.args.item (record { adapter = c.args.adapter; seq = c.args.seq; event = c.args.event }) c.publish-answer.result _ _
-    (record { config = refl; tick = refl; connections = refl; alive = refl; sessions = refl }) st
+    (record { config = refl; tick = refl; connections = refl; living = refl; sessions = refl }) st
     (record {
       some = c.in_ok-append_published.ensures.some;
       first = c.publish-answer.ensures.answer;

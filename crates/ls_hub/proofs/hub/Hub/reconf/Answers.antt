@@ -1,14 +1,14 @@
 use Rattle.std.proofs.Common.{refl, ap}
 use Rattle.std.specs.Prelude.{Err}
 use Rattle.ls_world.specs.Acting.{change_code}
-use Rattle.ls_world.specs.World.{on_board, reconfigured}
+use Rattle.ls_world.specs.World.{numbered, reconfigured}
 use Rattle.ls_hub.proofs.Operated.{refused, has_reconfigured}
 use Rattle.ls_hub.proofs.hub.Hub.reconf.Goals as goal
 
 pub returns-in-Err-Code-clause-did : goal.returns-in-Err-Code-clause-did
 returns-in-Err-Code-clause-did c = λ w s st living.
     refused c.args.self.now _ w s c.args.place c.index_mut.result.now c.reconf.new.self (λ x. change_code x c.args.sub) c.in-Err-Code.code
-    (on_board (reconfigured c.args.sub c.args.frequency)) st living
+    (numbered (reconfigured c.args.sub c.args.frequency)) st living
     (record { low = c.requires.place; at = c.index_mut.ensures.value; config = refl; tick = refl; connections = refl; sessions = refl }) refl refl
     (c.in-Err-Code.ensures.refused c.in-Err-Code.code (ap (λ x. Err x) c.in-Err-Code.field-0-is)) c.in-Err-Code.ensures.err
 

@@ -7,6 +7,6 @@ pub returns-clause-ok : goal.returns-clause-ok
 returns-clause-ok c = λ r st. (
   c.in_ok-slots.ensures ∙ ap (refs_of c.args.sub) st.round.slots ∙ named_of c.args.sub r.session.board.round,
   deleted c.args.self.now c.reserve.new.self c.number.new.self c.remove.new.self c.leave.new.self r c.args.sub c.in_ok-line.line st
-      (record { same = c.in_ok-reserve.ensures.unsent; rest = c.in_ok-reserve.ensures.rest }) c.number.ensures c.in_ok-line.ensures.text
-      c.in_ok-line.ensures.short c.requires (c.remove.ensures.stands r.session.board.lines r.session.board.round st.subs) c.leave.ensures,
+      c.in_ok-reserve.ensures.rest c.number.ensures c.in_ok-line.ensures.text
+      c.in_ok-line.ensures.short (c.remove.ensures.stands r.session.board.lines r.session.board.round st.subs) c.leave.ensures,
 )

@@ -1,5 +1,5 @@
-use Rattle.std.proofs.Common.{◌≡◌, ◌∙◌, ◌≤◌, map, ap, refl, sym, subst, [], arith}
-use Rattle.ls_world.specs.World.{opened}
+use Rattle.std.proofs.Common.{map, ap, sym, subst, [], arith}
+use Rattle.ls_world.specs.World.{Session, opened}
 use Rattle.ls_session.specs.Record.{begun_anew}
 use Rattle.ls_session.specs.Asking.{Asking}
 use Rattle.ls_session.specs.Session.{StandsRound}
@@ -7,13 +7,12 @@ use Rattle.ls_session.proofs.Moves.{round_anew}
 use Rattle.ls_session.proofs.session.Session.new.Goals as goal
 
 pub returns : goal.returns
-returns c = λ most. record {
-  lines = c.in_ok-lines.ensures.stands;
-  short = c.in_ok-lines.ensures.short;
-  round = subst (λ (x : Asking). StandsRound x (begun_anew c.args.now (opened c.args.id c.args.create.now.keepalive c.args.create.now.bandwidth)))
-      (sym c.in_ok-asking.ensures.1)
-      (round_anew c.in_ok-asking.asking c.args.now (opened c.args.id c.args.create.now.keepalive c.args.create.now.bandwidth) most
-      (ap (λ ss. map (λ s. s.slot) ss) c.in_ok-asking.ensures.0));
-  subs = c.new-3.ensures [];
-  rate = record { latest = omega (arith, c.new-4.ensures.latest); behind = omega arith; spends = c.new-4.ensures.stands };
-}
+returns c = λ most.
+    let s : Session = opened c.args.id c.args.create.now.keepalive c.args.create.now.bandwidth c.args.create.now.length in
+    record {
+      lines = c.in_ok-lines.ensures;
+      round = subst (λ (x : Asking). StandsRound x (begun_anew c.args.now s)) (sym c.in_ok-asking.ensures.1)
+          (round_anew c.in_ok-asking.asking c.args.now s most (ap (λ ss. map (λ s. s.slot) ss) c.in_ok-asking.ensures.0));
+      subs = c.new-3.ensures [];
+      rate = record { latest = omega (arith, c.new-4.ensures.latest); behind = omega arith; spends = c.new-4.ensures.stands };
+    }

@@ -5,7 +5,8 @@ use Rattle.ls_turns.specs.declared.slot_ref.SlotRef.{SlotRef}
 use Rattle.ls_subs.specs.declared.told.Told.TheVariants as tells
 use Rattle.ls_session.specs.Asking.{with_turns}
 use Rattle.ls_session.specs.Record.{answered}
-use Rattle.ls_session.specs.Session.{StandsSession, NumbersLine, SpendsText}
+use Rattle.ls_stream.specs.Standing.{NumbersLine}
+use Rattle.ls_session.specs.Session.{StandsSession, SpendsText}
 use Rattle.ls_session.specs.declared.session.Session.{Session as Kept}
 use Rattle.ls_session.proofs.Replies.{asked_slot, question_parts, answered_silent, answered_line, tells_short, update_rate, other_rate}
 use Rattle.ls_session.proofs.session.Session.tell.Goals as goal
@@ -16,7 +17,7 @@ returns-in-Nothing-clause-told c = λ r v st is named suits light.
     let tick : c.tick.result ≡ r.tick = c.tick.ensures ∙ st.round.tick in
     answered_silent c.args.self.now c.reserve.new.self c.accept.new.self c.again.new.self r v c.args.taken
     (record { told = c.in_ok-told.told; before = c.in_ok-text.text.items; after = c.accept.new.text.items }) st
-    (record { same = c.in_ok-reserve.ensures.unsent; rest = c.in_ok-reserve.ensures.rest }) c.again.ensures c.in-Nothing.is
+    c.in_ok-reserve.ensures.rest c.again.ensures c.in-Nothing.is
     (c.in_ok-told.ensures.accepted (asked_slot r v) parts.0 (sym named) (sym tick) (subst (λ (n : ℕ). n ≤ GREATEST_TICK) (sym tick) st.round.most) suits
     st.subs)
 
@@ -32,9 +33,9 @@ returns-in-Update-clause-told c = λ r v st is named suits light.
     } = c.note.ensures.rest ∙ ap (λ (x : Kept). record x { lines = c.note.new.self.lines; asking = c.note.new.self.asking }) c.spend.ensures.rest in
     let p = answered_line c.args.self.now c.reserve.new.self c.note.new.self.lines c.accept.new.self c.note.new.self.asking c.spend.new.self.bandwidth r v
     c.args.taken (record { told = c.in_ok-told.told; before = c.in_ok-text.text.items; after = c.accept.new.text.items }) st
-    (record { same = c.in_ok-reserve.ensures.unsent; rest = c.in_ok-reserve.ensures.rest })
+    c.in_ok-reserve.ensures.rest
     (subst (λ (x : Kept). NumbersLine x.lines c.accept.new.text.items c.note.new.self.lines) c.spend.ensures.rest c.note.ensures.line)
-    c.in_ok-text.ensures.items c.if-self-ge-GREATEST_NUMBER.false parts.0
+    c.in_ok-text.ensures.items parts.0
     (c.note.ensures.back ∙ ap (λ (x : Kept). with_turns (gave c.args.slot.sub c.args.slot.place x.asking.turns) x.asking) c.spend.ensures.rest
     ∙ ap (λ (s : SlotRef). with_turns (gave s.sub s.place c.args.self.now.asking.turns) c.args.self.now.asking) named)
     (λ e. absurd (let x : tells.Update ≡ tells.Nothing = sym c.in-Update.is ∙ e in cc))
@@ -54,8 +55,8 @@ returns-in-Other-clause-told c = λ r v st is named suits light.
     let p = answered_line c.args.self.now c.reserve.new.self c.note-in-Other.new.self.lines c.accept.new.self c.note-in-Other.new.self.asking
     c.args.self.now.bandwidth r v
     c.args.taken (record { told = c.in_ok-told.told; before = c.in_ok-text.text.items; after = c.accept.new.text.items }) st
-    (record { same = c.in_ok-reserve.ensures.unsent; rest = c.in_ok-reserve.ensures.rest }) c.note-in-Other.ensures.line
-    c.in_ok-text.ensures.items c.if-self-ge-GREATEST_NUMBER.false parts.0
+    c.in_ok-reserve.ensures.rest c.note-in-Other.ensures.line
+    c.in_ok-text.ensures.items parts.0
     (c.note-in-Other.ensures.back
     ∙ ap (λ (s : SlotRef). with_turns (gave s.sub s.place c.args.self.now.asking.turns) c.args.self.now.asking) named)
     (λ e. absurd (let x : tells.Other ≡ tells.Nothing = sym c.in-Other.is ∙ e in cc))

@@ -1,0 +1,26 @@
+use Rattle.std.proofs.Common.{refl, ap}
+use Rattle.std.proofs.lemmas.Result.{on_ok_weaker}
+use Rattle.std.specs.Prelude.{Err}
+use Rattle.ls_world.specs.Acting.{bind_code}
+use Rattle.ls_world.specs.World.{rebound}
+use Rattle.ls_hub.proofs.Operated.{refused}
+use Rattle.ls_hub.proofs.Streams.{refused_stands, bind_refused, bind_done}
+use Rattle.ls_hub.proofs.hub.Hub.bind_living.Goals as goal
+
+pub returns-in-Err-Code : goal.returns-in-Err-Code
+returns-in-Err-Code c = on_ok_weaker c.refuse_stream.result (λ did w s st living.
+    let d = refused c.args.self.now _ w s c.args.place c.index_mut.result.now c.bind.new.self (λ x. bind_code x c.args.bind.now) c.in-Err-Code.code
+    (rebound c.args.bind.now.session c.args.bind.now) st living
+    (record { low = c.requires; at = c.index_mut.ensures.value; config = refl; tick = refl; connections = refl; sessions = refl }) refl refl
+    (c.in-Err-Code.ensures.refused c.in-Err-Code.code (ap (λ x. Err x) c.in-Err-Code.field-0-is)) c.in-Err-Code.ensures.err in
+    bind_refused _ w c.args.connection c.args.bind.now c.args.place s (rebound c.args.bind.now.session c.args.bind.now) c.in-Err-Code.code
+    c.args.text.now.items c.refuse_stream.new.text.items d
+    (did w (refused_stands _ w c.args.place (bind_code s c.args.bind.now) (rebound c.args.bind.now.session c.args.bind.now) c.in-Err-Code.code d)))
+    c.refuse_stream.ensures
+
+pub returns-in-Ok : goal.returns-in-Ok
+returns-in-Ok c = λ w s st living.
+    bind_done c.args.self.now _ w s c.args.connection c.args.place c.index_mut.result.now c.bind.new.self c.args.bind.now c.in-Ok.epoch
+    c.args.text.now.items st living
+    (record { low = c.requires; at = c.index_mut.ensures.value; config = refl; tick = refl; connections = refl; sessions = refl }) refl refl
+    c.give_session.ensures c.in-Ok.ensures.accepted

@@ -1,0 +1,17 @@
+use Rattle.std.proofs.Common.{refl, ap}
+use Rattle.std.specs.Prelude.{Err, None}
+use Rattle.ls_world.specs.World.{forced}
+use Rattle.ls_hub.proofs.Operated.{refused, has_forced}
+use Rattle.ls_hub.proofs.hub.Hub.force_rebind.Goals as goal
+
+pub returns-in-Err-Code-clause-did : goal.returns-in-Err-Code-clause-did
+returns-in-Err-Code-clause-did c = λ w s st living.
+    refused c.args.self.now _ w s c.args.place c.index_mut.result.now c.force_rebind.new.self (λ x. None) c.in-Err-Code.code forced st living
+    (record { low = c.requires; at = c.index_mut.ensures.value; config = refl; tick = refl; connections = refl; sessions = refl }) refl refl
+    (c.in-Err-Code.ensures.refused c.in-Err-Code.code (ap (λ x. Err x) c.in-Err-Code.field-0-is)) c.in-Err-Code.ensures.err
+
+pub returns-in-Ok-clause-did : goal.returns-in-Ok-clause-did
+returns-in-Ok-clause-did c = λ w s st living.
+    has_forced c.args.self.now _ w s c.args.place c.index_mut.result.now c.force_rebind.new.self st living
+    (record { low = c.requires; at = c.index_mut.ensures.value; config = refl; tick = refl; connections = refl; sessions = refl }) refl refl
+    c.in-Ok.ensures.accepted

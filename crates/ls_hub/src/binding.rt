@@ -1,0 +1,98 @@
+//! Streams that begin anew, and streams that are lost (TLCP 2.1, bind_session and force_rebind).
+ghost use Rattle.std.specs.Prelude.{◌≡◌, ◌<◌, ◌++◌, length, None, IfOk, OnOk};
+ghost use Rattle.ls_world.specs.World.{World, Session as ASession, forced};
+ghost use Rattle.ls_world.specs.Steps.{binds, loses};
+ghost use Rattle.ls_hub.specs.Hub.{StandsHub, Prints};
+ghost use Rattle.ls_hub.specs.Requests.{IsLiving, DidOperate, binds_living, out_of_loss};
+
+use crate::controlling::UNKNOWN_SESSION;
+use crate::creating::give_session;
+use crate::hub::Hub;
+use ls_request::Bind;
+use ls_session::Lost;
+use ls_step::{Out, append};
+use ls_subs::Refusal;
+use ls_value::NoMemory;
+
+impl Hub {
+    /// A bind_session: a new stream of the session that it names, which is the connection's, or CONERR on the
+    /// connection.
+    pub(crate) fn bind(
+        &mut self,
+        connection: usize,
+        bind: &Bind,
+        text: &mut Vec<u8>,
+    ) -> Result<(), NoMemory>
+        ensures { OnOk result ((w : World) → StandsHub self.old w
+            → Prints (binds w connection bind.now) text.old.items text.new.items self.new) }
+    {
+        match self.living(self.named(connection, Some(bind.session))) {
+            None => self.refuse_stream(connection, UNKNOWN_SESSION, text),
+            Some(place) => self.bind_living(connection, place, bind, text),
+        }
+    }
+
+    /// A new stream of the session of a place, which hasn't ended, or CONERR on the connection. After `NoMemory` the
+    /// hub is as before.
+    fn bind_living(
+        &mut self,
+        connection: usize,
+        place: usize,
+        bind: &Bind,
+        text: &mut Vec<u8>,
+    ) -> Result<(), NoMemory>
+        requires { place < length self.old.sessions.items }
+        ensures { OnOk result ((w : World) (s : ASession) → StandsHub self.old w → IsLiving w place s
+            → Prints (binds_living w connection bind.now place s) text.old.items text.new.items self.new) }
+    {
+        let now = self.tick;
+        match self.sessions[place].bind(bind, now) {
+            Err(Refusal::Code(code)) => self.refuse_stream(connection, code, text),
+            Err(Refusal::NoMemory) => Err(NoMemory),
+            Ok(epoch) => {
+                give_session(&mut self.connections, connection, place, epoch);
+                Ok(())
+            }
+        }
+    }
+
+    /// The stream of the session of a place, which hasn't ended, is forced to be over; or the code that it is refused
+    /// for.
+    pub(crate) fn force_rebind(&mut self, place: usize) -> Result<Option<u16>, NoMemory>
+        requires { place < length self.old.sessions.items }
+        ensures connections { self.new.connections ≡ self.old.connections }
+        ensures did { IfOk result (λ code. (w : World) (s : ASession) → StandsHub self.old w → IsLiving w place s
+            → DidOperate w place None forced code self.new) }
+    {
+        match self.sessions[place].force_rebind() {
+            Err(Refusal::Code(code)) => Ok(Some(code)),
+            Err(Refusal::NoMemory) => Err(NoMemory),
+            Ok(()) => Ok(None),
+        }
+    }
+
+    /// The stream of a connection is lost, and a note says what comes of it.
+    pub(crate) fn lose(&mut self, connection: u32, text: &mut Vec<u8>) -> Result<(), NoMemory>
+        ensures { OnOk result ((w : World) → StandsHub self.old w
+            → Prints (loses w connection) text.old.items text.new.items self.new) }
+    {
+        let Some(place) = self.session_place(connection as usize) else {
+            return append(text, &Out::NoSession);
+        };
+        let epoch = self.epoch_of(connection as usize);
+        let now = self.tick;
+        let lost = self.sessions[place].lose(epoch, now);
+        append(text, &out_of_loss(lost))
+    }
+}
+
+/// What the loss of a stream prints.
+fn out_of_loss(lost: Lost) -> Out
+    ensures { result ≡ out_of_loss lost }
+{
+    match lost {
+        Lost::Unbound => Out::Lost,
+        Lost::Superseded { epoch } => Out::Superseded { epoch },
+        Lost::NotBound => Out::Unbound,
+    }
+}

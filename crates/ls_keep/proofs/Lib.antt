@@ -1,0 +1,4 @@
+pub mod Least
+pub mod Trimming
+pub mod Losing
+mod Examples

@@ -1,0 +1,118 @@
+-- What is kept of lines stands for another session.
+use Rattle.std.proofs.Common.{◌≡◌, ℕ, List, [], ◌∷◌, ◌++◌, Option, sym, ◌∙◌, ap, subst}
+use Rattle.ls_keep.specs.Keeping.{Numbered, given_up_after, trimmed}
+use Rattle.ls_keep.specs.Kept.{StandsKeep}
+use Rattle.ls_keep.proofs.Trimming.{trimmed_twice}
+use Rattle.ls_world.specs.Lawful.{Each}
+use Rattle.ls_world.specs.Lines.{Line, line_text, texts_behind}
+use Rattle.ls_world.specs.World.{Live, Board, Session, numbered, constrained, bandwidth_text}
+use Rattle.ls_world.proofs.Texts.{texts_step}
+use Rattle.ls_stream.specs.Standing.{StandsLines, NumbersLine, IsRoomier, AreShort, IsShort, numbered_of}
+use Rattle.ls_stream.specs.declared.lines.Lines.{Lines as Kept}
+
+-- whatever the round is
+pub lines_round : (k : Kept) (s : Session) (round : List Live) → StandsLines k s
+    → StandsLines k (record s { board = record { lines = s.board.lines; round = round } })
+lines_round k s round st =
+    record { owed = st.owed; keep = st.keep; stream = st.stream; unbound = st.unbound; life = st.life; end = st.end; short = st.short }
+
+-- more room alone
+pub lines_roomier : (k k' : Kept) (s : Session) → StandsLines k s → IsRoomier k k' → StandsLines k' s
+lines_roomier k k' s st is =
+    subst (λ (x : Kept). StandsLines x s) (sym is)
+    (record {
+      owed = st.owed;
+      keep = record {
+        texts = st.keep.texts;
+        sent = st.keep.sent;
+        given_up = st.keep.given_up;
+        given = st.keep.given;
+        numbered = st.keep.numbered;
+        most = st.keep.most;
+      };
+      stream = st.stream;
+      unbound = st.unbound;
+      life = st.life;
+      end = st.end;
+      short = record {
+        owed = st.short.owed;
+        kept = st.short.kept;
+        freed = st.short.freed;
+        given = st.short.given;
+        destroyed = st.short.destroyed;
+        timed_out = st.short.timed_out;
+        end = st.short.end;
+      };
+    })
+
+-- a line is numbered
+abbrev pub with_next : Line → List Live → Board → Board
+with_next l round b = record { lines = l ∷ b.lines; round = round }
+
+pub lines_numbered : (k k' : Kept) (s : Session) (l : Line) (round : List Live) (text : List ℕ) → StandsLines k s → NumbersLine k text k'
+    → text ≡ line_text s.board.lines l → IsShort text → StandsLines k' (numbered (with_next l round) s)
+lines_numbered k k' s l round text st n is few =
+    let all : texts_behind 0 s.board.lines ++ text ∷ [] ≡ texts_behind 0 (l ∷ s.board.lines) =
+    ap (λ (t : List ℕ). texts_behind 0 s.board.lines ++ t ∷ []) is ∙ sym (texts_step l s.board.lines) in
+    subst (λ (x : Kept). StandsLines x (numbered (with_next l round) s)) (sym n.rest)
+    (record {
+      owed = st.owed;
+      keep = subst (λ (ts : List (List ℕ)). StandsKeep k'.keep (trimmed (record { texts = ts; sent = s.sent; given_up = s.given_up }))) all
+          (n.keep (numbered_of s) st.keep);
+      stream = st.stream;
+      unbound = st.unbound;
+      life = st.life;
+      end = st.end;
+      short = subst (λ (x : Kept). AreShort x) n.rest (n.short st.short few);
+    })
+
+-- two lines are
+pub lines_twice : (k : Kept) (s : Session) (first second : Line) (middle round : List Live)
+    → StandsLines k (numbered (with_next second round) (numbered (with_next first middle) s))
+    → StandsLines k (numbered (λ b. record { lines = second ∷ first ∷ b.lines; round = round }) s)
+lines_twice k s first second middle round st =
+    subst (λ (n : ℕ). StandsLines k (record s { board = record { lines = second ∷ first ∷ s.board.lines; round = round }; given_up = n })) once st
+  where
+    texts : List (List ℕ)
+    texts = texts_behind 0 (first ∷ s.board.lines)
+
+    more : List (List ℕ)
+    more = line_text (first ∷ s.board.lines) second ∷ []
+
+    all : texts_behind 0 (second ∷ first ∷ s.board.lines) ≡ texts ++ more
+    all = texts_step second (first ∷ s.board.lines)
+
+    once : given_up_after (given_up_after s.given_up s.sent texts) s.sent (texts_behind 0 (second ∷ first ∷ s.board.lines))
+        ≡ given_up_after s.given_up s.sent (texts_behind 0 (second ∷ first ∷ s.board.lines))
+    once =
+        ap (given_up_after (given_up_after s.given_up s.sent texts) s.sent) all
+        ∙ ap (λ (n : Numbered). n.given_up) (trimmed_twice (record { texts = texts; sent = s.sent; given_up = s.given_up }) more)
+        ∙ ap (given_up_after s.given_up s.sent) (sym all)
+
+-- one more behind others
+pub each_behind : {A : Type 0} (P : A → Type 0) (x : A) (xs : List A) → Each P xs → P x → Each P (xs ++ x ∷ [])
+each_behind P x [] each is = (is, tt)
+each_behind P x (y ∷ xs) each is = (each.0, each_behind P x xs each.1 is)
+
+-- the session has another bandwidth, and its line is owed
+pub lines_owed : (k k' : Kept) (s : Session) (limit : Option ℕ) (text : List ℕ) → StandsLines k s → k'.owed.items ≡ k.owed.items ++ text ∷ []
+    → k' ≡ record k { owed = k'.owed } → text ≡ bandwidth_text limit → IsShort text → StandsLines k' (constrained limit s)
+lines_owed k k' s limit text st owed rest is few =
+    subst (λ (x : Kept). StandsLines x (constrained limit s)) (sym rest)
+    (record {
+      owed = owed ∙ ap (λ xs. xs ++ text ∷ []) st.owed ∙ ap (λ t. s.owed ++ t ∷ []) is;
+      keep = st.keep;
+      stream = st.stream;
+      unbound = st.unbound;
+      life = st.life;
+      end = st.end;
+      short = record {
+        owed = subst (λ (ts : List (List ℕ)). Each IsShort ts) (sym owed) (each_behind IsShort text k.owed.items st.short.owed few);
+        kept = st.short.kept;
+        freed = st.short.freed;
+        given = st.short.given;
+        destroyed = st.short.destroyed;
+        timed_out = st.short.timed_out;
+        end = st.short.end;
+      };
+    })
