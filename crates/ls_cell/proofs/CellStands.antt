@@ -38,12 +38,12 @@ seqs_published seqs h e a n range is = by_test (e.adapter == a) refl ∙ sym (la
     by_test false t = get_or-set_other seqs e.adapter a e.seq 0 (λ x. eqb-false e.adapter a t (sym x)) ∙ is
 
 pub stands_published : (c : Held) (ss : List (Option Slot)) (h : List Entry) (e : Entry) → StandsCell c ss h → IsSound c
-    → e.adapter ≤ MOST_ADAPTERS → HasFields c.item.shape.fields e.event → refusal_of c e.adapter e.seq e.event ≡ None
+    → e.adapter ≤ MOST_ADAPTERS → HasFields c.item.shape.fields e.event → refusal_of c e ≡ None
     → StandsCell (published c e) ss (h ++ e ∷ [])
 stands_published c ss h e st ok range fields none =
     let p : Shape = c.item.shape in
     let g : List Entry = h ++ e ∷ [] in
-    let admitted : IsAdmitted c e.event = admitted_of c e.adapter e.seq e.event none in
+    let admitted : IsAdmitted c e.event = admitted_of c e none in
     let one_more : length g ≡ length h + 1 = length-append h (e ∷ []) in
     let number : c.number + 1 ≡ length h + 1 = ap (λ m. m + 1) st.number in
     let near : first_lagging any_last (length h) 1 c.slots ≡ None =
@@ -55,7 +55,7 @@ stands_published c ss h e st ok range fields none =
     ap (λ m. record { no = m; event = e.event; after = (stored_next c e.event).after }) number
     ∙ ap (λ r. record { no = length h + 1; event = e.event; after = r }) row in
     let grown : IsHistory p g = history_grown p h (least_lagging (length h) ss) e st.history fields
-    (sym (refusal_is c ss h e.adapter e.seq e.event st range) ∙ none) in
+    (sym (refusal_is c ss h e st range) ∙ none) in
     record {
       number = number ∙ sym one_more;
       shape = st.shape;

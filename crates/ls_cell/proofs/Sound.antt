@@ -118,10 +118,10 @@ kind_after k p (state.Command ks) event of = of_command k of
     of_command kind.Command x = tt
 
 pub sound_published : (c : Held) (e : Entry) → IsSound c → HasFields c.item.shape.fields e.event
-    → RowFits c.item.shape.fields (stored_next c e.event).after → refusal_of c e.adapter e.seq e.event ≡ None
+    → RowFits c.item.shape.fields (stored_next c e.event).after → refusal_of c e ≡ None
     → IsSound (published c e)
 sound_published c e ok fields row none =
-    let admitted : IsAdmitted c e.event = admitted_of c e.adapter e.seq e.event none in
+    let admitted : IsAdmitted c e.event = admitted_of c e none in
     let x : Stored = stored_next c e.event in
     let long : length (tail_after c.tail x) ≡ length c.tail + 1 - (length c.tail + 1 - MOST_LAG) =
     length_tail_after c.tail x in

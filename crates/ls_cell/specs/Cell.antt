@@ -75,11 +75,11 @@ pub record IsSound (c : Held) : Type 0 where
 abbrev pub HasSlot : Held → ℕ → Type 0
 HasSlot c slot = IsSome (slot_at c.slots slot)
 
--- why an event is refused, by the first cause of the order
-abbrev pub refusal_of : Held → ℕ → ℕ → Event → Option PublishRefused
-refusal_of c adapter seq event =
-    if nat_le seq (slice_index c.seqs adapter) then Some (refused.Repeated (slice_index c.seqs adapter))
-    else option_or (option_map publish_cause (push_refusal c.item.shape c.item.state event))
+-- why an entry is refused, by the first cause of the order
+abbrev pub refusal_of : Held → Entry → Option PublishRefused
+refusal_of c e =
+    if nat_le e.seq (slice_index c.seqs e.adapter) then Some (refused.Repeated (slice_index c.seqs e.adapter))
+    else option_or (option_map publish_cause (push_refusal c.item.shape c.item.state e.event))
     (backlog_or (first_lagging any_last c.number 1 c.slots)
     (if nat_le GREATEST_NUMBER c.number then Some refused.Spent else None))
 

@@ -159,14 +159,19 @@ impl ItemCell {
     pub fn publish(&mut self, adapter: u8, seq: u64, event: Event) -> Result<u64, PublishRefused>
         requires adapter { adapter ≤ MOST_ADAPTERS }
         requires fields { HasFields self.old.item.shape.fields event }
-        ensures answer { AnswersFirst (refusal_of self.old adapter seq event) (self.old.number + 1) result }
+        ensures answer { AnswersFirst
+            (refusal_of self.old (record { adapter = adapter; seq = seq; event = event }))
+            (self.old.number + 1)
+            result }
         ensures ok { OnOk result (self.new ≡ published self.old (record
             { adapter = adapter; seq = seq; event = event })) }
         ensures shape { self.new.item.shape ≡ self.old.item.shape }
 
         // The history and the records of the slots decide.
         ensures first_cause { (ss : List (Option Slot)) (h : List Entry) → StandsCell self.old ss h
-            → AnswersFirst (refusal self.old.item.shape h (least_lagging (length h) ss) adapter seq event)
+            → AnswersFirst
+            (refusal self.old.item.shape h (least_lagging (length h) ss) (record
+            { adapter = adapter; seq = seq; event = event }))
             (length h + 1)
             result }
 
@@ -176,6 +181,46 @@ impl ItemCell {
         ensures err { OnErr result (self.new ≡ self.old) }
     {
         self.append(adapter, seq, event)
+    }
+
+    /// The first cause that stands against an event, as `publish` answers it, want of memory aside: it is `Ok` exactly
+    /// where there is none, and then `add` adds the event. The adapter is 1 to [`MOST_ADAPTERS`], and an update has a
+    /// cell for each field. It takes no memory, and never answers `NoMemory`.
+    pub fn check(&self, adapter: u8, seq: u64, event: &Event) -> Result<(), PublishRefused>
+        requires adapter { adapter ≤ MOST_ADAPTERS }
+        requires fields { HasFields self.now.item.shape.fields event.now }
+        ensures ok { OnOk result
+            (refusal_of self.now (record { adapter = adapter; seq = seq; event = event.now }) ≡ None) }
+        ensures err { IfErr result
+            (λ e. refusal_of self.now (record { adapter = adapter; seq = seq; event = event.now }) ≡ Some e) }
+
+        // The history and the records of the slots decide.
+        ensures admitted { OnOk result ((ss : List (Option Slot)) (h : List Entry) → StandsCell self.now ss h
+            → refusal self.now.item.shape h (least_lagging (length h) ss)
+            (record { adapter = adapter; seq = seq; event = event.now }) ≡ None) }
+        ensures first_cause { IfErr result (λ e. (ss : List (Option Slot)) (h : List Entry) → StandsCell self.now ss h
+            → refusal self.now.item.shape h (least_lagging (length h) ss)
+            (record { adapter = adapter; seq = seq; event = event.now }) ≡ Some e) }
+    {
+        self.first_cause(adapter, seq, event)
+    }
+
+    /// Adds an event against which nothing stands, as `check` tells, to the end of the history. After `NoMemory` all is
+    /// as before.
+    pub fn add(&mut self, adapter: u8, seq: u64, event: Event) -> Result<(), NoMemory>
+        requires adapter { adapter ≤ MOST_ADAPTERS }
+        requires fields { HasFields self.old.item.shape.fields event }
+        requires admitted { refusal_of self.old (record { adapter = adapter; seq = seq; event = event }) ≡ None }
+        ensures ok { OnOk result (self.new ≡ published self.old (record
+            { adapter = adapter; seq = seq; event = event })) }
+        ensures stands { OnOk result ((ss : List (Option Slot)) (h : List Entry) → StandsCell self.old ss h
+            → StandsCell self.new ss (h ++ record { adapter = adapter; seq = seq; event = event } ∷ [])) }
+        ensures err { OnErr result (self.new ≡ self.old) }
+    {
+        keep(&mut self.item, &mut self.tail, self.number + 1, event)?;
+        self.seqs[adapter as usize] = seq;
+        self.number += 1;
+        Ok(())
     }
 
     /// Joins a slot at the item's number, in mode RAW or the one of the item's kind. Its buffer has the size `n`, which
@@ -326,7 +371,10 @@ impl ItemCell {
     fn append(&mut self, adapter: u8, seq: u64, event: Event) -> Result<u64, PublishRefused>
         requires adapter { adapter ≤ MOST_ADAPTERS }
         requires fields { HasFields self.old.item.shape.fields event }
-        ensures answer { AnswersFirst (refusal_of self.old adapter seq event) (self.old.number + 1) result }
+        ensures answer { AnswersFirst
+            (refusal_of self.old (record { adapter = adapter; seq = seq; event = event }))
+            (self.old.number + 1)
+            result }
         ensures ok { OnOk result (self.new ≡ published self.old
             (record { adapter = adapter; seq = seq; event = event })) }
         ensures stands { OnOk result ((ss : List (Option Slot)) (h : List Entry) → StandsCell self.old ss h
@@ -339,11 +387,13 @@ impl ItemCell {
     }
 
     /// The first cause that stands against an event, want of memory aside. It takes no memory.
-    fn check(&self, adapter: u8, seq: u64, event: &Event) -> Result<(), PublishRefused>
+    fn first_cause(&self, adapter: u8, seq: u64, event: &Event) -> Result<(), PublishRefused>
         requires adapter { adapter ≤ MOST_ADAPTERS }
         requires fields { HasFields self.now.item.shape.fields event.now }
-        ensures ok { OnOk result (refusal_of self.now adapter seq event.now ≡ None) }
-        ensures err { IfErr result (λ e. refusal_of self.now adapter seq event.now ≡ Some e) }
+        ensures ok { OnOk result
+            (refusal_of self.now (record { adapter = adapter; seq = seq; event = event.now }) ≡ None) }
+        ensures err { IfErr result
+            (λ e. refusal_of self.now (record { adapter = adapter; seq = seq; event = event.now }) ≡ Some e) }
     {
         let last = self.seqs[adapter as usize];
         if seq <= last {
@@ -356,23 +406,6 @@ impl ItemCell {
         if self.number >= GREATEST_NUMBER {
             return Err(PublishRefused::Spent);
         }
-        Ok(())
-    }
-
-    /// Adds an event against which nothing stands. After `NoMemory` all is as before.
-    fn add(&mut self, adapter: u8, seq: u64, event: Event) -> Result<(), NoMemory>
-        requires adapter { adapter ≤ MOST_ADAPTERS }
-        requires fields { HasFields self.old.item.shape.fields event }
-        requires admitted { refusal_of self.old adapter seq event ≡ None }
-        ensures ok { OnOk result (self.new ≡ published self.old (record
-            { adapter = adapter; seq = seq; event = event })) }
-        ensures stands { OnOk result ((ss : List (Option Slot)) (h : List Entry) → StandsCell self.old ss h
-            → StandsCell self.new ss (h ++ record { adapter = adapter; seq = seq; event = event } ∷ [])) }
-        ensures err { OnErr result (self.new ≡ self.old) }
-    {
-        keep(&mut self.item, &mut self.tail, self.number + 1, event)?;
-        self.seqs[adapter as usize] = seq;
-        self.number += 1;
         Ok(())
     }
 }

@@ -9,3 +9,4 @@ pub mod Histories
 pub mod OneItem
 pub mod Lives
 pub mod Calls
+pub mod Settling

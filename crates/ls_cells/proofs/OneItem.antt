@@ -37,21 +37,21 @@ module _ (cells : List Held) (j : ℕ) (c : Held) (low : j < length cells) (is :
         live = st.live;
       }
 
-  -- the first cause against an event is that of the item among all sessions
-  pub cause_is : (live adapter seq : ℕ) (event : Event) (result : Result ℕ PublishRefused)
+  -- the first cause against an entry is that of the item among all sessions
+  pub cause_is : (live : ℕ) (e : Entry) (result : Result ℕ PublishRefused)
       → ((ss : List (Option Slot)) (h : List Entry) → StandsCell c ss h
-      → AnswersFirst (refusal c.item.shape h (least_lagging (length h) ss) adapter seq event) (length h + 1) result)
+      → AnswersFirst (refusal c.item.shape h (least_lagging (length h) ss) e) (length h + 1) result)
       → (items : List Item) (lives : List Live) (i : Item) → StandsCells (record { cells = cells; live = live }) items lives → slice_get items j ≡ Some i
-      → AnswersFirst (refusal (shape_of i.definition) i.history (far_in j (length i.history) lives) adapter seq event) (length i.history + 1) result
-  cause_is live adapter seq event result answers items lives i st here =
+      → AnswersFirst (refusal (shape_of i.definition) i.history (far_in j (length i.history) lives) e) (length i.history + 1) result
+  cause_is live e result answers items lives i st here =
       let x : ItemHere lives items j c = item_here lives items j cells c low is st.cells in
       let same : x.item ≡ i = by_some x.item (sym x.is ∙ here) in
       let far : least_lagging (length x.item.history) x.stands.slots ≡ far_in j (length x.item.history) lives =
       far_is x.stands.slots j (length x.item.history) lives st.unlike x.stands.live in
-      subst (λ (y : Item). AnswersFirst (refusal (shape_of y.definition) y.history (far_in j (length y.history) lives) adapter seq event)
+      subst (λ (y : Item). AnswersFirst (refusal (shape_of y.definition) y.history (far_in j (length y.history) lives) e)
       (length y.history + 1) result) same
-      (subst (λ o. AnswersFirst (refusal (shape_of x.item.definition) x.item.history o adapter seq event) (length x.item.history + 1) result) far
-      (subst (λ (p : Shape). AnswersFirst (refusal p x.item.history (least_lagging (length x.item.history) x.stands.slots) adapter seq event)
+      (subst (λ o. AnswersFirst (refusal (shape_of x.item.definition) x.item.history o e) (length x.item.history + 1) result) far
+      (subst (λ (p : Shape). AnswersFirst (refusal p x.item.history (least_lagging (length x.item.history) x.stands.slots) e)
       (length x.item.history + 1) result) x.stands.shape (answers x.stands.slots x.item.history x.stands.cell)))
     where
       by_some : (y : Item) → Some y ≡ Some i → y ≡ i

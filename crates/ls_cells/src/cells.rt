@@ -16,7 +16,9 @@ ghost use Rattle.ls_world.specs.Steps.{grown, is_whole};
 ghost use Rattle.ls_world.specs.World.{Item, Live, history_of, shape_at, change, enqueue_slot};
 ghost use Rattle.ls_cells.specs.Cells.{StandsCells, MayJoin, slot_numbered, free_in, far_in, takes_of, fields_of};
 ghost use Rattle.ls_cells.specs.Cells.{cut_of_slot, pending_of_slot};
+ghost use Rattle.ls_cells.specs.Settled.{OthersStay};
 
+use crate::marks::{Marks, clear_marks, has_mark, set_mark};
 use ls_cell::{Enqueued, ItemCell};
 use ls_event::{
     Event, ItemDef, Kind, MOST_ADAPTERS, MOST_BUFFER_SIZE, MOST_SLOTS, Mode, PublishRefused, Snap,
@@ -27,20 +29,25 @@ use std::alloc::Global;
 use std::marker::Model;
 
 /// All items of a server by their numbers, from 0 on: each with its events and its slots (General Concepts, items). It
-/// counts the live slots of all items. It keeps the allocator that its constructor took.
+/// counts the live slots of all items, and marks slots of which nothing is pending as settled. It keeps the allocator
+/// that its constructor took.
 #[derive(Drop)]
 pub struct Cells {
     alloc: Global,
     cells: Vec<ItemCell>,
+    settled: Vec<Marks>,
     live: u32,
 }
 
 impl Model for Cells {
     ghost use Rattle.ls_cells.specs.Cells.{AllCells};
+    ghost use Rattle.ls_cells.specs.Settled.{KnowsSettled};
 
     ghost Value = { AllCells };
 
     ghost view = { λ k. record { cells = k.cells.items; live = k.live } };
+
+    ghost invariant = { λ k. KnowsSettled k.settled.items k.cells.items };
 }
 
 impl Cells {
@@ -51,6 +58,7 @@ impl Cells {
         Cells {
             alloc,
             cells: Vec::new(alloc),
+            settled: Vec::new(alloc),
             live: 0,
         }
     }
@@ -65,7 +73,9 @@ impl Cells {
             → StandsCells self.new items lives) }
     {
         let cell = ItemCell::new(self.alloc, definition)?;
+        self.settled.reserve(1)?;
         self.cells.push(cell)?;
+        self.settled.push_reserved(Marks::new(self.alloc));
         Ok(())
     }
 
@@ -94,7 +104,8 @@ impl Cells {
         ensures answer { (items : List Item) (lives : List Live) (i : Item) → StandsCells self.old items lives
             → slice_get items item ≡ Some i
             → AnswersFirst
-            (refusal (shape_of i.definition) i.history (far_in item (length i.history) lives) adapter seq event)
+            (refusal (shape_of i.definition) i.history (far_in item (length i.history) lives) (record
+            { adapter = adapter; seq = seq; event = event }))
             (length i.history + 1)
             result }
         ensures ok { OnOk result ((items : List Item) (lives : List Live) → StandsCells self.old items lives
@@ -125,6 +136,7 @@ impl Cells {
             return Ok(None);
         }
         let enqueued = enqueue_on(&mut self.cells[index], slot)?;
+        set_mark(&mut self.settled, index, slot, false);
         Ok(enqueued)
     }
 
@@ -162,6 +174,17 @@ impl Cells {
         pending_on(&self.cells[index], slot)
     }
 
+    /// Whether a slot on an item is known to be settled: then nothing of it is pending. It is known where the last call
+    /// on the slot was a [`pass`](Cells::pass) that left nothing pending, and no slot joined the item since. It takes no
+    /// memory, and less time than [`look`](Cells::look) and [`pending`](Cells::pending).
+    pub fn is_settled(&self, item: u32, slot: u32) -> bool
+        ensures { result ≡ true → (items : List Item) (a b : List Live) (v : Live)
+            → StandsCells self.now items (a ++ v ∷ b) → v.item ≡ item → v.number ≡ slot
+            → is_pending (history_of items v.item) v.slot ≡ false }
+    {
+        has_mark(&self.settled, item as usize, slot)
+    }
+
     /// Moves a slot on an item past its next cut, of which there is one. It takes no memory.
     pub fn pass(&mut self, item: u32, slot: u32)
         requires { IsSome (cut_of_slot self.old item slot) }
@@ -170,7 +193,9 @@ impl Cells {
             → cut (history_of items v.item) v.slot ≡ Some t
             → StandsCells self.new items (a ++ record v { slot = passed v.slot t } ∷ b) }
     {
-        self.cells[item as usize].pass(slot);
+        let index = item as usize;
+        let pending = pass_on(&mut self.cells[index], slot);
+        set_mark(&mut self.settled, index, slot, !pending);
     }
 
     /// A slot joins an item, and its number on it is answered: the least from 1 that is not in use. `None` where there
@@ -204,6 +229,8 @@ impl Cells {
         if self.live >= MOST_SLOTS as u32 {
             return Ok(None);
         }
+        let below = self.cells[index].slots() as usize + 2;
+        clear_marks(self.alloc, &mut self.settled, index, below)?;
         match join_on(&mut self.cells[index], mode, n, snapshot)? {
             None => Ok(None),
             Some(number) => {
@@ -299,6 +326,7 @@ fn enqueue_on(cell: &mut ItemCell, slot: u32) -> Result<Option<Enqueued>, NoMemo
         → slot_at ss slot ≡ Some s → StandsCell cell.new (set_slot ss slot (Some (enqueued_at h s))) h) }
     ensures none { IfOk result (λ answer. (ss : List (Option Slot)) (h : List Entry) → StandsCell cell.old ss h
         → slot_at ss slot ≡ None → (answer ≡ None) × (cell.new ≡ cell.old)) }
+    ensures others { OnOk result (OthersStay slot cell.old cell.new) }
     ensures err { OnErr result (cell.new ≡ cell.old) }
 {
     if !cell.has(slot) {
@@ -306,6 +334,20 @@ fn enqueue_on(cell: &mut ItemCell, slot: u32) -> Result<Option<Enqueued>, NoMemo
     }
     let enqueued = cell.enqueue(slot)?;
     Ok(Some(enqueued))
+}
+
+/// Moves an item's slot past its next cut, of which there is one, and answers whether something of it is pending then.
+fn pass_on(cell: &mut ItemCell, slot: u32) -> bool
+    requires { IsSome (cut_at cell.old slot) }
+    ensures pending { result ≡ pending_at cell.new slot }
+    ensures others { OthersStay slot cell.old cell.new }
+    ensures shape { cell.new.item.shape ≡ cell.old.item.shape }
+    ensures stands { (ss : List (Option Slot)) (h : List Entry) (s : Slot) (t : ATaken) → StandsCell cell.old ss h
+        → slot_at ss slot ≡ Some s → cut h s ≡ Some t
+        → StandsCell cell.new (set_slot ss slot (Some (passed s t))) h }
+{
+    cell.pass(slot);
+    cell.pending(slot)
 }
 
 /// A slot joins an item, if it may, and its number.
@@ -366,6 +408,8 @@ fn leave_on(cell: &mut ItemCell, slot: u32) -> bool
         → slot_at ss slot ≡ Some s → (result ≡ true) × StandsCell cell.new (set_slot ss slot None) h }
     ensures none { (ss : List (Option Slot)) (h : List Entry) → StandsCell cell.old ss h → slot_at ss slot ≡ None
         → (result ≡ false) × (cell.new ≡ cell.old) }
+    ensures others { OthersStay slot cell.old cell.new }
+    ensures settled { pending_at cell.new slot ≡ false }
 {
     if !cell.has(slot) {
         return false;

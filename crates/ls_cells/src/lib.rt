@@ -11,10 +11,14 @@
 //! let number = cells.publish(0, adapter, seq, event)?;
 //! ```
 //!
+//! Of a slot that was passed and has nothing pending it is remembered that it is settled (`is_settled`), so that a turn
+//! which goes over many slots need not look at each.
+//!
 //! Each call's contract is said of all items with their histories and of the slots of all sessions, in whatever order
 //! these come (`StandsCells`). It knows no session and no subscription.
 #![tactic(auto)]
 
 mod cells;
+mod marks;
 
 pub use cells::Cells;

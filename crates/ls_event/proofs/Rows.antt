@@ -190,23 +190,24 @@ last_seq_of_none = refl
 abbrev long : ℕ → Event
 long n = Update (cell.Text (replicate n 120) ∷ cell.Same ∷ cell.Same ∷ [])
 
-pub seq_0 : (p : Shape) (adapter : ℕ) (far : Option ℕ) (event : Event) → refusal p [] far adapter 0 event ≡ Some (refused.Repeated 0)
+pub seq_0 : (p : Shape) (adapter : ℕ) (far : Option ℕ) (event : Event) → refusal p [] far (entry adapter 0 event) ≡ Some (refused.Repeated 0)
 seq_0 p adapter far event = refl
 
-pub repeated_before_too_long : refusal letters_item by_two (Some 1) 1 9 (long 4097) ≡ Some (refused.Repeated 9)
+pub repeated_before_too_long : refusal letters_item by_two (Some 1) (entry 1 9 (long 4097)) ≡ Some (refused.Repeated 9)
 repeated_before_too_long = refl
 
-pub too_long_before_backlog : refusal letters_item by_two (Some 1) 1 10 (long 4097) ≡ Some (refused.TooLong 4097)
+pub too_long_before_backlog : refusal letters_item by_two (Some 1) (entry 1 10 (long 4097)) ≡ Some (refused.TooLong 4097)
 too_long_before_backlog = refl
 
-pub backlog : refusal letters_item by_two (Some 1) 1 10 (long 4096) ≡ Some (refused.Backlog 1)
+pub backlog : refusal letters_item by_two (Some 1) (entry 1 10 (long 4096)) ≡ Some (refused.Backlog 1)
 backlog = refl
 
-pub not_refused : refusal letters_item by_two None 2 5 (long 4096) ≡ None
+pub not_refused : refusal letters_item by_two None (entry 2 5 (long 4096)) ≡ None
 not_refused = refl
 
 -- the row weighs more than the event
-pub too_long_by_row : refusal letters_item (entry 1 1 (long 4096) ∷ []) None 1 2 (Update (cell.Same ∷ digit 1 ∷ cell.Same ∷ [])) ≡ Some (refused.TooLong 4097)
+pub too_long_by_row : refusal letters_item (entry 1 1 (long 4096) ∷ []) None (entry 1 2 (Update (cell.Same ∷ digit 1 ∷ cell.Same ∷ [])))
+    ≡ Some (refused.TooLong 4097)
 too_long_by_row = refl
 
 -- a history

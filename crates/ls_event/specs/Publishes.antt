@@ -3,7 +3,6 @@
 use Rattle.std.specs.Prelude.{◌≡◌, ℕ, ◌+◌, ◌<◌, ◌≤◌, List, [], ◌∷◌, ◌++◌, length, nat_le, Option, None, Some}
 use Rattle.std.specs.Prelude.{if◌then◌else◌, option_map}
 use Rattle.std.specs.Option.{option_or}
-use Rattle.ls_event.specs.declared.event.Event.{Event}
 use Rattle.ls_event.specs.declared.event.Entry.{Entry}
 use Rattle.ls_event.specs.declared.event.Stored.{Stored}
 use Rattle.ls_event.specs.declared.event.PushRefused.{PushRefused}
@@ -35,12 +34,12 @@ abbrev pub backlog_or : Option ℕ → Option PublishRefused → Option PublishR
 backlog_or None rest = rest
 backlog_or (Some slot) rest = Some (refused.Backlog slot)
 
--- why an event is refused after a history, by the first cause of the order; far is the least slot that lags by as much
+-- why an entry is refused after a history, by the first cause of the order; far is the least slot that lags by as much
 -- as it may, if one does
-abbrev pub refusal : Shape → List Entry → Option ℕ → ℕ → ℕ → Event → Option PublishRefused
-refusal p h far adapter seq event =
-    if nat_le seq (last_seq adapter h) then Some (refused.Repeated (last_seq adapter h))
-    else option_or (option_map publish_cause (push_refusal p (state_at p h (length h)) event))
+abbrev pub refusal : Shape → List Entry → Option ℕ → Entry → Option PublishRefused
+refusal p h far e =
+    if nat_le e.seq (last_seq e.adapter h) then Some (refused.Repeated (last_seq e.adapter h))
+    else option_or (option_map publish_cause (push_refusal p (state_at p h (length h)) e.event))
     (backlog_or far (if nat_le GREATEST_NUMBER (length h) then Some refused.Spent else None))
 
 -- an entry may follow a history: it has a cell for each field, nothing stands against it in the state, and its

@@ -12,6 +12,7 @@ pub mod Repeats
 pub mod Quieted
 pub mod RoundTurns
 pub mod Telling
+pub mod Skipping
 pub mod Lights
 pub mod KeptSessions
 pub mod Hubs

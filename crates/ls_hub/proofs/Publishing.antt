@@ -110,7 +110,7 @@ first_is cause n refused.NoMemory some a = absurd (some refl)
 pub record PublishDid (c c' : AllCells) (n : ℕ) (e : Entry) (answer : Result ℕ PublishRefused) : Type 0 where
   pub some : answer ≡ Err refused.NoMemory → ⊥
   pub first : (items : List Item) (lives : List Live) (i : Item) → StandsCells c items lives → slice_get items n ≡ Some i
-      → AnswersFirst (refusal (shape_of i.definition) i.history (far_in n (length i.history) lives) e.adapter e.seq e.event) (length i.history + 1) answer
+      → AnswersFirst (refusal (shape_of i.definition) i.history (far_in n (length i.history) lives) e) (length i.history + 1) answer
   pub stands : OnOk answer ((items : List Item) (lives : List Live) → StandsCells c items lives → StandsCells c' (change n (grown e) items) lives)
   pub same : OnErr answer ((items : List Item) (lives : List Live) → StandsCells c items lives → StandsCells c' items lives)
 

@@ -27,7 +27,7 @@ use Rattle.ls_hub.proofs.Sessions.{asks_begins}
 use Rattle.ls_hub.proofs.Quieted.{quiet_self, quiet_then, quiet_past}
 use Rattle.ls_hub.specs.Quiet.{IsQuiet, is_open, has_line}
 use Rattle.ls_hub.specs.Turning.{rest_of_round, owing_from, bound_from, epoch_from, turn_from}
-use Rattle.ls_hub.specs.Turning.{HasAsked, GoesOn, EndsAs, HasTurned, TurnEnded, TurnFailed}
+use Rattle.ls_hub.specs.Turning.{HasAsked, GoesOn, Unasked, EndsAs, HasTurned, TurnEnded, TurnFailed}
 use Rattle.ls_hub.proofs.RoundTurns.{is_full, drop_at, take_changed, drop_behind, from_first, at_end, nothing_told, quiet_told, waiting_told, spent_told}
 use Rattle.ls_hub.proofs.RoundTurns.{silent_told, line_told}
 use Rattle.ls_session.specs.declared.session.Session.{Session as Kept}
@@ -453,17 +453,20 @@ module _ (now : ℕ) (items : List Item) (epoch : ℕ) (first others : List Live
         cells = same_cells (λ x. x) refl;
       }
 
-  pub told_nothing : (k' : Kept) → (q.due ≡ true → cut (history_of items q.live.item) q.live.slot ≡ None)
+  pub told_unasked : (k' : Kept) → (q.due ≡ true → cut (history_of items q.live.item) q.live.slot ≡ None)
       → (q.due ≡ false → is_pending (history_of items q.live.item) q.live.slot ≡ false) → StandsSession k' (passed_over (turned now epoch r).after)
-      → GoesOn now items epoch first others r k' c
-  told_nothing k' none quiet st =
+      → Unasked now items epoch first others r k' c
+  told_unasked k' none quiet st =
       record {
-        asking = passed_over (turned now epoch r).after;
-        early = omega (arith, told_early);
-        session = st;
-        cells = same_cells passed_over refl;
-        turn = turn_nothing now items epoch r q (turned now epoch r).after told_asking none quiet;
-        quiet = λ line. same_quiet passed_over refl;
+        on = record {
+          asking = passed_over (turned now epoch r).after;
+          early = omega (arith, told_early);
+          session = st;
+          cells = same_cells passed_over refl;
+          turn = turn_nothing now items epoch r q (turned now epoch r).after told_asking none quiet;
+          quiet = λ line. same_quiet passed_over refl;
+        };
+        unasked = refl;
       }
 
   pub told_waiting : (k' : Kept) → q.due ≡ false → is_pending (history_of items q.live.item) q.live.slot ≡ true

@@ -1,6 +1,7 @@
 -- A session's turn at a tick, from where the asking of its round stands.
-use Rattle.std.specs.Prelude.{◌≡◌, ◌≤◌, ℕ, List, [], ◌∷◌, ◌++◌, length, take, drop, Bool, true, false, ◌&&◌}
-use Rattle.std.specs.Prelude.{Option, None, Some, nat_lt, nat_le, if◌then◌else◌}
+use Rattle.std.specs.Prelude.{◌≡◌, ◌≤◌, ◌<◌, ℕ, List, [], ◌∷◌, ◌++◌, length, take, drop, Bool, true, false, ◌&&◌}
+use Rattle.std.specs.Prelude.{Option, None, Some, nat_lt, nat_le, slice_get, if◌then◌else◌}
+use Rattle.ls_event.specs.Cuts.{is_pending}
 use Rattle.std.specs.List.{list_any}
 use Rattle.ls_step.specs.declared.out.Out.{Out}
 use Rattle.ls_step.specs.declared.out.Out.TheVariants as out
@@ -8,6 +9,7 @@ use Rattle.ls_value.specs.declared.limits.TheConstants.{GREATEST_NUMBER}
 use Rattle.ls_world.specs.Cases.{with_found}
 use Rattle.ls_world.specs.Lines.{Tells}
 use Rattle.ls_world.specs.World.{Item, Live, Session, Life, Alive, Ending, Ended, Round, round_of, on_board, is_unsent}
+use Rattle.ls_world.specs.World.{history_of}
 use Rattle.ls_world.specs.World.{is_due, waits_of, least_of, numbered, is_to_loop, is_bound, unbound_at}
 use Rattle.ls_world.specs.Steps.{SessionTurn, TurnGives, Gave, Idle, NotDue, Spent, Superseded, Unbound, Over}
 use Rattle.ls_world.specs.Steps.{waits_until, next_given, turn_owing, turn_bound, loop_text, gives_unbound}
@@ -102,6 +104,24 @@ pub record GoesOn (now : ℕ) (items : List Item) (epoch : ℕ) (before behind :
   pub cells : StandsCells c items (before ++ asking.session.board.round ++ behind)
   pub turn : turn_from now items epoch asking ≡ turn_from now items epoch r
   pub quiet : has_line epoch asking.session ≡ false → IsQuiet items r.session asking.session
+
+-- it goes on so, and no question stands
+pub record Unasked (now : ℕ) (items : List Item) (epoch : ℕ) (before behind : List Live) (r : Record) (k : Kept)
+    (c : AllCells) : Type 0 where
+  pub on : GoesOn now items epoch before behind r k c
+  pub unasked : on.asking.asks ≡ false
+
+-- and a number is left for a line: a slot of which nothing is pending may be passed over, as if it was asked
+pub record MaySkip (now : ℕ) (items : List Item) (epoch : ℕ) (before behind : List Live) (r : Record) (k : Kept)
+    (c : AllCells) : Type 0 where
+  pub rests : Unasked now items epoch before behind r k c
+  pub left : length rests.on.asking.session.board.lines < GREATEST_NUMBER
+
+-- nothing is pending of the slot that is to be asked next
+pub record IsNextSettled (items : List Item) (r : Record) : Type 0 where
+  pub live : Live
+  pub found : slice_get r.session.board.round r.asked ≡ Some live
+  pub settled : is_pending (history_of items live.item) live.slot ≡ false
 
 -- a session gave this in its turn at a tick, which is as it was to be from a record on
 pub record HasTurned (now : ℕ) (items : List Item) (epoch : ℕ) (before behind : List Live) (r : Record) (t : Turn)

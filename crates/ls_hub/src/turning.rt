@@ -1,5 +1,6 @@
 //! Turns of sessions: a session asks what a slot has to tell, the hub looks, the session answers with a line or none,
-//! and the slot moves past what was taken. Of a slot that isn't due the hub only looks whether it waits.
+//! and the slot moves past what was taken. Of a slot that isn't due the hub only looks whether it waits. Behind a slot
+//! that has nothing the hub passes over those that are known to be settled, without a question.
 ghost use Rattle.std.specs.Prelude.{◌≡◌, ◌≤◌, ◌<◌, ◌+◌, ◌++◌, ◌∷◌, ℕ, length, List, Some, IsSome, IfOk, OnOk, OnErr};
 ghost use Rattle.std.specs.Prelude.{true, false};
 ghost use Rattle.std.specs.Vec.{vec_len, vec_capacity};
@@ -17,13 +18,14 @@ ghost use Rattle.ls_session.specs.Session.{StandsSession};
 ghost use Rattle.ls_session.specs.declared.session.Turn.TheVariants as given;
 ghost use Rattle.ls_hub.specs.Hub.{StandsHub, Prints, DidOnce};
 ghost use Rattle.ls_hub.specs.Quiet.{StandsQuiet, FailedBehind};
-ghost use Rattle.ls_hub.specs.Turning.{turn_from, HasAsked, GoesOn, TurnEnded, TurnFailed, out_of_turn, gave_line};
+ghost use Rattle.ls_hub.specs.Turning.{turn_from, HasAsked, GoesOn, Unasked, MaySkip, IsNextSettled, TurnEnded};
+ghost use Rattle.ls_hub.specs.Turning.{TurnFailed, out_of_turn, gave_line};
 
 use crate::hub::Hub;
 use ls_cells::Cells;
 use ls_session::{Ask, Reply, Session, Turn};
 use ls_step::{Out, append};
-use ls_value::NoMemory;
+use ls_value::{GREATEST_NUMBER, NoMemory};
 use ls_world::MOST_LINE;
 
 impl Hub {
@@ -129,6 +131,7 @@ fn tell_cut(cells: &mut Cells, session: &mut Session, ask: Ask) -> Result<(), No
     match cells.look(ask.slot.item, ask.slot.slot)? {
         None => {
             session.answer(ask, Reply::Nothing)?;
+            pass_settled(cells, session);
             Ok(())
         }
         Some(taken) => {
@@ -155,7 +158,47 @@ fn tell_waiting(cells: &Cells, session: &mut Session, ask: Ask) -> Result<(), No
         Ok(())
     } else {
         session.answer(ask, Reply::Nothing)?;
+        pass_settled(cells, session);
         Ok(())
+    }
+}
+
+/// The slots that are asked next are passed over as far as they are known to be settled, where a number is left for a
+/// line.
+fn pass_settled(cells: &Cells, session: &mut Session)
+    ensures { (now : ℕ) (items : List Item) (epoch : ℕ) (before behind : List Live) (r : Record)
+        → Unasked now items epoch before behind r session.old cells.now
+        → GoesOn now items epoch before behind r session.new cells.now }
+{
+    if session.last() < GREATEST_NUMBER {
+        skip_settled(cells, session);
+    }
+}
+
+/// They are passed over.
+fn skip_settled(cells: &Cells, session: &mut Session)
+    ensures { (now : ℕ) (items : List Item) (epoch : ℕ) (before behind : List Live) (r : Record)
+        → MaySkip now items epoch before behind r session.old cells.now
+        → MaySkip now items epoch before behind r session.new cells.now }
+{
+    for _ in 0..u64::MAX {
+        if is_next_settled(cells, session) {
+            session.skip();
+        } else {
+            return;
+        }
+    }
+}
+
+/// Whether there is a slot that is asked next, and it is known to be settled.
+fn is_next_settled(cells: &Cells, session: &Session) -> bool
+    ensures { result ≡ true → (items : List Item) (before behind : List Live) (r : Record)
+        → StandsSession session.now r → StandsCells cells.now items (before ++ r.session.board.round ++ behind)
+        → IsNextSettled items r }
+{
+    match session.next_slot() {
+        None => false,
+        Some(slot) => cells.is_settled(slot.item, slot.slot),
     }
 }
 

@@ -82,9 +82,9 @@ unless_is P true o h = tt
 unless_is P false o h = h
 
 -- numbers
-number_within : (low high : ℕ) (text : List ℕ) → IfSome (number_in low high text) (Within low high)
+number_within : (low high : ℕ) (text : List ℕ) → IfSome (number_in text low high) (Within low high)
 number_within low high text =
-    free (Within low high) (number_of text) (within low high) (λ n. kept (Within low high) (nat_le low n && nat_le n high) n
+    free (Within low high) (number_of text) (λ n. within n low high) (λ n. kept (Within low high) (nat_le low n && nat_le n high) n
     (λ h. bounds n (and_left (nat_le low n) (nat_le n high) h) (and_right (nat_le low n) (nat_le n high) h)))
   where
     bounds : (n : ℕ) → nat_le low n ≡ true → nat_le n high ≡ true → (low ≤ n) × (n ≤ high)
@@ -95,8 +95,8 @@ SizeIs size = IfSome size (λ n. 1 ≤ n)
 
 size_is : (text : List ℕ) → IfSome (size_of text) SizeIs
 size_is text =
-    one_of SizeIs (is_word (codes "unlimited") text) (Some (Some 999999999)) (option_map (λ n. Some (capped n)) (number_in 1 (2 ^ 60) text)) (omega arith)
-    (made (Within 1 (2 ^ 60)) SizeIs (λ n. Some (capped n)) (number_in 1 (2 ^ 60) text) (number_within 1 (2 ^ 60) text) (λ n h. omega (arith, h.0)))
+    one_of SizeIs (is_word (codes "unlimited") text) (Some (Some 999999999)) (option_map (λ n. Some (capped n)) (number_in text 1 (2 ^ 60))) (omega arith)
+    (made (Within 1 (2 ^ 60)) SizeIs (λ n. Some (capped n)) (number_in text 1 (2 ^ 60)) (number_within 1 (2 ^ 60) text) (λ n h. omega (arith, h.0)))
 
 size_absent_or : (o : Option (List ℕ)) → IfSome (or_absent None size_of o) SizeIs
 size_absent_or None = tt

@@ -20,9 +20,9 @@ use Rattle.ls_words.proofs.ReadBack.{number-read}
 use Rattle.ls_line.specs.Forms.{tags_read, tag_among, tag_of, tag_text, kinds_of, is_rest}
 use Rattle.ls_line.specs.Lines.{Part, shape_of, part_text, word_text, then_texts, text_of_line, is_text_byte}
 use Rattle.ls_line.specs.Lines.{is_message_byte, IsInRange, AreInRange, IsWritable}
-use Rattle.ls_line.specs.Pieces.{first_part, behind, commas}
+use Rattle.ls_line.specs.Pieces.{first_piece, behind, commas}
 use Rattle.ls_line.specs.Reading.{piece, has_rest, has_parts, ordinal_in, count_in, is_bad_number, is_bad_text}
-use Rattle.ls_line.specs.Reading.{first_bad, bad_part, cause_behind, cause_of, part_of, parts_of, line_behind, or_zero}
+use Rattle.ls_line.specs.Reading.{first_bad, bad_piece, cause_behind, cause_of, part_of, parts_of, line_behind, or_zero}
 use Rattle.ls_line.specs.Reading.{Says}
 use Rattle.ls_line.proofs.Commas.{behind_commas, joined, then_texts-joined, is_last_rest, was_false}
 
@@ -69,13 +69,13 @@ part-in_range kind.Message text n t f m = (IsUtf8-from_is_utf8 text (was_true (i
 part-in_range kind.Coded text n t f m = tt
 
 -- a text with a comma is divided there
-divided : (text : List ℕ) → 1 ≤ commas text → text ≡ first_part text ++ 44 ∷ behind text
+divided : (text : List ℕ) → 1 ≤ commas text → text ≡ first_piece text ++ 44 ∷ behind text
 divided [] h = absurd (omega (arith, h))
 divided (x ∷ text) h = by_test (x == 44) refl h (λ g. divided text g)
   where
     by_test : (v : Bool) → (x == 44) ≡ v → 1 ≤ cond v (commas text + 1) (commas text)
-        → (1 ≤ commas text → text ≡ first_part text ++ 44 ∷ behind text)
-        → x ∷ text ≡ cond v [] (x ∷ first_part text) ++ 44 ∷ cond v text (behind text)
+        → (1 ≤ commas text → text ≡ first_piece text ++ 44 ∷ behind text)
+        → x ∷ text ≡ cond v [] (x ∷ first_piece text) ++ 44 ∷ cond v text (behind text)
     by_test true t h rest = ap (λ (y : ℕ). y ∷ text) (eqb-true x 44 t)
     by_test false t h rest = ap (λ (r : List ℕ). x ∷ r) (rest h)
 
@@ -89,12 +89,12 @@ commas-behind (x ∷ text) h = by_test (x == 44) h (λ g. commas-behind text g)
     by_test true h rest = refl
     by_test false h rest = rest h
 
-first_part-whole : (text : List ℕ) → commas text ≡ 0 → first_part text ≡ text
-first_part-whole [] h = refl
-first_part-whole (x ∷ text) h = by_test (x == 44) h (λ g. first_part-whole text g)
+first_piece-whole : (text : List ℕ) → commas text ≡ 0 → first_piece text ≡ text
+first_piece-whole [] h = refl
+first_piece-whole (x ∷ text) h = by_test (x == 44) h (λ g. first_piece-whole text g)
   where
-    by_test : (v : Bool) → cond v (commas text + 1) (commas text) ≡ 0 → (commas text ≡ 0 → first_part text ≡ text)
-        → cond v [] (x ∷ first_part text) ≡ x ∷ text
+    by_test : (v : Bool) → cond v (commas text + 1) (commas text) ≡ 0 → (commas text ≡ 0 → first_piece text ≡ text)
+        → cond v [] (x ∷ first_piece text) ≡ x ∷ text
     by_test true h rest = absurd (omega (arith, h))
     by_test false h rest = ap (λ (r : List ℕ). x ∷ r) (rest h)
 
@@ -115,9 +115,9 @@ good bad k kinds rest at h = by_test (bad k (piece k rest)) refl h
 piece-rest : (k : Kind) (rest : List ℕ) → (is_rest k ≡ false → commas rest ≡ 0) → piece k rest ≡ rest
 piece-rest k rest h = by_test (is_rest k) refl
   where
-    by_test : (v : Bool) → is_rest k ≡ v → cond v rest (first_part rest) ≡ rest
+    by_test : (v : Bool) → is_rest k ≡ v → cond v rest (first_piece rest) ≡ rest
     by_test true t = refl
-    by_test false t = first_part-whole rest (h t)
+    by_test false t = first_piece-whole rest (h t)
 
 -- the number of commas
 parts-one : (k : Kind) (n : ℕ) → has_parts (k ∷ []) (n + 1) ≡ true → is_rest k ≡ false → n ≡ 0
@@ -161,22 +161,22 @@ joined-read k (q ∷ kinds) rest at l c n t =
     let o : is_rest k ≡ false = was_false (is_rest k) (and_left (not (is_rest k)) (is_last_rest (q ∷ kinds)) l) in
     let d : has_parts (q ∷ kinds) (commas rest) ≡ true = parts-next k (q ∷ kinds) (commas rest) o c in
     let s : 1 ≤ commas rest = parts-some q kinds (commas rest) d in
-    let p : piece k rest ≡ first_part rest = rw o refl in
-    let e : part_text (part_of k (piece k rest)) ≡ first_part rest =
+    let p : piece k rest ≡ first_piece rest = rw o refl in
+    let e : part_text (part_of k (piece k rest)) ≡ first_piece rest =
     part_text-read k (piece k rest) a.first b.first ∙ p in
     let again = joined-read q kinds (behind rest) (at + 1) (and_right (not (is_rest k)) (is_last_rest (q ∷ kinds)) l)
     (subst (λ (m : ℕ). has_parts (q ∷ kinds) m ≡ true) (commas-behind rest s) d) a.others b.others in
     ap (λ (x : List ℕ). x ++ 44 ∷ joined (parts_of (q ∷ kinds) (behind rest))) e
-    ∙ ap (λ (x : List ℕ). first_part rest ++ 44 ∷ x) again ∙ sym (divided rest s)
+    ∙ ap (λ (x : List ℕ). first_piece rest ++ 44 ∷ x) again ∙ sym (divided rest s)
 
 parts-read : (kinds : List Kind) (bytes : List ℕ) → is_last_rest kinds ≡ true → has_parts kinds (commas bytes) ≡ true
     → first_bad is_bad_number kinds (behind bytes) 2 ≡ None → first_bad is_bad_text kinds (behind bytes) 2 ≡ None
-    → first_part bytes ++ behind_commas (parts_of kinds (behind bytes)) ≡ bytes
-parts-read [] bytes l c n t = let z : commas bytes ≡ 0 = grind (arith, nat_tests) in append-nil (first_part bytes)
-    ∙ first_part-whole bytes z
+    → first_piece bytes ++ behind_commas (parts_of kinds (behind bytes)) ≡ bytes
+parts-read [] bytes l c n t = let z : commas bytes ≡ 0 = grind (arith, nat_tests) in append-nil (first_piece bytes)
+    ∙ first_piece-whole bytes z
 parts-read (k ∷ kinds) bytes l c n t =
     let s = parts-some k kinds (commas bytes) c in
-    ap (λ (x : List ℕ). first_part bytes ++ 44 ∷ x)
+    ap (λ (x : List ℕ). first_piece bytes ++ 44 ∷ x)
     (joined-read k kinds (behind bytes) 2 l (subst (λ (m : ℕ). has_parts (k ∷ kinds) m ≡ true) (commas-behind bytes s)
     c) n t)
     ∙ sym (divided bytes s)
@@ -186,15 +186,15 @@ no_comma_either : (u v w : Bool) → u ≡ false → not (v || w) ≡ true → n
 no_comma_either true v w e h = cc
 no_comma_either false v w e h = h
 
-first_part-bytes : (rest : List ℕ) → list_all is_message_byte rest ≡ true
-    → list_all is_text_byte (first_part rest) ≡ true
-first_part-bytes [] h = refl
-first_part-bytes (x ∷ rest) h =
+first_piece-bytes : (rest : List ℕ) → list_all is_message_byte rest ≡ true
+    → list_all is_text_byte (first_piece rest) ≡ true
+first_piece-bytes [] h = refl
+first_piece-bytes (x ∷ rest) h =
     by_test (x == 44) refl (and_left (is_message_byte x) (list_all is_message_byte rest) h)
-    (first_part-bytes rest (and_right (is_message_byte x) (list_all is_message_byte rest) h))
+    (first_piece-bytes rest (and_right (is_message_byte x) (list_all is_message_byte rest) h))
   where
-    by_test : (v : Bool) → (x == 44) ≡ v → is_message_byte x ≡ true → list_all is_text_byte (first_part rest) ≡ true
-        → list_all is_text_byte (cond v [] (x ∷ first_part rest)) ≡ true
+    by_test : (v : Bool) → (x == 44) ≡ v → is_message_byte x ≡ true → list_all is_text_byte (first_piece rest) ≡ true
+        → list_all is_text_byte (cond v [] (x ∷ first_piece rest)) ≡ true
     by_test true e m h = refl
     by_test false e m h = let a : is_text_byte x ≡ true = no_comma_either (x == 44) (x == 13) (x == 10) e m in rw (a, h)
         refl
@@ -217,7 +217,7 @@ parts-in_range [] rest at m n t = tt
 parts-in_range (k ∷ kinds) rest at m n t =
     let a = good is_bad_number k kinds rest at n in
     let b = good is_bad_text k kinds rest at t in
-    let f : is_rest k ≡ false → list_all is_text_byte (piece k rest) ≡ true = λ o. rw o (first_part-bytes rest m) in
+    let f : is_rest k ≡ false → list_all is_text_byte (piece k rest) ≡ true = λ o. rw o (first_piece-bytes rest m) in
     let g : is_rest k ≡ true → list_all is_message_byte (piece k rest) ≡ true = λ o. rw o m in (
       part-in_range k (piece k rest) a.first b.first f g,
       parts-in_range kinds (behind rest) (at + 1)
@@ -249,7 +249,7 @@ no_cause-read t bytes h =
     by_test : (v : Bool) → has_parts (kinds_of t) (commas bytes) ≡ v → (a : Option ℕ)
         → first_bad is_bad_number (kinds_of t) (behind bytes) 2 ≡ a
         → (b : Option ℕ) → first_bad is_bad_text (kinds_of t) (behind bytes) 2 ≡ b
-        → cond v (bad_part a b) (Some refused.BadCount) ≡ None → HasNoCause t bytes
+        → cond v (bad_piece a b) (Some refused.BadCount) ≡ None → HasNoCause t bytes
     by_test true c None n None x h = record { count = c; number = n; text = x }
     by_test true c None n (Some j) x h = cc
     by_test true c (Some i) n b x h = cc
@@ -268,7 +268,7 @@ pub record IsRow (t : Tag) (rest : List ℕ) : Type 0 where
 
 -- the line of bytes has their tag and their parts
 record HasShape (bytes : List ℕ) (l : Line) (t : Tag) : Type 0 where
-  named : tag_text t ≡ first_part bytes
+  named : tag_text t ≡ first_piece bytes
   good : HasNoCause t bytes
   of : IsOf t (behind bytes) l
 
@@ -278,16 +278,16 @@ if_some P (Some k) l p e = let is : k ≡ l = cc in subst P is p
 
 shape-read : (rows : (t : Tag) (rest : List ℕ) → IsRow t rest) (bytes : List ℕ) (l : Line) → Says bytes l
     → (t : Tag) × HasShape bytes l t
-shape-read rows bytes l s = by_tag (tag_of (first_part bytes)) refl s.0 s.1
+shape-read rows bytes l s = by_tag (tag_of (first_piece bytes)) refl s.0 s.1
   where
-    by_tag : (o : Option Tag) → tag_of (first_part bytes) ≡ o → cause_of o bytes ≡ None
+    by_tag : (o : Option Tag) → tag_of (first_piece bytes) ≡ o → cause_of o bytes ≡ None
         → option_and_then (λ t. line_behind t (behind bytes)) o ≡ Some l → (t : Tag) × HasShape bytes l t
     by_tag None e n i = cc
     by_tag (Some t) e n i =
         let r = rows t (behind bytes) in (
           t,
           record {
-            named = tag_text-read tags_read (first_part bytes) t e;
+            named = tag_text-read tags_read (first_piece bytes) t e;
             good = no_cause-read t bytes n;
             of = if_some (IsOf t (behind bytes)) (line_behind t (behind bytes)) l r.line i;
           },

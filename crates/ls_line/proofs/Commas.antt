@@ -17,7 +17,7 @@ use Rattle.ls_line.specs.declared.table.Kind.TheVariants as kind
 use Rattle.ls_line.specs.Forms.{tag_of, kinds_of, line_with, is_rest}
 use Rattle.ls_line.specs.Lines.{Part, Fixed, Ordinal, Count, Text, Message, Coded, part_text, lent_text, then_texts}
 use Rattle.ls_line.specs.Lines.{shape_of, text_of_line, is_text_byte, IsInRange, AreInRange, IsWritable}
-use Rattle.ls_line.specs.Pieces.{first_part, behind, commas}
+use Rattle.ls_line.specs.Pieces.{first_piece, behind, commas}
 use Rattle.ls_line.specs.Reading.{piece, has_rest, has_parts, is_bad_number, is_bad_text, first_bad, cause_behind}
 use Rattle.ls_line.specs.Reading.{part_of, parts_of, Says}
 use Rattle.ls_value.specs.declared.limits.TheConstants.{GREATEST_ORDINAL, GREATEST_NUMBER}
@@ -55,14 +55,14 @@ no_comma x text h = was_false (x == 44) (and_left (is_no_comma x) (is_free text)
 rest_free : (x : ℕ) (text : List ℕ) → is_free (x ∷ text) ≡ true → is_free text ≡ true
 rest_free x text h = and_right (is_no_comma x) (is_free text) h
 
-first_part-comma : (text rest : List ℕ) → is_free text ≡ true → first_part (text ++ 44 ∷ rest) ≡ text
-first_part-comma [] rest h = refl
-first_part-comma (x ∷ text) rest h =
-    rw (no_comma x text h) (ap (λ t. x ∷ t) (first_part-comma text rest (rest_free x text h)))
+first_piece-comma : (text rest : List ℕ) → is_free text ≡ true → first_piece (text ++ 44 ∷ rest) ≡ text
+first_piece-comma [] rest h = refl
+first_piece-comma (x ∷ text) rest h =
+    rw (no_comma x text h) (ap (λ t. x ∷ t) (first_piece-comma text rest (rest_free x text h)))
 
-first_part-free : (text : List ℕ) → is_free text ≡ true → first_part text ≡ text
-first_part-free [] h = refl
-first_part-free (x ∷ text) h = rw (no_comma x text h) (ap (λ t. x ∷ t) (first_part-free text (rest_free x text h)))
+first_piece-free : (text : List ℕ) → is_free text ≡ true → first_piece text ≡ text
+first_piece-free [] h = refl
+first_piece-free (x ∷ text) h = rw (no_comma x text h) (ap (λ t. x ∷ t) (first_piece-free text (rest_free x text h)))
 
 behind-comma : (text rest : List ℕ) → is_free text ≡ true → behind (text ++ 44 ∷ rest) ≡ rest
 behind-comma [] rest h = refl
@@ -146,10 +146,10 @@ texts_next text more new parts i d l c n =
     ap (λ (x : List ℕ). then_texts x (map lent_text (drop (i + 1) parts))) e
     ∙ sym (at_drop_more (λ (ps : List Lent). then_texts text (map lent_text ps)) parts i d l)
 
-first_part-parts : (text : List ℕ) (parts : List Part) → is_free text ≡ true
-    → first_part (text ++ behind_commas parts) ≡ text
-first_part-parts text [] h = rw (append-nil text) (first_part-free text h)
-first_part-parts text (p ∷ parts) h = first_part-comma text (joined (p ∷ parts)) h
+first_piece-parts : (text : List ℕ) (parts : List Part) → is_free text ≡ true
+    → first_piece (text ++ behind_commas parts) ≡ text
+first_piece-parts text [] h = rw (append-nil text) (first_piece-free text h)
+first_piece-parts text (p ∷ parts) h = first_piece-comma text (joined (p ∷ parts)) h
 
 behind-parts : (text : List ℕ) (parts : List Part) → is_free text ≡ true
     → behind (text ++ behind_commas parts) ≡ joined parts
@@ -185,13 +185,13 @@ piece-part : (p : Part) (parts : List Part) → is_rest_last (p ∷ parts) ≡ t
     → piece (kind_of p) (joined (p ∷ parts)) ≡ part_text p
 piece-part p [] l r = by_test (is_rest (kind_of p)) refl
   where
-    by_test : (v : Bool) → is_rest (kind_of p) ≡ v → cond v (joined (p ∷ [])) (first_part (joined (p ∷ [])))
+    by_test : (v : Bool) → is_rest (kind_of p) ≡ v → cond v (joined (p ∷ [])) (first_piece (joined (p ∷ [])))
         ≡ part_text p
     by_test true k = append-nil (part_text p)
-    by_test false k = first_part-parts (part_text p) [] (part_free p k r)
+    by_test false k = first_piece-parts (part_text p) [] (part_free p k r)
 piece-part p (q ∷ parts) l r =
     let k = was_false (is_rest (kind_of p)) (and_left (not (is_rest (kind_of p))) (is_rest_last (q ∷ parts)) l) in
-    rw k (first_part-parts (part_text p) (q ∷ parts) (part_free p k r))
+    rw k (first_piece-parts (part_text p) (q ∷ parts) (part_free p k r))
 
 part-good_number : (p : Part) → IsInRange p → is_bad_number (kind_of p) (part_text p) ≡ false
 part-good_number (Fixed w) r = refl
@@ -295,7 +295,7 @@ said_again : (text : List ℕ) (parts : List Part) (l : Line) (t : Tag) → Fits
     → Says (then_texts text (map part_text parts)) l
 said_again text parts l t f range =
     let bytes : List ℕ = text ++ behind_commas parts in
-    let first : first_part bytes ≡ text = first_part-parts text parts f.free in
+    let first : first_piece bytes ≡ text = first_piece-parts text parts f.free in
     let rest : behind bytes ≡ joined parts = behind-parts text parts f.free in
     let none : cause_behind t bytes ≡ None = no_cause t bytes (map kind_of parts) (joined parts) f.kinds rest
     (parts-counted text parts f.free range)

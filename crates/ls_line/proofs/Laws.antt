@@ -8,7 +8,7 @@ use Rattle.ls_value.specs.declared.text.NoMemory.{NoMemory}
 use Rattle.ls_line.specs.Lines.{text_of_line, is_of_message, is_message_byte, IsWritable}
 use Rattle.ls_line.specs.declared.table.Tag.{Tag}
 use Rattle.ls_line.specs.Forms.{tag_of}
-use Rattle.ls_line.specs.Pieces.{first_part, behind}
+use Rattle.ls_line.specs.Pieces.{first_piece, behind}
 use Rattle.ls_line.specs.Reading.{Says, AnswersFirst, refusal, line_of, cause_of, line_behind}
 use Rattle.ls_line.proofs.Backward.{text-read, writable-read}
 use Rattle.ls_line.proofs.Rows.{row, read_again}
@@ -43,7 +43,7 @@ text_said l (Err cause) h = tt
 
 -- bytes without a cause against them are a line
 pub whole : (bytes : List ℕ) → refusal bytes ≡ None → is_some (line_of bytes) ≡ true
-whole bytes h = by_tag (tag_of (first_part bytes)) h
+whole bytes h = by_tag (tag_of (first_piece bytes)) h
   where
     by_tag : (o : Option Tag) → cause_of o bytes ≡ None → is_some
         (option_and_then (λ t. line_behind t (behind bytes)) o) ≡ true

@@ -1,10 +1,10 @@
--- The parts of a text, divided by commas.
+-- The pieces of a text, divided by commas.
 use Rattle.std.specs.Prelude.{◌==◌, ℕ, ◌+◌, List, [], ◌∷◌, if◌then◌else◌}
 
 -- the bytes before the first comma
-abbrev pub first_part : List ℕ → List ℕ
-first_part [] = []
-first_part (b ∷ bytes) = if b == 44 then [] else b ∷ first_part bytes
+abbrev pub first_piece : List ℕ → List ℕ
+first_piece [] = []
+first_piece (b ∷ bytes) = if b == 44 then [] else b ∷ first_piece bytes
 
 -- the bytes behind the first comma
 abbrev pub behind : List ℕ → List ℕ

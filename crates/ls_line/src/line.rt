@@ -155,21 +155,22 @@ pub enum Line {
     },
 }
 
-/// Why bytes are no line, the first cause in this order. Parts are counted from 1, and the tag is the first.
+/// Why bytes are no line, the first cause in this order. The pieces between its commas are counted from 1, and the
+/// tag is the first.
 #[derive(Clone, Copy, Debug, PartialEq, Eq)]
 pub enum LineRefused {
-    /// The first part is no tag that is read. MSGDONE and MSGFAIL are not read.
+    /// The first piece is no tag that is read. MSGDONE and MSGFAIL are not read.
     BadTag,
-    /// The line has not as many parts as its tag asks for. A message and coded fields are all that is left of the line.
+    /// The line has not as many pieces as its tag asks for. A message and coded fields are all that is left of a line.
     BadCount,
     /// A number is no decimal without leading zeros, or is outside its range.
     BadNumber {
-        /// The first such part.
+        /// The first such piece.
         at: usize,
     },
-    /// A text is not UTF-8, or a part is not the word that stands there in each line of this tag.
+    /// A text is not UTF-8, or a piece is not the word that stands there in each line of this tag.
     BadText {
-        /// The first such part.
+        /// The first such piece.
         at: usize,
     },
     /// Memory was refused.

@@ -1,11 +1,11 @@
-//! The parts of a line, divided by commas.
+//! The pieces of a line, divided by commas.
 ghost use Rattle.std.specs.Prelude.{◌≡◌, ◌≤◌, ◌+◌, take, drop, length};
-ghost use Rattle.ls_line.specs.Pieces.{first_part, behind, commas};
+ghost use Rattle.ls_line.specs.Pieces.{first_piece, behind, commas};
 
 /// The place of the first comma, or the length where there is none.
 fn comma(bytes: &[u8]) -> usize
     ensures within { result ≤ length bytes.now }
-    ensures first { take result bytes.now ≡ first_part bytes.now }
+    ensures first { take result bytes.now ≡ first_piece bytes.now }
     ensures rest { drop (result + 1) bytes.now ≡ behind bytes.now }
 {
     for i in 0..bytes.len() {
@@ -17,8 +17,8 @@ fn comma(bytes: &[u8]) -> usize
 }
 
 /// The bytes before the first comma; all where there is none.
-pub(crate) fn first_part(bytes: &[u8]) -> &[u8]
-    ensures { result.now ≡ first_part bytes.now }
+pub(crate) fn first_piece(bytes: &[u8]) -> &[u8]
+    ensures { result.now ≡ first_piece bytes.now }
 {
     &bytes[..comma(bytes)]
 }

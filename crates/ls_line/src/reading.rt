@@ -9,7 +9,7 @@ ghost use Rattle.ls_line.specs.Reading.{is_bad_number, is_bad_text, first_bad, c
 ghost use Rattle.ls_line.specs.Reading.{line_of, AnswersFirst};
 
 use crate::line::{Line, LineRefused};
-use crate::pieces::{behind, commas, first_part};
+use crate::pieces::{behind, commas, first_piece};
 use crate::table::{Kind, Tag, is_rest, kinds_of, lines, tag_of, word_text};
 use ls_value::{Bytes, GREATEST_NUMBER, GREATEST_ORDINAL, NoMemory, Text, same_bytes};
 use ls_words::number_in;
@@ -27,7 +27,7 @@ fn has_rest(kinds: &[Kind]) -> bool
     false
 }
 
-/// Whether so many commas divide a line into its parts; a rest may hold more of them.
+/// Whether so many commas divide a line into the pieces of its parts; a rest may hold more of them.
 fn has_parts(kinds: &[Kind], commas: usize) -> bool
     ensures { result ≡ has_parts kinds.now commas }
 {
@@ -38,14 +38,14 @@ fn has_parts(kinds: &[Kind], commas: usize) -> bool
     }
 }
 
-/// The bytes of a part, where this is left of the line.
+/// The piece that says a part, where this is left of the line.
 fn piece(kind: Kind, rest: &[u8]) -> &[u8]
     ensures { result.now ≡ piece kind rest.now }
 {
     if is_rest(kind) {
         rest
     } else {
-        first_part(rest)
+        first_piece(rest)
     }
 }
 
@@ -75,30 +75,30 @@ fn is_utf8(bytes: &[u8]) -> bool
     }
 }
 
-/// Whether a part is a number outside its range.
-fn is_bad_number(kind: Kind, part: &[u8]) -> bool
-    ensures { result ≡ is_bad_number kind part.now }
+/// Whether a piece is a number outside its range.
+fn is_bad_number(kind: Kind, bytes: &[u8]) -> bool
+    ensures { result ≡ is_bad_number kind bytes.now }
 {
     match kind {
-        Kind::Ordinal => ordinal_in(part).is_none(),
-        Kind::Count => count_in(part).is_none(),
+        Kind::Ordinal => ordinal_in(bytes).is_none(),
+        Kind::Count => count_in(bytes).is_none(),
         _ => false,
     }
 }
 
-/// Whether a part is another word than the fixed one, or a text that is not UTF-8.
-fn is_bad_text(kind: Kind, part: &[u8]) -> bool
-    ensures { result ≡ is_bad_text kind part.now }
+/// Whether a piece is another word than the fixed one, or a text that is not UTF-8.
+fn is_bad_text(kind: Kind, bytes: &[u8]) -> bool
+    ensures { result ≡ is_bad_text kind bytes.now }
 {
     match kind {
-        Kind::Fixed(word) => !same_bytes(part, word_text(word)),
-        Kind::Text => !is_utf8(part),
-        Kind::Message => !is_utf8(part),
+        Kind::Fixed(word) => !same_bytes(bytes, word_text(word)),
+        Kind::Text => !is_utf8(bytes),
+        Kind::Message => !is_utf8(bytes),
         _ => false,
     }
 }
 
-/// The first part with a bad number. The first part behind the tag is part 2.
+/// The first piece with a bad number. The first piece behind the tag is piece 2.
 fn bad_number(kinds: &[Kind], bytes: &[u8]) -> Option<usize>
     ensures { result ≡ first_bad is_bad_number kinds.now bytes.now 2 }
 {
@@ -112,7 +112,7 @@ fn bad_number(kinds: &[Kind], bytes: &[u8]) -> Option<usize>
     None
 }
 
-/// The first part with a bad text. The first part behind the tag is part 2.
+/// The first piece with a bad text. The first piece behind the tag is piece 2.
 fn bad_text(kinds: &[Kind], bytes: &[u8]) -> Option<usize>
     ensures { result ≡ first_bad is_bad_text kinds.now bytes.now 2 }
 {
@@ -144,31 +144,31 @@ fn cause_behind(tag: Tag, bytes: &[u8]) -> Option<LineRefused>
     None
 }
 
-/// The ordinal that a part says; 0 where it says none.
-fn ordinal(part: &[u8]) -> u32
-    ensures { result ≡ or_zero (ordinal_in part.now) }
+/// The ordinal that a piece says; 0 where it says none.
+fn ordinal(bytes: &[u8]) -> u32
+    ensures { result ≡ or_zero (ordinal_in bytes.now) }
 {
-    match ordinal_in(part) {
+    match ordinal_in(bytes) {
         Some(n) => n,
         None => 0,
     }
 }
 
-/// The other number that a part says; 0 where it says none.
-fn count(part: &[u8]) -> u64
-    ensures { result ≡ or_zero (count_in part.now) }
+/// The other number that a piece says; 0 where it says none.
+fn count(bytes: &[u8]) -> u64
+    ensures { result ≡ or_zero (count_in bytes.now) }
 {
-    match count_in(part) {
+    match count_in(bytes) {
         Some(n) => n,
         None => 0,
     }
 }
 
 /// These bytes as a text. They are UTF-8, so that only memory is wanted.
-fn owned(alloc: Global, part: &[u8]) -> Result<Text, NoMemory>
-    ensures { IfOk result (λ t. t ≡ part.now) }
+fn owned(alloc: Global, bytes: &[u8]) -> Result<Text, NoMemory>
+    ensures { IfOk result (λ t. t ≡ bytes.now) }
 {
-    match Text::of(alloc, part) {
+    match Text::of(alloc, bytes) {
         Ok(text) => Ok(text),
         Err(_) => Err(NoMemory),
     }
@@ -180,15 +180,15 @@ macro_rules! part {
         let $rest = behind($rest);
     };
     ($alloc:ident $rest:ident ordinal($field:ident)) => {
-        let $field = ordinal(first_part($rest));
+        let $field = ordinal(first_piece($rest));
         let $rest = behind($rest);
     };
     ($alloc:ident $rest:ident count($field:ident)) => {
-        let $field = count(first_part($rest));
+        let $field = count(first_piece($rest));
         let $rest = behind($rest);
     };
     ($alloc:ident $rest:ident text($field:ident)) => {
-        let $field = owned($alloc, first_part($rest))?;
+        let $field = owned($alloc, first_piece($rest))?;
         let $rest = behind($rest);
     };
     ($alloc:ident $rest:ident message($field:ident)) => {
@@ -238,7 +238,7 @@ pub fn read(alloc: Global, bytes: &[u8]) -> Result<Line, LineRefused>
 fn line_or_cause(alloc: Global, bytes: &[u8]) -> Result<Line, LineRefused>
     ensures { AnswersFirst (refusal bytes.now) (line_of bytes.now) result }
 {
-    let Some(tag) = tag_of(first_part(bytes)) else {
+    let Some(tag) = tag_of(first_piece(bytes)) else {
         return Err(LineRefused::BadTag);
     };
     if let Some(cause) = cause_behind(tag, bytes) {

@@ -1,3 +1,5 @@
 pub mod Adapters
 pub mod Causes
+pub mod Clocks
 pub mod Memory
+pub mod Pipes

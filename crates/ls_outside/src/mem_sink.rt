@@ -3,6 +3,7 @@ ghost use Rattle.std.specs.Prelude.{◌≡◌, ◌+◌, ◌-◌, ◌^◌, ◌<�
 ghost use Rattle.ls_outside.specs.declared.sink.Put.TheVariants as put;
 ghost use Rattle.ls_outside.specs.Causes.{TakesOf, HasWriteCause};
 ghost use Rattle.ls_outside.specs.Memory.{next_call, sink_after, TakesBy, IsWriteBy};
+ghost use Rattle.ls_outside.specs.Pipes.{no_source};
 ghost use Rattle.ls_outside.specs.declared.call.Call.TheVariants as call_is;
 
 use crate::call::{Call, Calls};
@@ -67,6 +68,8 @@ impl Sink for MemSink {
 
     ghost faults = { λ s. s.faults };
 
+    ghost gives = { λ _. no_source };
+
     fn write_faults(&self) -> u64 {
         self.faults
     }
@@ -74,6 +77,7 @@ impl Sink for MemSink {
     fn write(&mut self, piece: &[u8]) -> Put
         ensures bytes { TakesOf (Some self.old.held) (Some self.new.held) result piece.now }
         ensures cause { HasWriteCause result self.old.faults self.new.faults }
+        ensures source { no_source ≡ no_source }
         ensures answer { IsWriteBy (next_call self.old.calls) piece.now result }
         ensures after { self.new ≡ sink_after self.old piece.now result }
     {
@@ -124,6 +128,8 @@ impl Sink for PlainSink {
 
     ghost faults = { λ _. 0 };
 
+    ghost gives = { λ _. no_source };
+
     fn write_faults(&self) -> u64 {
         0
     }
@@ -131,6 +137,7 @@ impl Sink for PlainSink {
     fn write(&mut self, piece: &[u8]) -> Put
         ensures bytes { TakesOf None None result piece.now }
         ensures cause { HasWriteCause result 0 0 }
+        ensures source { no_source ≡ no_source }
         ensures all { result ≡ put.Taken (length piece.now) }
         ensures taken { self.new ≡ min (self.old + length piece.now) (2 ^ 64 - 1) }
     {

@@ -3,6 +3,7 @@ ghost use Rattle.std.specs.Prelude.{◌≡◌, ◌<◌, ◌-◌, ◌^◌, length
 ghost use Rattle.ls_outside.specs.Causes.{Gives, HasReadCause};
 ghost use Rattle.ls_outside.specs.Memory.{next_call, beyond, way_to, answer_by, answer_within, supply_after};
 ghost use Rattle.ls_outside.specs.Memory.{source_after};
+ghost use Rattle.ls_outside.specs.Pipes.{no_sink};
 
 use crate::call::{Call, Calls};
 use crate::source::{Got, Source};
@@ -105,6 +106,8 @@ impl Source for PlainSource {
 
     ghost waits = { λ _. 0 };
 
+    ghost holds = { λ _. no_sink };
+
     fn read_faults(&self) -> u64 {
         0
     }
@@ -117,6 +120,7 @@ impl Source for PlainSource {
         requires { 0 < length piece.old }
         ensures bytes { Gives (Some self.old.unread) (Some self.new.unread) result piece.new }
         ensures cause { HasReadCause result 0 0 0 0 }
+        ensures sink { no_sink ≡ no_sink }
         ensures answer { result ≡ answer_within self.old (2 ^ 64 - 1) (length piece.old) }
         ensures after { self.new ≡ supply_after self.old result }
     {
@@ -166,6 +170,8 @@ impl Source for MemSource {
 
     ghost waits = { λ s. s.idles };
 
+    ghost holds = { λ _. no_sink };
+
     fn read_faults(&self) -> u64 {
         self.faults
     }
@@ -178,6 +184,7 @@ impl Source for MemSource {
         requires { 0 < length piece.old }
         ensures bytes { Gives (Some self.old.supply.unread) (Some self.new.supply.unread) result piece.new }
         ensures cause { HasReadCause result self.old.faults self.new.faults self.old.idles self.new.idles }
+        ensures sink { no_sink ≡ no_sink }
         ensures answer { result ≡ answer_by (next_call self.old.calls) self.old.supply (length piece.old) }
         ensures after { self.new ≡ source_after self.old result }
     {

@@ -2,6 +2,7 @@
 ghost use Rattle.std.specs.Prelude.{◌≡◌, ◌<◌, ℕ, List, length};
 ghost use Rattle.std.specs.declared.option.Option.{Option};
 ghost use Rattle.ls_outside.specs.Causes.{TakesOf, HasWriteCause, WritesAll};
+ghost use Rattle.ls_outside.specs.Pipes.{Giving};
 
 /// The answer of a write.
 #[derive(Clone, Copy, Debug, PartialEq, Eq)]
@@ -21,6 +22,9 @@ pub trait Sink {
     /// The count of faults.
     ghost faults: { Self → ℕ };
 
+    /// What it is as a source, where it is a pipe. No write changes it.
+    ghost gives: { Self → Giving };
+
     /// How many writes have failed, or 2^64 - 1 where that is less. It never falls.
     fn write_faults(&self) -> u64
         ensures { result ≡ faults self.now };
@@ -29,7 +33,8 @@ pub trait Sink {
     /// `write_faults` rises by one; else it is as before.
     fn write(&mut self, piece: &[u8]) -> Put
         ensures bytes { TakesOf (held self.old) (held self.new) result piece.now }
-        ensures cause { HasWriteCause result (faults self.old) (faults self.new) };
+        ensures cause { HasWriteCause result (faults self.old) (faults self.new) }
+        ensures source { gives self.new ≡ gives self.old };
 }
 
 /// Writes a whole piece, in as many writes as the sink needs. `Taken` has the length of the piece, and then no write
@@ -38,6 +43,7 @@ pub trait Sink {
 pub fn write_all<K: Sink>(sink: &mut K, piece: &[u8]) -> Put
     ensures bytes { WritesAll (K.held sink.old) (K.held sink.new) result piece.now }
     ensures cause { HasWriteCause result (K.faults sink.old) (K.faults sink.new) }
+    ensures source { K.gives sink.new ≡ K.gives sink.old }
 {
     let mut at = 0;
     while at < piece.len() {

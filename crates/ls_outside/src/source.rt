@@ -2,6 +2,7 @@
 ghost use Rattle.std.specs.Prelude.{◌≡◌, ◌<◌, ℕ, List, length};
 ghost use Rattle.std.specs.declared.option.Option.{Option};
 ghost use Rattle.ls_outside.specs.Causes.{Gives, HasReadCause};
+ghost use Rattle.ls_outside.specs.Pipes.{Holding};
 
 /// The answer of a read.
 #[derive(Clone, Copy, Debug, PartialEq, Eq)]
@@ -30,6 +31,9 @@ pub trait Source {
     /// The count of idle calls.
     ghost waits: { Self → ℕ };
 
+    /// What it is as a sink, where it is a pipe. No read changes it.
+    ghost holds: { Self → Holding };
+
     /// How many reads have failed, or 2^64 - 1 where that is less. It never falls.
     fn read_faults(&self) -> u64
         ensures { result ≡ faults self.now };
@@ -45,5 +49,6 @@ pub trait Source {
     fn read(&mut self, piece: &mut [u8]) -> Got
         requires { 0 < length piece.old }
         ensures bytes { Gives (unread self.old) (unread self.new) result piece.new }
-        ensures cause { HasReadCause result (faults self.old) (faults self.new) (waits self.old) (waits self.new) };
+        ensures cause { HasReadCause result (faults self.old) (faults self.new) (waits self.old) (waits self.new) }
+        ensures sink { holds self.new ≡ holds self.old };
 }

@@ -6,6 +6,7 @@ ghost use Rattle.std.specs.IoError.{error_kind};
 ghost use Rattle.std.specs.Io.KnownBytes.{Keeps, Appends};
 ghost use Rattle.std.specs.declared.io.Error.{Error as Fault};
 ghost use Rattle.ls_outside.specs.Causes.{Gives, HasReadCause, TakesOf, HasWriteCause};
+ghost use Rattle.ls_outside.specs.Pipes.{no_sink, no_source};
 ghost use Rattle.ls_outside.specs.Adapters.{GotBy, TriedBy, PutBy};
 ghost use Rattle.ls_outside.specs.declared.std_io.TheConstants.{WRITE_TRIES as MOST_TRIES};
 
@@ -64,6 +65,8 @@ impl<R: Reader> Source for StdSource<R> {
 
     ghost waits = { λ s. s.idles };
 
+    ghost holds = { λ _. no_sink };
+
     fn read_faults(&self) -> u64 {
         self.faults
     }
@@ -77,6 +80,7 @@ impl<R: Reader> Source for StdSource<R> {
         requires { 0 < length piece.old }
         ensures bytes { Gives (R.unread self.old.inner) (R.unread self.new.inner) result piece.new }
         ensures cause { HasReadCause result self.old.faults self.new.faults self.old.idles self.new.idles }
+        ensures sink { no_sink ≡ no_sink }
         ensures answer { (answer : Answer ℕ Fault) × R.answers self.old.inner piece.new answer self.new.inner
             × GotBy result answer }
     {
@@ -140,6 +144,8 @@ impl<W: Writer> Sink for StdSink<W> {
 
     ghost faults = { λ s. s.faults };
 
+    ghost gives = { λ _. no_source };
+
     fn write_faults(&self) -> u64 {
         self.faults
     }
@@ -148,6 +154,7 @@ impl<W: Writer> Sink for StdSink<W> {
     fn write(&mut self, piece: &[u8]) -> Put
         ensures bytes { TakesOf (W.held self.old.inner) (W.held self.new.inner) result piece.now }
         ensures cause { HasWriteCause result self.old.faults self.new.faults }
+        ensures source { no_source ≡ no_source }
         ensures answer { (taken : Optional ℕ)
             × TriedBy W.answers piece.now MOST_TRIES self.old.inner self.new.inner taken
             × PutBy result taken (length piece.now) }

@@ -21,7 +21,7 @@ is_word word text = text_eq text word
 
 -- a decimal is at most the greatest number
 abbrev pub decimal_of : List ℕ → Option ℕ
-decimal_of text = number_in 0 GREATEST_NUMBER text
+decimal_of text = number_in text 0 GREATEST_NUMBER
 
 -- what a size or a number of rows is read as: the greatest ordinal, where it is above it
 abbrev pub capped : ℕ → ℕ
@@ -72,7 +72,7 @@ req_of text = if is_req text then Some text else None
 
 -- LS_subId: an ordinal
 abbrev pub sub_of : List ℕ → Option ℕ
-sub_of text = number_in 1 GREATEST_ORDINAL text
+sub_of text = number_in text 1 GREATEST_ORDINAL
 
 -- LS_mode: the mode of a word
 abbrev pub mode_of : List ℕ → Option Mode
@@ -116,4 +116,4 @@ snap_of m text =
 abbrev pub size_of : List ℕ → Option (Option ℕ)
 size_of text =
     if is_word (codes "unlimited") text then Some (Some GREATEST_ORDINAL)
-    else option_map (λ n. Some (capped n)) (number_in 1 GREATEST_NUMBER text)
+    else option_map (λ n. Some (capped n)) (number_in text 1 GREATEST_NUMBER)

@@ -1,14 +1,16 @@
 //! A session's turn (TLCP 2.1, notifications).
-ghost use Rattle.std.specs.Prelude.{◌≡◌, ◌≤◌, false, slice_get};
+ghost use Rattle.std.specs.Prelude.{◌≡◌, ◌≤◌, false, slice_get, option_map};
 ghost use Rattle.ls_budget.specs.declared.limits.TheConstants.{GREATEST_TICK};
 ghost use Rattle.ls_session.specs.Asking.{begun};
-ghost use Rattle.ls_session.specs.Record.{Record, turned, round_turned, round_asked};
+ghost use Rattle.ls_subs.specs.Standing.{ref_of};
+ghost use Rattle.ls_session.specs.Record.{Record, turned, round_turned, round_asked, passed_over};
 ghost use Rattle.ls_session.specs.Session.{StandsSession, AnswersTurn, turn_of, turn_of_wait};
 
 use crate::asking::Asked;
 use crate::budgets::is_now;
 use crate::session::{Ask, Session, Turn};
 use ls_stream::StreamTurn;
+use ls_subs::SlotRef;
 use ls_value::GREATEST_NUMBER;
 
 impl Session {
@@ -31,6 +33,23 @@ impl Session {
                 turn_of(given)
             }
         }
+    }
+
+    /// The slot that is asked next, `None` behind the last one. No memory is taken.
+    pub fn next_slot(&self) -> Option<SlotRef>
+        ensures { (r : Record) → StandsSession self.now r
+            → result ≡ option_map ref_of (slice_get r.session.board.round r.asked) }
+    {
+        self.asking.slot()
+    }
+
+    /// The slot that is asked next is passed over, as where it was asked and has nothing: the one behind it is asked
+    /// next. So who knows that nothing of a slot is pending needs no question; where no number is left for a line, a
+    /// question of a due slot is told apart, so such a slot has to be asked. No memory is taken.
+    pub fn skip(&mut self)
+        ensures { (r : Record) → StandsSession self.old r → StandsSession self.new (passed_over r) }
+    {
+        self.asking.pass();
     }
 
     /// The round goes on, or begins anew.

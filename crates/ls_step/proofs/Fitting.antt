@@ -60,8 +60,8 @@ none_of (Some n) h = cc
 abbrev Within : ℕ → ℕ → ℕ → Type 0
 Within low high n = (low ≤ n) × (n ≤ high)
 
-number_within : (low high : ℕ) (text : List ℕ) → IfSome (number_in low high text) (Within low high)
-number_within low high text = chained (λ n. Unit {0}) (Within low high) (within low high) (number_of text) (anything (number_of text))
+number_within : (low high : ℕ) (text : List ℕ) → IfSome (number_in text low high) (Within low high)
+number_within low high text = chained (λ n. Unit {0}) (Within low high) (λ n. within n low high) (number_of text) (anything (number_of text))
     (λ n u. kept (Within low high) (nat_le low n && nat_le n high) n (λ h. bounds n (and_left _ _ h) (and_right _ _ h)))
   where
     bounds : (n : ℕ) → nat_le low n ≡ true → nat_le n high ≡ true → (low ≤ n) × (n ≤ high)

@@ -39,11 +39,11 @@ nothing = record { items = []; connections = []; tick = 0 }
 
 -- a number of a line, from one number on
 abbrev pub number_from : ℕ → List ℕ → Option ℕ
-number_from low text = number_in low GREATEST_IN_LINE text
+number_from low text = number_in text low GREATEST_IN_LINE
 
 -- how often a step is made
 abbrev pub times_of : List ℕ → Option ℕ
-times_of text = number_in 1 MOST_TIMES text
+times_of text = number_in text 1 MOST_TIMES
 
 -- the kind of connections that a word says
 abbrev pub link_of : List ℕ → Option LinkKind
@@ -60,7 +60,7 @@ item_names k = names_of k.items
 
 -- an adapter's number
 abbrev pub adapter_of : List ℕ → Option ℕ
-adapter_of text = number_in 1 MOST_ADAPTERS text
+adapter_of text = number_in text 1 MOST_ADAPTERS
 
 -- a declared item's number, and a declared connection's
 abbrev pub item_of : Known → List ℕ → Option ℕ

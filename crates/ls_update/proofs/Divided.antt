@@ -12,11 +12,11 @@ tokens_at_most text =
     let m = count_by-le-length (λ b. b == 124) text in
     omega (arith, n, m)
 
--- where a token stands, its place is at most the number of bytes
-pub place_within : (text : List ℕ) (place : ℕ) (token : List ℕ) (others : List (List ℕ))
-    → drop place (tokens_of text) ≡ token ∷ others → place ≤ length text
-place_within text place token others is =
-    let n = length-drop place (tokens_of text) in
-    let m : length (drop place (tokens_of text)) ≡ length (token ∷ others) = ap length is in
+-- so many tokens stand before a token, at most as many as there are bytes
+pub behind_within : (text : List ℕ) (behind : ℕ) (token : List ℕ) (others : List (List ℕ))
+    → drop behind (tokens_of text) ≡ token ∷ others → behind ≤ length text
+behind_within text behind token others is =
+    let n = length-drop behind (tokens_of text) in
+    let m : length (drop behind (tokens_of text)) ≡ length (token ∷ others) = ap length is in
     let most = tokens_at_most text in
     omega (arith, n, m, most)

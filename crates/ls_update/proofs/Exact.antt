@@ -9,7 +9,7 @@ use Rattle.ls_value.specs.declared.row.Value.{Value}
 use Rattle.ls_value.specs.declared.row.Value.TheVariants as value
 use Rattle.ls_update.specs.declared.reading.ReadRefused.{ReadRefused}
 use Rattle.ls_update.specs.declared.reading.ReadRefused.TheVariants as refused
-use Rattle.ls_update.specs.Reading.{Says, unchanged, run, null, empty, text, Reads, says_text, begins_run, IsFault}
+use Rattle.ls_update.specs.Reading.{Says, unchanged, run, null, empty, text, Reads, says_text, begins_run, Token, IsFault}
 use Rattle.ls_update.proofs.Said.{some_says}
 
 -- the value that a token says that isn't empty and no run
@@ -115,85 +115,89 @@ one_row prev r s (t ∷ ts) small (k, within, says, rest) (m, inside, said, othe
     sym (take-append-drop k r) ∙ ap (λ x. x ++ drop k r) first ∙ ap (λ x. take k s ++ x) behind ∙ take-append-drop k s
 
 -- a token that says something is at no fault
-no_fault : (before now : List Value) (token : List ℕ) (left place : ℕ) (fault : ReadRefused) → Says before token now
-    → length before ≤ left → IsFault left token place fault → ⊥
-no_fault before now token left place (refused.TooFew got) says within bad = bad
-no_fault before now token left place (refused.TooMany stands) says within (is, none) =
-    let some = some_says before now token says in absurd (omega (arith, some, within, none))
-no_fault before now token left place (refused.BadRun stands) says within (is, some, begins, none) =
-    by_kind (one_or_run before now token says)
+no_fault : (before now : List Value) (token : Token) (fault : ReadRefused) → Says before token.bytes now
+    → length before ≤ token.left → IsFault token fault → ⊥
+no_fault before now token (refused.TooFew got) says within bad = bad
+no_fault before now token (refused.TooMany stands) says within (is, none) =
+    let some = some_says before now token.bytes says in absurd (omega (arith, some, within, none))
+no_fault before now token (refused.BadRun stands) says within (is, some, begins, none) =
+    by_kind (one_or_run before now token.bytes says)
   where
-    by_kind : ((begins_run token ≡ false) × (length before ≡ 1)) ⊎ (token ≡ 94 ∷ decimal (length before)) → ⊥
+    by_kind : ((begins_run token.bytes ≡ false) × (length before ≡ 1)) ⊎ (token.bytes ≡ 94 ∷ decimal (length before)) → ⊥
     by_kind (inl (n, one)) = absurd (let e : false ≡ true = sym n ∙ begins in cc)
-    by_kind (inr t) = none (length before) (some_says before now token says) within t
-no_fault before now token left place (refused.BadText stands) says within (is, some, plain, none) = by_kind says
+    by_kind (inr t) = none (length before) (some_says before now token.bytes says) within t
+no_fault before now token (refused.BadText stands) says within (is, some, plain, none) = by_kind says
   where
-    by_kind : Says before token now → ⊥
+    by_kind : Says before token.bytes now → ⊥
     by_kind (unchanged one t n) = absurd (let e : says_text [] ≡ true = rw t at plain in cc)
-    by_kind (run many t n) = absurd (let e : false ≡ true = sym (text_no_run token plain) ∙ ap begins_run t in cc)
+    by_kind (run many t n) = absurd (let e : false ≡ true = sym (text_no_run token.bytes plain) ∙ ap begins_run t in cc)
     by_kind (null one t n) = absurd (let e : says_text (35 ∷ []) ≡ true = rw t at plain in cc)
     by_kind (empty one t n) = absurd (let e : says_text (36 ∷ []) ≡ true = rw t at plain in cc)
     by_kind (text one t u n) = none u
-no_fault before now token left place refused.NoMemory says within bad = bad
+no_fault before now token refused.NoMemory says within bad = bad
 
 no_text_run : (token : List ℕ) → says_text token ≡ true → begins_run token ≡ true → ⊥
 no_text_run token plain begins = absurd (let e : false ≡ true = sym (text_no_run token plain) ∙ begins in cc)
 
 -- a token has one fault
-same_fault : (left : ℕ) (token : List ℕ) (place : ℕ) (e f : ReadRefused) → IsFault left token place e
-    → IsFault left token place f → e ≡ f
-same_fault left token place (refused.TooFew got) f x y = absurd x
-same_fault left token place refused.NoMemory f x y = absurd x
-same_fault left token place (refused.TooMany a) (refused.TooFew b) x y = absurd y
-same_fault left token place (refused.TooMany a) (refused.TooMany b) x y = ap refused.TooMany (x.0 ∙ sym y.0)
-same_fault left token place (refused.TooMany a) (refused.BadRun b) (is, none) (at, some, kind, y) =
+same_fault : (token : Token) (e f : ReadRefused) → IsFault token e
+    → IsFault token f → e ≡ f
+same_fault token (refused.TooFew got) f x y = absurd x
+same_fault token refused.NoMemory f x y = absurd x
+same_fault token (refused.TooMany a) (refused.TooFew b) x y = absurd y
+same_fault token (refused.TooMany a) (refused.TooMany b) x y = ap refused.TooMany (x.0 ∙ sym y.0)
+same_fault token (refused.TooMany a) (refused.BadRun b) (is, none) (at, some, kind, y) =
     absurd (omega (arith, none, some))
-same_fault left token place (refused.TooMany a) (refused.BadText b) (is, none) (at, some, kind, y) =
+same_fault token (refused.TooMany a) (refused.BadText b) (is, none) (at, some, kind, y) =
     absurd (omega (arith, none, some))
-same_fault left token place (refused.TooMany a) refused.NoMemory x y = absurd y
-same_fault left token place (refused.BadRun a) (refused.TooFew b) x y = absurd y
-same_fault left token place (refused.BadRun a) (refused.TooMany b) (at, some, kind, x) (is, none) =
+same_fault token (refused.TooMany a) refused.NoMemory x y = absurd y
+same_fault token (refused.BadRun a) (refused.TooFew b) x y = absurd y
+same_fault token (refused.BadRun a) (refused.TooMany b) (at, some, kind, x) (is, none) =
     absurd (omega (arith, none, some))
-same_fault left token place (refused.BadRun a) (refused.BadRun b) x y = ap refused.BadRun (x.0 ∙ sym y.0)
-same_fault left token place (refused.BadRun a) (refused.BadText b) (at, some, begins, x) (is, more, plain, y) =
-    absurd (no_text_run token plain begins)
-same_fault left token place (refused.BadRun a) refused.NoMemory x y = absurd y
-same_fault left token place (refused.BadText a) (refused.TooFew b) x y = absurd y
-same_fault left token place (refused.BadText a) (refused.TooMany b) (at, some, kind, x) (is, none) =
+same_fault token (refused.BadRun a) (refused.BadRun b) x y = ap refused.BadRun (x.0 ∙ sym y.0)
+same_fault token (refused.BadRun a) (refused.BadText b) (at, some, begins, x) (is, more, plain, y) =
+    absurd (no_text_run token.bytes plain begins)
+same_fault token (refused.BadRun a) refused.NoMemory x y = absurd y
+same_fault token (refused.BadText a) (refused.TooFew b) x y = absurd y
+same_fault token (refused.BadText a) (refused.TooMany b) (at, some, kind, x) (is, none) =
     absurd (omega (arith, none, some))
-same_fault left token place (refused.BadText a) (refused.BadRun b) (is, more, plain, y) (at, some, begins, x) =
-    absurd (no_text_run token plain begins)
-same_fault left token place (refused.BadText a) (refused.BadText b) x y = ap refused.BadText (x.0 ∙ sym y.0)
-same_fault left token place (refused.BadText a) refused.NoMemory x y = absurd y
+same_fault token (refused.BadText a) (refused.BadRun b) (is, more, plain, y) (at, some, begins, x) =
+    absurd (no_text_run token.bytes plain begins)
+same_fault token (refused.BadText a) (refused.BadText b) x y = ap refused.BadText (x.0 ∙ sym y.0)
+same_fault token (refused.BadText a) refused.NoMemory x y = absurd y
 
--- the first fault of tokens that stand from a place on, where so many fields were said before
+-- the token of a number, where these fields are left
+abbrev pub token_at : ℕ → List Value → List ℕ → Token
+token_at number fields bytes = record { bytes = bytes; number = number; left = length fields }
+
+-- the first fault of tokens from a number on, where so many fields were said before
 abbrev pub Faults : ℕ → ℕ → List Value → List (List ℕ) → ReadRefused → Type 0
-Faults place got prev [] fault = (1 ≤ length prev) × (fault ≡ refused.TooFew got)
-Faults place got prev (t ∷ ts) fault = IsFault (length prev) t place fault
+Faults number got prev [] fault = (1 ≤ length prev) × (fault ≡ refused.TooFew got)
+Faults number got prev (t ∷ ts) fault = IsFault (token_at number prev t) fault
     ⊎ ((k : ℕ) × (k ≤ length prev) × (now : List Value) × Says (take k prev) t now
-    × Faults (place + 1) (got + k) (drop k prev) ts fault)
+    × Faults (number + 1) (got + k) (drop k prev) ts fault)
 
-pub one_fault_behind : (place got : ℕ) (prev : List Value) (tokens : List (List ℕ)) (e f : ReadRefused)
-    → length prev < 2 ^ 64 → Faults place got prev tokens e → Faults place got prev tokens f → e ≡ f
-one_fault_behind place got prev [] e f small x y = x.1 ∙ sym y.1
-one_fault_behind place got prev (t ∷ ts) e f small (inl x) (inl y) = same_fault (length prev) t place e f x y
-one_fault_behind place got prev (t ∷ ts) e f small (inl x) (inr (k, within, now, says, y)) =
-    absurd (no_fault (take k prev) now t (length prev) place e says
+pub one_fault_behind : (number got : ℕ) (prev : List Value) (tokens : List (List ℕ)) (e f : ReadRefused)
+    → length prev < 2 ^ 64 → Faults number got prev tokens e → Faults number got prev tokens f → e ≡ f
+one_fault_behind number got prev [] e f small x y = x.1 ∙ sym y.1
+one_fault_behind number got prev (t ∷ ts) e f small (inl x) (inl y) = same_fault (token_at number prev t) e f x y
+one_fault_behind number got prev (t ∷ ts) e f small (inl x) (inr (k, within, now, says, y)) =
+    absurd (no_fault (take k prev) now (token_at number prev t) e says
     (omega (arith, length-take-le k prev within, within)) x)
-one_fault_behind place got prev (t ∷ ts) e f small (inr (k, within, now, says, x)) (inl y) =
-    absurd (no_fault (take k prev) now t (length prev) place f says
+one_fault_behind number got prev (t ∷ ts) e f small (inr (k, within, now, says, x)) (inl y) =
+    absurd (no_fault (take k prev) now (token_at number prev t) f says
     (omega (arith, length-take-le k prev within, within)) y)
-one_fault_behind place got prev (t ∷ ts) e f small (inr (k, within, now, says, x)) (inr (m, inside, new, said, y)) =
+one_fault_behind number got prev (t ∷ ts) e f small (inr (k, within, now, says, x)) (inr (m, inside, new, said, y)) =
     let same : m ≡ k = same_fields prev new now t m k small inside within said says in
-    one_fault_behind (place + 1) (got + k) (drop k prev) ts e f (fewer prev k small) x (rw same at y)
+    one_fault_behind (number + 1) (got + k) (drop k prev) ts e f (fewer prev k small) x (rw same at y)
 
-pub no_fault_behind : (place got : ℕ) (prev row : List Value) (tokens : List (List ℕ)) (e : ReadRefused)
-    → length prev < 2 ^ 64 → Reads prev tokens row → Faults place got prev tokens e → ⊥
-no_fault_behind place got prev row [] e small (x, y) (some, z) =
+pub no_fault_behind : (number got : ℕ) (prev row : List Value) (tokens : List (List ℕ)) (e : ReadRefused)
+    → length prev < 2 ^ 64 → Reads prev tokens row → Faults number got prev tokens e → ⊥
+no_fault_behind number got prev row [] e small (x, y) (some, z) =
     absurd (let n : length prev ≡ 0 = ap length x in omega (arith, n, some))
-no_fault_behind place got prev row (t ∷ ts) e small (k, within, says, rest) (inl x) =
-    no_fault (take k prev) (take k row) t (length prev) place e says
+no_fault_behind number got prev row (t ∷ ts) e small (k, within, says, rest) (inl x) =
+    no_fault (take k prev) (take k row) (token_at number prev t) e says
     (omega (arith, length-take-le k prev within, within)) x
-no_fault_behind place got prev row (t ∷ ts) e small (k, within, says, rest) (inr (m, inside, new, said, y)) =
+no_fault_behind number got prev row (t ∷ ts) e small (k, within, says, rest) (inr (m, inside, new, said, y)) =
     let same : m ≡ k = same_fields prev new (take k row) t m k small inside within said says in
-    no_fault_behind (place + 1) (got + k) (drop k prev) (drop k row) ts e (fewer prev k small) rest (rw same at y)
+    no_fault_behind (number + 1) (got + k) (drop k prev) (drop k row) ts e (fewer prev k small) rest (rw same at y)

@@ -29,44 +29,45 @@ rest_within prev k m within =
     ap (λ (x : ℕ). drop k (take x prev)) (sym e) ∙ drop-take k (m - k) prev
 
 -- a token at fault behind tokens that say the first fields
-fault_behind : (place got i m : ℕ) (prev row : List Value) (tokens : List (List ℕ)) (fault : ReadRefused)
+fault_behind : (number got i m : ℕ) (prev row : List Value) (tokens : List (List ℕ)) (fault : ReadRefused)
     → i < length tokens → m ≤ length prev
-    → Reads (take m prev) (take i tokens) row → IsFault (length prev - m) (get_or tokens i []) (place + i) fault
-    → Faults place got prev tokens fault
-fault_behind place got i m prev row [] fault stands within reads bad = absurd (omega (arith, stands))
-fault_behind place got zero m prev row (t ∷ ts) fault stands within (x, y) bad =
+    → Reads (take m prev) (take i tokens) row
+    → IsFault (record { bytes = get_or tokens i []; number = number + i; left = length prev - m }) fault
+    → Faults number got prev tokens fault
+fault_behind number got i m prev row [] fault stands within reads bad = absurd (omega (arith, stands))
+fault_behind number got zero m prev row (t ∷ ts) fault stands within (x, y) bad =
     let z : m ≡ 0 = none_before prev m within x in
     let left : length prev - m ≡ length prev = omega (arith, z) in
-    let at : place + zero ≡ place = omega arith in
+    let at : number + zero ≡ number = omega arith in
     inl (rw (left, at) at bad)
-fault_behind place got (suc i) m prev row (t ∷ ts) fault stands within (k, inside, says, rest) bad =
+fault_behind number got (suc i) m prev row (t ∷ ts) fault stands within (k, inside, says, rest) bad =
     let n = length-take-le m prev within in
     let few : k ≤ m = omega (arith, n, inside) in
     let d = length-drop k prev in
     let left : length prev - m ≡ length (drop k prev) - (m - k) = omega (arith, d, few) in
-    let at : place + suc i ≡ place + 1 + i = omega arith in
+    let at : number + suc i ≡ number + 1 + i = omega arith in
     inr (
       k,
       omega (arith, few, within),
       take k row,
       rw (take_within prev k m few within) at says,
       fault_behind
-          (place + 1) (got + k) i (m - k) (drop k prev) (drop k row) ts fault (omega (arith, stands))
+          (number + 1) (got + k) i (m - k) (drop k prev) (drop k row) ts fault (omega (arith, stands))
           (omega (arith, d, few, within)) (rw (rest_within prev k m few) at rest) (rw (left, at) at bad),
     )
 
 -- fields that are left behind the tokens
-few_behind : (place got m : ℕ) (prev row : List Value) (tokens : List (List ℕ)) → m < length prev
-    → Reads (take m prev) tokens row → Faults place got prev tokens (refused.TooFew (got + m))
-few_behind place got m prev row [] few (x, y) =
+few_behind : (number got m : ℕ) (prev row : List Value) (tokens : List (List ℕ)) → m < length prev
+    → Reads (take m prev) tokens row → Faults number got prev tokens (refused.TooFew (got + m))
+few_behind number got m prev row [] few (x, y) =
     let z : m ≡ 0 = none_before prev m (omega (arith, few)) x in
     (omega (arith, few), ap refused.TooFew (let e : got + m ≡ got = omega (arith, z) in e))
-few_behind place got m prev row (t ∷ ts) few (k, inside, says, rest) =
+few_behind number got m prev row (t ∷ ts) few (k, inside, says, rest) =
     let n = length-take-le m prev (omega (arith, few)) in
     let within : k ≤ m = omega (arith, n, inside) in
     let d = length-drop k prev in
     let sum : got + k + (m - k) ≡ got + m = omega (arith, within) in
-    let behind = few_behind (place + 1) (got + k) (m - k) (drop k prev) (drop k row) ts (omega (arith, d, within, few))
+    let behind = few_behind (number + 1) (got + k) (m - k) (drop k prev) (drop k row) ts (omega (arith, d, within, few))
     (rw (rest_within prev k m within) at rest) in
     inr (
       k,

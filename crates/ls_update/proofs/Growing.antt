@@ -6,7 +6,7 @@ use Rattle.std.proofs.lemmas.List.{take-append-drop, drop-drop, drop_more, lengt
 use Rattle.ls_value.specs.declared.row.Value.{Value}
 use Rattle.ls_update.specs.declared.reading.ReadRefused.{ReadRefused}
 use Rattle.ls_update.specs.declared.reading.ReadRefused.TheVariants as refused
-use Rattle.ls_update.specs.Reading.{Says, Reads, IsFault, FaultAt, FirstFault, Refuses}
+use Rattle.ls_update.specs.Reading.{Says, Reads, Token, IsFault, FaultAt, FirstFault, Refuses}
 use Rattle.ls_update.specs.Growing.{Grows, RefusesToken}
 use Rattle.ls_update.proofs.Said.{Reads-append, Reads-one}
 
@@ -49,11 +49,11 @@ get_next xs i x d ys is =
     cc
 
 -- the tokens so far say the fields so far, and one more token says more of them
-pub reads_next : (prev old new : List Value) (tokens others : List (List ℕ)) (place : ℕ) (token : List ℕ)
-    → drop place tokens ≡ token ∷ others
-    → Reads (take (length old) prev) (take place tokens) old → Grows prev old token new
-    → Reads (take (length new) prev) (take (place + 1) tokens) new
-reads_next prev old new tokens others place token is said grows =
+pub reads_next : (prev old new : List Value) (tokens others : List (List ℕ)) (behind : ℕ) (token : List ℕ)
+    → drop behind tokens ≡ token ∷ others
+    → Reads (take (length old) prev) (take behind tokens) old → Grows prev old token new
+    → Reads (take (length new) prev) (take (behind + 1) tokens) new
+reads_next prev old new tokens others behind token is said grows =
     let n : length new ≡ length old + length (drop (length old) new) =
     ap length grows.kept ∙ length-append old (drop (length old) new) in
     let j : length new ≡ length old + (length new - length old) = omega (arith, n) in
@@ -61,32 +61,36 @@ reads_next prev old new tokens others place token is said grows =
     ++ take (length new - length old) (drop (length old) prev) =
     ap (λ k. take k prev) j ∙ take-add (length old) (length new - length old) prev in
     let whole = Reads-append (take (length old) prev) (take (length new - length old) (drop (length old) prev))
-    (take place tokens) (token ∷ []) old (drop (length old) new) said (Reads-one _ _ token grows.says) in
+    (take behind tokens) (token ∷ []) old (drop (length old) new) said (Reads-one _ _ token grows.says) in
     let row =
     subst (λ (r : List Value). Reads (take (length old) prev
-    ++ take (length new - length old) (drop (length old) prev)) (take place tokens ++ token ∷ []) r)
+    ++ take (length new - length old) (drop (length old) prev)) (take behind tokens ++ token ∷ []) r)
     (sym grows.kept) whole in
-    rw (fields, take_next tokens place token others is) row
+    rw (fields, take_next tokens behind token others is) row
 
--- a token at fault behind tokens that say the fields so far
-pub fault_next : (prev old : List Value) (tokens others : List (List ℕ)) (place : ℕ) (token : List ℕ)
-    (fault : ReadRefused) → drop place tokens ≡ token ∷ others
-    → length old ≤ length prev → Reads (take (length old) prev) (take place tokens) old
-    → IsFault (length prev - length old) token (place + 1) fault → FirstFault prev tokens fault
-fault_next prev old tokens others place token fault is few said bad = by_kind fault bad
+-- a token behind so many others, which say the fields so far
+abbrev next_token : List Value → List Value → List ℕ → ℕ → Token
+next_token prev old token behind = record { bytes = token; number = behind + 1; left = length prev - length old }
+
+-- where it is at fault
+pub fault_next : (prev old : List Value) (tokens others : List (List ℕ)) (behind : ℕ) (token : List ℕ)
+    (fault : ReadRefused) → drop behind tokens ≡ token ∷ others
+    → length old ≤ length prev → Reads (take (length old) prev) (take behind tokens) old
+    → IsFault (next_token prev old token behind) fault → FirstFault prev tokens fault
+fault_next prev old tokens others behind token fault is few said bad = by_kind fault bad
   where
-    at_token : (f : ReadRefused) → IsFault (length prev - length old) token (place + 1) f → FaultAt prev tokens f
+    at_token : (f : ReadRefused) → IsFault (next_token prev old token behind) f → FaultAt prev tokens f
     at_token f b = record {
-      behind = place;
+      behind = behind;
       fields = length old;
       row = old;
-      stands = stands_next tokens place token others is;
+      stands = stands_next tokens behind token others is;
       within = few;
       before = said;
-      is = rw (get_next tokens place token [] others is) b;
+      is = rw (get_next tokens behind token [] others is) b;
     }
 
-    by_kind : (f : ReadRefused) → IsFault (length prev - length old) token (place + 1) f → FirstFault prev tokens f
+    by_kind : (f : ReadRefused) → IsFault (next_token prev old token behind) f → FirstFault prev tokens f
     by_kind (refused.TooFew got) b = absurd b
     by_kind (refused.TooMany stands) b = at_token (refused.TooMany stands) b
     by_kind (refused.BadRun stands) b = at_token (refused.BadRun stands) b
@@ -98,10 +102,10 @@ pub all_taken : {X : Type 0} (xs : List X) (i : ℕ) → drop i xs ≡ [] → ta
 all_taken xs i is = sym (append-nil (take i xs)) ∙ ap (λ ys. take i xs ++ ys) (sym is) ∙ take-append-drop i xs
 
 -- a token that is refused there
-pub refused_next : (prev old : List Value) (tokens others : List (List ℕ)) (place : ℕ) (token : List ℕ)
-    (fault : ReadRefused) → drop place tokens ≡ token ∷ others
-    → length old ≤ length prev → Reads (take (length old) prev) (take place tokens) old
-    → RefusesToken (length prev - length old) token (place + 1) fault → Refuses prev tokens fault
-refused_next prev old tokens others place token fault is few said (inl memory) = inl memory
-refused_next prev old tokens others place token fault is few said (inr bad) =
-    inr (fault_next prev old tokens others place token fault is few said bad)
+pub refused_next : (prev old : List Value) (tokens others : List (List ℕ)) (behind : ℕ) (token : List ℕ)
+    (fault : ReadRefused) → drop behind tokens ≡ token ∷ others
+    → length old ≤ length prev → Reads (take (length old) prev) (take behind tokens) old
+    → RefusesToken (next_token prev old token behind) fault → Refuses prev tokens fault
+refused_next prev old tokens others behind token fault is few said (inl memory) = inl memory
+refused_next prev old tokens others behind token fault is few said (inr bad) =
+    inr (fault_next prev old tokens others behind token fault is few said bad)

@@ -5,7 +5,7 @@ use Rattle.ls_value.specs.declared.row.Value.{Value}
 use Rattle.ls_update.specs.declared.reading.ReadRefused.{ReadRefused}
 use Rattle.ls_update.specs.declared.reading.ReadRefused.TheVariants as refused
 use Rattle.ls_words.specs.Words.{pieces_behind}
-use Rattle.ls_update.specs.Reading.{Says, IsFault}
+use Rattle.ls_update.specs.Reading.{Says, Token, IsFault}
 
 -- the first fields of a row, grown by what one token says
 pub record Grows (prev old : List Value) (token : List ℕ) (new : List Value) : Type 0 where
@@ -14,8 +14,8 @@ pub record Grows (prev old : List Value) (token : List ℕ) (new : List Value) :
   pub says : Says (take (length new - length old) (drop (length old) prev)) token (drop (length old) new)
 
 -- why one token is refused: its fault, or want of memory
-abbrev pub RefusesToken : ℕ → List ℕ → ℕ → ReadRefused → Type 0
-RefusesToken left token place fault = (fault ≡ refused.NoMemory) ⊎ IsFault left token place fault
+abbrev pub RefusesToken : Token → ReadRefused → Type 0
+RefusesToken token fault = (fault ≡ refused.NoMemory) ⊎ IsFault token fault
 
 -- the tokens behind a first one, where a divider follows it
 abbrev pub tokens_behind : Option (Bor (List ℕ)) → List (List ℕ)

@@ -51,15 +51,21 @@ Reads prev [] row = (prev ≡ []) × (row ≡ [])
 Reads prev (token ∷ tokens) row = (k : ℕ) × (k ≤ length prev) × Says (take k prev) token (take k row)
     × Reads (drop k prev) tokens (drop k row)
 
--- what is wrong with a token at a place, counted from 1, where so many fields are left
-abbrev pub IsFault : ℕ → List ℕ → ℕ → ReadRefused → Type 0
-IsFault left token place (refused.TooFew got) = ⊥
-IsFault left token place (refused.TooMany stands) = (stands ≡ place) × (left ≡ 0)
-IsFault left token place (refused.BadRun stands) = (stands ≡ place) × (1 ≤ left) × (begins_run token ≡ true)
-    × ((k : ℕ) → 1 ≤ k → k ≤ left → token ≢ 94 ∷ decimal k)
-IsFault left token place (refused.BadText stands) = (stands ≡ place) × (1 ≤ left) × (says_text token ≡ true)
-    × (IsUtf8 (percent_decode token) → ⊥)
-IsFault left token place refused.NoMemory = ⊥
+-- a token that is read: its bytes, its number from 1, and how many fields are left
+pub record Token : Type 0 where
+  pub bytes : List ℕ
+  pub number : ℕ
+  pub left : ℕ
+
+-- what is wrong with a token
+abbrev pub IsFault : Token → ReadRefused → Type 0
+IsFault token (refused.TooFew got) = ⊥
+IsFault token (refused.TooMany stands) = (stands ≡ token.number) × (token.left ≡ 0)
+IsFault token (refused.BadRun stands) = (stands ≡ token.number) × (1 ≤ token.left) × (begins_run token.bytes ≡ true)
+    × ((k : ℕ) → 1 ≤ k → k ≤ token.left → token.bytes ≢ 94 ∷ decimal k)
+IsFault token (refused.BadText stands) = (stands ≡ token.number) × (1 ≤ token.left) × (says_text token.bytes ≡ true)
+    × (IsUtf8 (percent_decode token.bytes) → ⊥)
+IsFault token refused.NoMemory = ⊥
 
 -- a token that is at fault behind tokens that say the first fields, so many of them
 pub record FaultAt (prev : List Value) (tokens : List (List ℕ)) (fault : ReadRefused) : Type 0 where
@@ -69,7 +75,7 @@ pub record FaultAt (prev : List Value) (tokens : List (List ℕ)) (fault : ReadR
   pub stands : behind < length tokens
   pub within : fields ≤ length prev
   pub before : Reads (take fields prev) (take behind tokens) row
-  pub is : IsFault (length prev - fields) (get_or tokens behind []) (behind + 1) fault
+  pub is : IsFault (record { bytes = get_or tokens behind []; number = behind + 1; left = length prev - fields }) fault
 
 -- the tokens say the first fields, so many of them, and fields are left
 pub record EndsEarly (prev : List Value) (tokens : List (List ℕ)) (got : ℕ) : Type 0 where
@@ -80,9 +86,9 @@ pub record EndsEarly (prev : List Value) (tokens : List (List ℕ)) (got : ℕ) 
 -- the first fault from the left
 abbrev pub FirstFault : List Value → List (List ℕ) → ReadRefused → Type 0
 FirstFault prev tokens (refused.TooFew got) = EndsEarly prev tokens got
-FirstFault prev tokens (refused.TooMany place) = FaultAt prev tokens (refused.TooMany place)
-FirstFault prev tokens (refused.BadRun place) = FaultAt prev tokens (refused.BadRun place)
-FirstFault prev tokens (refused.BadText place) = FaultAt prev tokens (refused.BadText place)
+FirstFault prev tokens (refused.TooMany stands) = FaultAt prev tokens (refused.TooMany stands)
+FirstFault prev tokens (refused.BadRun stands) = FaultAt prev tokens (refused.BadRun stands)
+FirstFault prev tokens (refused.BadText stands) = FaultAt prev tokens (refused.BadText stands)
 FirstFault prev tokens refused.NoMemory = ⊥
 
 -- why a reading was refused: the first fault, or want of memory

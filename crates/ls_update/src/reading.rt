@@ -86,11 +86,11 @@ fn read_after(alloc: Global, prev: &[Value], bytes: &[u8]) -> Result<Row, ReadRe
 {
     let mut values = Vec::new(alloc);
     let mut rest = Some(bytes);
-    let mut place: usize = 0;
+    let mut number: usize = 0;
     while let Some(text) = rest {
         let (token, behind) = first_piece(b'|', text);
-        place += 1;
-        if let Err(refused) = append_token(alloc, &mut values, prev, token, place) {
+        number += 1;
+        if let Err(refused) = append_token(alloc, &mut values, prev, token, number) {
             return Err(refused);
         }
         rest = behind;
@@ -107,17 +107,20 @@ fn append_token(
     values: &mut Vec<Value>,
     prev: &[Value],
     token: &[u8],
-    place: usize,
+    number: usize,
 ) -> Result<(), ReadRefused>
     requires { length values.old.items ≤ length prev.now }
     ensures grows { OnOk result (Grows prev.now values.old.items token.now values.new.items) }
-    ensures refused { IfErr result (λ e.
-        RefusesToken (length prev.now - length values.old.items) token.now place e) }
+    ensures refused { IfErr result (λ e. RefusesToken (record {
+      bytes = token.now;
+      number = number;
+      left = length prev.now - length values.old.items;
+    }) e) }
 {
     let from = values.len();
     let left = prev.len() - from;
     if left == 0 {
-        return Err(ReadRefused::TooMany { at: place });
+        return Err(ReadRefused::TooMany { at: number });
     }
     let Some((first, digits)) = token.split_first() else {
         append_copies(alloc, values, &prev[from..from + 1])?;
@@ -125,13 +128,13 @@ fn append_token(
     };
     if *first == b'^' {
         let Some(run) = number_of(digits, left) else {
-            return Err(ReadRefused::BadRun { at: place });
+            return Err(ReadRefused::BadRun { at: number });
         };
         append_copies(alloc, values, &prev[from..from + run])?;
         return Ok(());
     }
     let Some(value) = value_of(alloc, token)? else {
-        return Err(ReadRefused::BadText { at: place });
+        return Err(ReadRefused::BadText { at: number });
     };
     push_value(values, value)?;
     Ok(())

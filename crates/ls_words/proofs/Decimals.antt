@@ -14,13 +14,13 @@ value_from-least n [] = omega arith
 value_from-least n (d ∷ ds) = let h = value_from-least (10 * n + (d - 48)) ds in omega (arith, h)
 
 -- a text that says more than the highest number
-pub above : (low high : ℕ) (text : List ℕ) → high < value_from 0 text → None ≡ number_in low high text
+pub above : (low high : ℕ) (text : List ℕ) → high < value_from 0 text → None ≡ number_in text low high
 above low high text h =
     let t : nat_le (value_from 0 text) high ≡ false = grind (arith, nat_tests) in
     by_form (has_form text && list_all is_digit text) (nat_le low (value_from 0 text)) t
   where
     by_form : (v w : Bool) → nat_le (value_from 0 text) high ≡ false
-        → None ≡ option_and_then (within low high) (cond v (Some (value_from 0 text)) None)
+        → None ≡ option_and_then (λ n. within n low high) (cond v (Some (value_from 0 text)) None)
     by_form true w t = by_low (nat_le low (value_from 0 text)) (nat_le (value_from 0 text) high) (value_from 0 text) t
       where
         by_low : (a b : Bool) (n : ℕ) → b ≡ false → None ≡ cond (a && b) (Some n) None
@@ -30,7 +30,7 @@ above low high text h =
 
 -- a text whose digits up to a place pass the highest number
 pub above_at : (low high n i : ℕ) (text : List ℕ) → i < length text → high < 10 * n + (get_or text i 0 - 48) → value_from n (drop i text) ≡ value_from 0 text
-    → None ≡ number_in low high text
+    → None ≡ number_in text low high
 above_at low high n i text inside more rest =
     let least = value_from-least (10 * n + (get_or text i 0 - 48)) (drop (i + 1) text) in
     let same : value_from n (drop i text) ≡ value_from (10 * n + (get_or text i 0 - 48)) (drop (i + 1) text) = at_drop_more (value_from n) text i 0 inside in

@@ -71,7 +71,7 @@ pub number_of-decimal : (n : ℕ) → n < 2 ^ 64 → number_of (decimal n) ≡ S
 number_of-decimal n h = let s = decimal-said n h in rw (s.form, s.digits, s.value) refl
 
 -- a number in its range is read again
-pub number_in-decimal : (low high n : ℕ) → low ≤ n → n ≤ high → n < 2 ^ 64 → number_in low high (decimal n) ≡ Some n
+pub number_in-decimal : (low high n : ℕ) → low ≤ n → n ≤ high → n < 2 ^ 64 → number_in (decimal n) low high ≡ Some n
 number_in-decimal low high n l h small =
     let a : nat_le low n ≡ true = grind (arith, nat_tests) in
     let b : nat_le n high ≡ true = grind (arith, nat_tests) in
@@ -122,7 +122,7 @@ pub record IsRead (low high : ℕ) (text : List ℕ) (n : ℕ) : Type 0 where
   pub least : low ≤ n
   pub most : n ≤ high
 
-pub number-read : (low high : ℕ) (text : List ℕ) (n : ℕ) → high < 2 ^ 64 → number_in low high text ≡ Some n → IsRead low high text n
+pub number-read : (low high : ℕ) (text : List ℕ) (n : ℕ) → high < 2 ^ 64 → number_in text low high ≡ Some n → IsRead low high text n
 number-read low high text n small h = by_form (has_form text && list_all is_digit text) refl h
   where
     by_range : (v : Bool) → (nat_le low (value_from 0 text) && nat_le (value_from 0 text) high) ≡ v → has_form text ≡ true → list_all is_digit text ≡ true
@@ -137,7 +137,7 @@ number-read low high text n small h = by_form (has_form text && list_all is_digi
     by_range false t f d e = cc
 
     by_form : (v : Bool) → (has_form text && list_all is_digit text) ≡ v
-        → option_and_then (within low high) (cond v (Some (value_from 0 text)) None) ≡ Some n → IsRead low high text n
+        → option_and_then (λ n. within n low high) (cond v (Some (value_from 0 text)) None) ≡ Some n → IsRead low high text n
     by_form true t e =
         by_range (nat_le low (value_from 0 text) && nat_le (value_from 0 text) high) refl
         (and_left (has_form text) (list_all is_digit text) t)

@@ -24,8 +24,8 @@ number_of text = if has_form text && list_all is_digit text then Some (value_fro
 
 -- a number, where it is from one number to another
 abbrev pub within : ℕ → ℕ → ℕ → Option ℕ
-within low high n = if nat_le low n && nat_le n high then Some n else None
+within n low high = if nat_le low n && nat_le n high then Some n else None
 
 -- the number that a text says, where it is from one number to another
-abbrev pub number_in : ℕ → ℕ → List ℕ → Option ℕ
-number_in low high text = option_and_then (within low high) (number_of text)
+abbrev pub number_in : List ℕ → ℕ → ℕ → Option ℕ
+number_in text low high = option_and_then (λ n. within n low high) (number_of text)

@@ -9,7 +9,7 @@ use ls_value::NoMemory;
 /// decimal digits without a sign and without a leading zero, or says another number. A text of any length is
 /// answered, and no digit behind the first one that passes `high` is looked at.
 pub fn number_in(text: &[u8], low: u64, high: u64) -> Option<u64>
-    ensures number { result ≡ number_in low high text.now }
+    ensures number { result ≡ number_in text.now low high }
     ensures within { IfSome result (λ n. (low ≤ n) × (n ≤ high)) }
 {
     if text.is_empty() || (text[0] == b'0' && text.len() > 1) {

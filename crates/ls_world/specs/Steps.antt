@@ -100,7 +100,7 @@ grown e i = record i { history = i.history ++ e ∷ [] }
 -- why an entry of an item is refused, if it is
 abbrev pub cause_to_refuse : World → ℕ → Entry → Item → Option PublishRefused
 cause_to_refuse w item e i =
-    refusal (shape_of i.definition) i.history (least_far item (length i.history) w.sessions) e.adapter e.seq e.event
+    refusal (shape_of i.definition) i.history (least_far item (length i.history) w.sessions) e
 
 -- the note of a refusal
 abbrev pub refused_out : PublishRefused → List Out

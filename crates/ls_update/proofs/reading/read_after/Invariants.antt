@@ -7,8 +7,8 @@ use Rattle.ls_update.proofs.reading.read_after.Given as goal
 abbrev pub invariant-loop-rest : goal.invariant-loop-rest
 invariant-loop-rest l = record {
   few : length l.values.items ≤ length l.prev;
-  others : drop l.place (tokens_of l.bytes) ≡ tokens_behind l.rest;
-  said : Reads (take (length l.values.items) l.prev) (take l.place (tokens_of l.bytes)) l.values.items;
+  others : drop l.number (tokens_of l.bytes) ≡ tokens_behind l.rest;
+  said : Reads (take (length l.values.items) l.prev) (take l.number (tokens_of l.bytes)) l.values.items;
 }
 
 abbrev pub decreases-loop-rest : goal.decreases-loop-rest

@@ -1,7 +1,9 @@
-use Rattle.std.proofs.Common.{subst, sym, List, ◌++◌, ◌∷◌, []}
+use Rattle.std.proofs.Common.{subst, sym, ◌∙◌, ap, List, Bool, ◌++◌, ◌∷◌, []}
 use Rattle.ls_cell.specs.Cell.{Held}
 use Rattle.ls_cells.specs.Cells.{AllCells, StandsCells}
 use Rattle.ls_cells.proofs.OneItem.{cells_declared}
+use Rattle.ls_cells.specs.Settled.{KnowsSettled}
+use Rattle.ls_cells.proofs.Settling.{one_more}
 use Rattle.ls_cells.proofs.cells.Cells.declare.Goals as goal
 
 pub returns-clause-ok : goal.returns-clause-ok
@@ -10,3 +12,11 @@ returns-clause-ok c = λ items lives st.
     (items ++ record { definition = c.args.definition.now; history = [] } ∷ []) lives) (sym c.in_ok-push.ensures.items)
     (cells_declared c.self.inside.cells.items c.self.inside.live c.in_ok-cell.cell c.args.definition.now c.in_ok-cell.ensures.stands
     c.in_ok-cell.ensures.shape items lives (subst (λ (k : AllCells). StandsCells k items lives) (sym c.self.view_is) st))
+
+pub invariant_of-self-2 : goal.invariant_of-self-2
+invariant_of-self-2 c =
+    subst (λ (cells : List Held). KnowsSettled c.push_reserved.new.self.items cells) (sym c.in_ok-push.ensures.items)
+    (subst (λ (rows : List (List Bool)). KnowsSettled rows (c.self.inside.cells.items ++ c.in_ok-cell.cell ∷ []))
+    (sym (c.push_reserved.ensures.items ∙ ap (λ (rows : List (List Bool)). rows ++ c.new-2.result ∷ []) c.in_ok-reserve.ensures.items
+    ∙ ap (λ (m : List Bool). c.self.inside.settled.items ++ m ∷ []) c.new-2.ensures))
+    (one_more c.self.inside.settled.items c.self.inside.cells.items c.in_ok-cell.cell c.self.invariant))

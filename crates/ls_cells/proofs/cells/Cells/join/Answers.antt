@@ -2,6 +2,7 @@ use Rattle.std.proofs.Common.{subst, sym, ◌∙◌, ◌≡◌, ◌++◌, arith,
 use Rattle.ls_cells.specs.Cells.{AllCells, StandsCells}
 use Rattle.ls_cells.proofs.Items.{as_many}
 use Rattle.ls_cells.proofs.Calls.{join_did, may_did}
+use Rattle.ls_cells.proofs.Settling.{as_many_rows, joined_settled}
 use Rattle.ls_cells.proofs.cells.Cells.join.Goals as goal
 
 pub returns-then-index-len-clause-joined : goal.returns-then-index-len-clause-joined
@@ -35,3 +36,22 @@ returns-in-Some-clause-may c = λ items lives st some.
     let may = c.in_ok-join_on.ensures.may (ap is_some c.in-Some.is) in
     may_did c.self.inside.cells.items c.args.item c.index_mut.result.now (omega arith) c.index_mut.ensures.value c.self.inside.live c.args.n c.args.mode
     items lives (subst (λ (k : AllCells). StandsCells k items lives) (sym c.self.view_is) st) (omega arith) may.0 may.1 may.2
+
+pub clear_marks-requires : goal.clear_marks-requires
+clear_marks-requires c =
+    omega (arith, as_many_rows c.self.inside.settled.items c.self.inside.cells.items c.self.invariant, c.if-index-len.false, c.len.ensures)
+
+pub invariant_of-self-in_err-join_on : goal.invariant_of-self-in_err-join_on
+invariant_of-self-in_err-join_on c =
+    joined_settled c.self.inside.settled.items c.clear_marks.new.rows.items c.self.inside.cells.items c.args.item c.join_on.new.cell c.self.invariant
+    c.in_ok-clear_marks.ensures.rest c.in_ok-clear_marks.ensures.ok
+
+pub invariant_of-self-in-None : goal.invariant_of-self-in-None
+invariant_of-self-in-None c =
+    joined_settled c.self.inside.settled.items c.clear_marks.new.rows.items c.self.inside.cells.items c.args.item c.join_on.new.cell c.self.invariant
+    c.in_ok-clear_marks.ensures.rest c.in_ok-clear_marks.ensures.ok
+
+pub invariant_of-self-in-Some : goal.invariant_of-self-in-Some
+invariant_of-self-in-Some c =
+    joined_settled c.self.inside.settled.items c.clear_marks.new.rows.items c.self.inside.cells.items c.args.item c.join_on.new.cell c.self.invariant
+    c.in_ok-clear_marks.ensures.rest c.in_ok-clear_marks.ensures.ok

@@ -2,6 +2,7 @@ use Rattle.std.proofs.Common.{subst, sym, arith, ◌++◌, ◌∷◌, ◌≡◌,
 use Rattle.ls_cells.specs.Cells.{AllCells, StandsCells}
 use Rattle.ls_cells.proofs.Numbers.{differs}
 use Rattle.ls_cells.proofs.Calls.{no_item, leave_did, none_here, none_did}
+use Rattle.ls_cells.proofs.Settling.{cell_changed, one_settled}
 use Rattle.ls_cells.proofs.cells.Cells.leave.Goals as goal
 
 pub returns-then-index-len : goal.returns-then-index-len
@@ -39,3 +40,15 @@ returns-else-leave_on c = record {
       c.leave_on.new.cell c.self.inside.live c.args.slot items lives c.leave_on.ensures.none
       (subst (λ (k : AllCells). StandsCells k items lives) (sym c.self.view_is) st) none).1;
 }
+
+pub invariant_of-self : goal.invariant_of-self
+invariant_of-self c =
+    cell_changed c.self.inside.settled.items c.self.inside.cells.items c.args.item c.index_mut.result.now c.leave_on.new.cell c.self.invariant
+    c.index_mut.ensures.value
+    (one_settled c.index_mut.result.now c.leave_on.new.cell c.args.slot c.leave_on.ensures.others c.leave_on.ensures.settled)
+
+pub invariant_of-self-else-leave_on : goal.invariant_of-self-else-leave_on
+invariant_of-self-else-leave_on c =
+    cell_changed c.self.inside.settled.items c.self.inside.cells.items c.args.item c.index_mut.result.now c.leave_on.new.cell c.self.invariant
+    c.index_mut.ensures.value
+    (one_settled c.index_mut.result.now c.leave_on.new.cell c.args.slot c.leave_on.ensures.others c.leave_on.ensures.settled)

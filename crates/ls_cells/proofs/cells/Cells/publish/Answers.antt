@@ -5,6 +5,7 @@ use Rattle.ls_world.specs.Steps.{is_whole}
 use Rattle.ls_cells.specs.Cells.{AllCells, StandsCells, takes_of}
 use Rattle.ls_cells.proofs.Places.{true_low, set_back}
 use Rattle.ls_cells.proofs.OneItem.{cells_published, cause_is}
+use Rattle.ls_cells.proofs.Settling.{cell_changed, slots_same, published_slots}
 use Rattle.ls_cells.proofs.cells.Cells.publish.Goals as goal
 
 pub returns-clause-answer : goal.returns-clause-answer
@@ -12,7 +13,8 @@ returns-clause-answer c = λ items lives i st here.
     let takes = subst (λ (k : AllCells). takes_of k c.args.item c.args.event ≡ true) (sym c.self.view_is) c.requires.takes in
     cause_is c.self.inside.cells.items c.args.item c.index_mut.result.now
     (true_low (λ (x : Held). is_whole x.item.shape.fields c.args.event) c.self.inside.cells.items c.args.item takes) c.index_mut.ensures.value
-    c.self.inside.live c.args.adapter c.args.seq c.args.event c.publish.result c.publish.ensures.first_cause items lives i
+    c.self.inside.live (record { adapter = c.args.adapter; seq = c.args.seq; event = c.args.event }) c.publish.result
+    c.publish.ensures.first_cause items lives i
     (subst (λ (k : AllCells). StandsCells k items lives) (sym c.self.view_is) st) here
 
 pub returns-clause-ok : goal.returns-clause-ok
@@ -33,3 +35,10 @@ returns-clause-err c =
     (sym (set_back c.self.inside.cells.items c.args.item c.index_mut.result.now c.publish.new.self c.index_mut.ensures.value same))
     (subst (λ (k : AllCells). StandsCells k items lives) (sym c.self.view_is) st))
     c.publish.ensures.err
+
+pub invariant_of-self : goal.invariant_of-self
+invariant_of-self c =
+    cell_changed c.self.inside.settled.items c.self.inside.cells.items c.args.item c.index_mut.result.now c.publish.new.self c.self.invariant
+    c.index_mut.ensures.value
+    (slots_same c.index_mut.result.now c.publish.new.self
+    (published_slots c.publish.result c.index_mut.result.now c.publish.new.self _ c.publish.ensures.ok c.publish.ensures.err))

@@ -1,0 +1,8 @@
+mod WholeLines
+mod Cells
+mod Replying
+mod Passing
+mod Acting
+mod Going
+mod Reading
+mod Examples

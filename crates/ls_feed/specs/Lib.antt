@@ -1,0 +1,5 @@
+pub mod Lines
+pub mod Offers
+pub mod Replies
+pub mod Serving
+pub mod Feeding

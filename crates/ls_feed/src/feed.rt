@@ -1,0 +1,374 @@
+//! A feed in the middle of its bytes: pieces come, and its lines are answered as they end.
+ghost use Rattle.std.specs.Prelude.{◌≡◌, ◌<◌, ◌≤◌, [], ◌∷◌, ◌++◌, ⊤, None, length, slice_index, slice_set, take};
+ghost use Rattle.std.specs.Prelude.{MatchOption};
+ghost use Rattle.std.specs.Prelude.{List, ℕ};
+ghost use mathlib.Core.List.{IsPrefix};
+ghost use Rattle.std.specs.declared.option.Option.{Option as Optional};
+ghost use Rattle.ls_outside.specs.Causes.{Rose};
+ghost use Rattle.ls_event.specs.History.{HasFields};
+ghost use Rattle.ls_event.specs.declared.limits.TheConstants.{MOST_ADAPTERS};
+ghost use Rattle.ls_feed.specs.Lines.{IsPlain, ended};
+ghost use Rattle.ls_feed.specs.Offers.{FitsItem};
+ghost use Rattle.ls_feed.specs.Replies.{ArePasses, IsPassOf, Offered, RepliesTo, TrueOf, pass_at, seen_by, text_of};
+ghost use Rattle.ls_feed.specs.Feeding.{IsFeeder, IsReady, Wrote, Acts, Stands, Goes, Sends, SaysTooLong};
+ghost use Rattle.ls_feed.specs.declared.reply.Reply.TheVariants as answer_is;
+ghost use Rattle.ls_feed.specs.declared.reply.Bad.TheVariants as bad;
+
+use crate::limits::LONGEST_LINE;
+use crate::offer::{Offer, hello_of, read_offer};
+use crate::passes::Passes;
+use crate::reply::{Bad, Reply, append_reply, reply_to};
+use crate::report::{FeedEnd, FeedReport};
+use ls_live::PubPass;
+use ls_outside::{Gate, Pipe, Put, Sink, write_all};
+use ls_register::House;
+use ls_shared::Shared;
+use memchr::memchr;
+use std::alloc::Global;
+use std::marker::Model;
+use std::sync::Wait;
+
+/// What became of bytes that came.
+#[derive(Clone, Copy, Debug, PartialEq, Eq)]
+pub(crate) enum Fed {
+    /// Each line that ended in them was answered.
+    All,
+
+    /// The first line isn't a hello.
+    BadHello,
+
+    /// A line is too long.
+    LongLine,
+
+    /// A write failed.
+    WriteFault,
+
+    /// Memory was wanting.
+    NoMemory,
+}
+
+/// The adapter, once its hello came, and its passes.
+#[derive(Drop)]
+struct Feeder<N: House> {
+    adapter: Option<u8>,
+    passes: Passes<N>,
+    /// The text of one reply. Its room is used again by the next.
+    text: Vec<u8>,
+}
+
+impl<N: House> Model for Feeder<N> {
+    ghost use Rattle.ls_feed.specs.Feeding.{Feeder as WhoFeeds};
+
+    ghost Value = { WhoFeeds };
+
+    ghost view = { λ f. record { adapter = f.adapter; passes = f.passes } };
+}
+
+/// Who feeds, and the bytes behind the last line that ended.
+#[derive(Drop)]
+pub(crate) struct Feed<N: House> {
+    feeder: Feeder<N>,
+    carry: Vec<u8>,
+}
+
+impl<N: House> Model for Feed<N> {
+    ghost use Rattle.ls_feed.specs.Feeding.{Kept};
+
+    ghost Value = { Kept };
+
+    ghost view = { λ f. record { feeder = f.feeder; carry = f.carry.items } };
+}
+
+/// Writes a reply.
+fn send<C: Sink>(conn: &mut C, text: &mut Vec<u8>, reply: Reply) -> Fed
+    ensures sends { Sends result (C.held conn.old) (C.held conn.new) (text_of reply) }
+    ensures cause { result ≡ Fed.WriteFault → Rose (C.faults conn.old) (C.faults conn.new) }
+    ensures later { C.faults conn.old ≤ C.faults conn.new }
+    ensures source { C.gives conn.new ≡ C.gives conn.old }
+{
+    text.clear();
+    let Ok(()) = append_reply(text, reply) else {
+        return Fed::NoMemory;
+    };
+    match write_all(conn, text) {
+        Put::Taken(_) => Fed::All,
+        Put::Failed => Fed::WriteFault,
+    }
+}
+
+/// The pass of an item, taken out, or made where there is none.
+fn pass_of<N: House, R: Wait>(
+    rt: &R,
+    shared: &Shared<N>,
+    passes: &mut Passes<N>,
+    adapter: u8,
+    item: u32,
+) -> PubPass<N>
+    requires some { 1 ≤ adapter }
+    requires most { adapter ≤ MOST_ADAPTERS }
+    requires passes { ArePasses N.deed.config adapter passes.old }
+    requires item { item < length N.deed.config }
+    requires room { item < length passes.old }
+    ensures of { IsPassOf N.deed.config adapter item result }
+    ensures seen { IsPrefix (seen_by (pass_at passes.old item)) result.list }
+    ensures rest { passes.new ≡ slice_set passes.old item None }
+{
+    match passes.take(item) {
+        Some(pass) => pass,
+        None => shared.pass(rt, item, adapter),
+    }
+}
+
+/// Makes an offer by its item's pass.
+fn offer_by<N: House, R: Wait, G: Gate>(
+    rt: &R,
+    shared: &Shared<N>,
+    pass: &mut PubPass<N>,
+    offer: Offer,
+    gate: &G,
+) -> Reply
+    requires { HasFields pass.old.shape.fields offer.event }
+    ensures begins { IsPrefix pass.old.list pass.new.list }
+    ensures adapter { pass.new.adapter ≡ pass.old.adapter }
+    ensures shape { pass.new.shape ≡ pass.old.shape }
+    ensures says { TrueOf offer pass.new result }
+{
+    let Offer { seq, event, .. } = offer;
+    match shared.offer(rt, pass, seq, event, gate) {
+        Ok(no) => Reply::Published { no },
+        Err(cause) => reply_to(cause),
+    }
+}
+
+/// Makes an offer.
+fn offered<N: House, R: Wait, G: Gate>(
+    rt: &R,
+    shared: &Shared<N>,
+    passes: &mut Passes<N>,
+    adapter: u8,
+    offer: Offer,
+    gate: &G,
+) -> Reply
+    requires some { 1 ≤ adapter }
+    requires most { adapter ≤ MOST_ADAPTERS }
+    requires passes { ArePasses N.deed.config adapter passes.old }
+    requires fits { FitsItem N.deed.config offer }
+    requires room { offer.item < length passes.old }
+    ensures offered { Offered N.deed.config adapter offer result passes.old passes.new }
+    ensures passes { ArePasses N.deed.config adapter passes.new }
+{
+    let item = offer.item;
+    let mut pass = pass_of(rt, shared, passes, adapter, item);
+    let reply = offer_by(rt, shared, &mut pass, offer, gate);
+    passes.put(item, pass);
+    reply
+}
+
+/// Answers a line of an adapter's.
+fn answer<N: House, R: Wait, G: Gate>(
+    rt: &R,
+    alloc: Global,
+    shared: &Shared<N>,
+    passes: &mut Passes<N>,
+    adapter: u8,
+    line: &[u8],
+    gate: &G,
+) -> Reply
+    requires some { 1 ≤ adapter }
+    requires most { adapter ≤ MOST_ADAPTERS }
+    requires passes { ArePasses N.deed.config adapter passes.old }
+    ensures replies { RepliesTo N.deed.config adapter line.now result passes.old passes.new }
+    ensures passes { ArePasses N.deed.config adapter passes.new }
+{
+    let offer = match read_offer(alloc, &shared.config().items, line) {
+        Ok(offer) => offer,
+        Err(cause) => return Reply::Bad(cause),
+    };
+    if passes.reserve(offer.item).is_err() {
+        return Reply::Bad(Bad::NoMemory);
+    }
+    offered(rt, shared, passes, adapter, offer, gate)
+}
+
+impl<N: House> Feeder<N> {
+    /// Answers a line.
+    fn act<R: Wait, C: Sink, G: Gate>(
+        &mut self,
+        rt: &R,
+        alloc: Global,
+        conn: &mut C,
+        shared: &Shared<N>,
+        gate: &G,
+        line: &[u8],
+    ) -> Fed
+        requires ready { IsFeeder N.deed.config self.old.adapter self.old.passes }
+        ensures ready { IsFeeder N.deed.config self.new.adapter self.new.passes }
+        ensures acts { (lines : List (List ℕ)) (held : Optional (List ℕ))
+            → Wrote N.deed.config self.old lines held (C.held conn.old)
+            → Acts N.deed.config result self.new lines line.now held (C.held conn.new) }
+        ensures cause { result ≡ Fed.WriteFault → Rose (C.faults conn.old) (C.faults conn.new) }
+        ensures later { C.faults conn.old ≤ C.faults conn.new }
+        ensures source { C.gives conn.new ≡ C.gives conn.old }
+    {
+        let Some(adapter) = self.adapter else {
+            return self.greet(line);
+        };
+        let reply = answer(rt, alloc, shared, &mut self.passes, adapter, line, gate);
+        send(conn, &mut self.text, reply)
+    }
+
+    /// Takes a first line.
+    fn greet(&mut self, line: &[u8]) -> Fed
+        requires none { self.old.adapter ≡ None }
+        requires unseen { self.old.passes ≡ [] }
+        ensures ready { IsFeeder N.deed.config self.new.adapter self.new.passes }
+        ensures acts { (lines : List (List ℕ)) (held now : Optional (List ℕ))
+            → Wrote N.deed.config self.old lines held now
+            → Acts N.deed.config result self.new lines line.now held now }
+        ensures not_fault { ¬ (result ≡ Fed.WriteFault) }
+    {
+        match hello_of(line) {
+            Some(adapter) => {
+                self.adapter = Some(adapter);
+                Fed::All
+            }
+            None => Fed::BadHello,
+        }
+    }
+
+    /// Answers a line that is too long.
+    fn refuse<C: Sink>(&mut self, conn: &mut C) -> Fed
+        ensures says { SaysTooLong result self.old.adapter (C.held conn.old) (C.held conn.new)
+            (text_of (answer_is.Bad bad.Malformed)) }
+        ensures same { self.new ≡ self.old }
+        ensures cause { result ≡ Fed.WriteFault → Rose (C.faults conn.old) (C.faults conn.new) }
+        ensures later { C.faults conn.old ≤ C.faults conn.new }
+        ensures source { C.gives conn.new ≡ C.gives conn.old }
+    {
+        if self.adapter.is_none() {
+            return Fed::BadHello;
+        }
+        match send(conn, &mut self.text, Reply::Bad(Bad::Malformed)) {
+            Fed::All => Fed::LongLine,
+            failed => failed,
+        }
+    }
+}
+
+impl<N: House> Feed<N> {
+    /// Before any byte.
+    pub(crate) fn new(alloc: Global) -> Feed<N>
+        ensures { result ≡ record { feeder = record { adapter = None; passes = [] }; carry = [] } }
+    {
+        Feed {
+            feeder: Feeder {
+                adapter: None,
+                passes: Passes::new(alloc),
+                text: Vec::new(alloc),
+            },
+            carry: Vec::new(alloc),
+        }
+    }
+
+    /// What came of it.
+    pub(crate) fn report(self, end: FeedEnd) -> FeedReport<N>
+        ensures { (result.end ≡ end) × (result.passes ≡ self.feeder.passes) }
+    {
+        FeedReport {
+            end,
+            passes: self.feeder.passes,
+        }
+    }
+
+    /// Takes the rest of a line, which has ended, and answers the line.
+    fn line<R: Wait, C: Sink, G: Gate>(
+        &mut self,
+        rt: &R,
+        alloc: Global,
+        conn: &mut C,
+        shared: &Shared<N>,
+        gate: &G,
+        rest: &[u8],
+    ) -> Fed
+        requires ready { IsReady N.deed.config self.old }
+        requires plain { IsPlain rest.now }
+        ensures ready { result ≡ Fed.All → IsReady N.deed.config self.new }
+        ensures goes { (read : List ℕ) (held : Optional (List ℕ))
+            → Stands N.deed.config self.old read held (C.held conn.old)
+            → Goes N.deed.config result self.new (read ++ ended rest.now) held (C.held conn.new) }
+        ensures cause { result ≡ Fed.WriteFault → Rose (C.faults conn.old) (C.faults conn.new) }
+        ensures later { C.faults conn.old ≤ C.faults conn.new }
+        ensures source { C.gives conn.new ≡ C.gives conn.old }
+    {
+        if rest.len() > LONGEST_LINE - self.carry.len() {
+            return self.feeder.refuse(conn);
+        }
+        if self.carry.is_empty() {
+            return self.feeder.act(rt, alloc, conn, shared, gate, rest);
+        }
+        let Ok(()) = self.carry.extend_from_slice(rest) else {
+            return Fed::NoMemory;
+        };
+        let fed = self.feeder.act(rt, alloc, conn, shared, gate, &self.carry);
+        self.carry.clear();
+        fed
+    }
+
+    /// Takes bytes that end no line.
+    fn keep<C: Sink>(&mut self, conn: &mut C, bytes: &[u8]) -> Fed
+        requires ready { IsReady N.deed.config self.old }
+        requires plain { IsPlain bytes.now }
+        ensures ready { result ≡ Fed.All → IsReady N.deed.config self.new }
+        ensures goes { (read : List ℕ) (held : Optional (List ℕ))
+            → Stands N.deed.config self.old read held (C.held conn.old)
+            → Goes N.deed.config result self.new (read ++ bytes.now) held (C.held conn.new) }
+        ensures cause { result ≡ Fed.WriteFault → Rose (C.faults conn.old) (C.faults conn.new) }
+        ensures later { C.faults conn.old ≤ C.faults conn.new }
+        ensures source { C.gives conn.new ≡ C.gives conn.old }
+    {
+        if bytes.len() > LONGEST_LINE - self.carry.len() {
+            return self.feeder.refuse(conn);
+        }
+        let Ok(()) = self.carry.extend_from_slice(bytes) else {
+            return Fed::NoMemory;
+        };
+        Fed::All
+    }
+
+    /// Takes a piece of the bytes. Each line that ends in it is answered.
+    pub(crate) fn take<R: Wait, C: Sink, G: Gate>(
+        &mut self,
+        rt: &R,
+        alloc: Global,
+        conn: &mut C,
+        shared: &Shared<N>,
+        gate: &G,
+        piece: &[u8],
+    ) -> Fed
+        requires ready { IsReady N.deed.config self.old }
+        ensures ready { result ≡ Fed.All → IsReady N.deed.config self.new }
+        ensures goes { (read : List ℕ) (held : Optional (List ℕ))
+            → Stands N.deed.config self.old read held (C.held conn.old)
+            → Goes N.deed.config result self.new (read ++ piece.now) held (C.held conn.new) }
+        ensures cause { result ≡ Fed.WriteFault → Rose (C.faults conn.old) (C.faults conn.new) }
+        ensures later { C.faults conn.old ≤ C.faults conn.new }
+        ensures source { C.gives conn.new ≡ C.gives conn.old }
+    {
+        let mut rest = piece;
+        while let Some(len) = line_len(rest) {
+            match self.line(rt, alloc, conn, shared, gate, &rest[..len]) {
+                Fed::All => rest = &rest[len + 1..],
+                stopped => return stopped,
+            }
+        }
+        self.keep(conn, rest)
+    }
+}
+
+/// How long the first line of these bytes is, without its end, if it ends in them.
+fn line_len(bytes: &[u8]) -> Option<usize>
+    ensures none { MatchOption result (IsPlain bytes.now) (λ len. IsPlain (take len bytes.now)) }
+    ensures some { MatchOption result ⊤ (λ len. (len < length bytes.now) × (slice_index bytes.now len ≡ 10)) }
+{
+    memchr(b'\n', bytes)
+}

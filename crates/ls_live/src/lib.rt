@@ -1,0 +1,29 @@
+//! Items with publishers, by whole histories.
+//!
+//! A [`LiveItem`] is an [`ItemCell`](ls_cell::ItemCell) with the writer of its item's history: its type keeps that the
+//! cell stands for that history, so this holds each time that a lock of it is taken. A [`PubPass`] is what one adapter
+//! has seen of one item, and the leave to publish on it. [`publish_into`] adds an event by both:
+//!
+//! ```text
+//! let mut item = LiveItem::<N>::new(alloc, &def)?;      // its history is empty
+//! let mut pass = item.pass(1);                          // the pass of adapter 1, which has seen that
+//! publish_into(&mut item, &mut pass, 7, event)?;        // 1: both have the event, with seq 7
+//! publish_into(&mut item, &mut pass, 7, event)          // Repeated { last: 7 }
+//! ```
+//!
+//! [`publish_copied`] does the same with a copy of the event that was made before, so that nothing is copied while a
+//! lock is held. An item with a place in a register ([`LiveItem::at`]) knows the passes that are its own by their
+//! places ([`LiveItem::is_of`]).
+//!
+//! No slot keeps an event back: one that lags by as much as it may is caught up. It takes no lock and tells no session.
+#![tactic(auto)]
+
+mod cross;
+mod live;
+mod shape;
+#[cfg(test)]
+mod tests;
+mod weighing;
+
+pub use live::{LiveItem, PubPass, copied_entry, publish_copied, publish_into};
+pub use ls_event::PublishRefused;

@@ -1,0 +1,302 @@
+//! An item with its history, and the passes of those who publish on it.
+ghost use Rattle.std.specs.Prelude.{◌≡◌, ◌≤◌, ◌++◌, ◌∷◌, [], Some, IsTrue, IfOk, IfErr, IfSome, length, slice_get};
+ghost use mathlib.Core.List.{IsPrefix};
+ghost use Rattle.ls_event.specs.declared.item.ItemDef.{ItemDef as Def};
+ghost use Rattle.ls_event.specs.declared.limits.TheConstants.{MOST_ADAPTERS as MOST};
+ghost use Rattle.ls_event.specs.History.{HasFields};
+ghost use Rattle.ls_event.specs.Publishes.{IsHistory};
+ghost use Rattle.ls_event.specs.Shapes.{IsShape, shape_of};
+ghost use Rattle.ls_register.specs.Items.{ShowsItem};
+ghost use Rattle.ls_live.specs.Live.{IsOf, IsCause, cause_in, entry_of};
+
+use crate::shape::ItemShape;
+use crate::weighing::weigh;
+use ls_cell::ItemCell;
+use ls_chron::{Chron, Reader, Sign, Writer};
+use ls_event::{Entry, Event, ItemDef, PublishRefused};
+use ls_register::{House, Made, Place};
+use ls_value::NoMemory;
+use std::alloc::Global;
+use std::marker::Model;
+
+/// An item with publishers: a cell, and its history's writer. Contracts see the history's table, the item's shape and
+/// the whole history, for which the cell stands. A lone item has no place in a register. It keeps the allocator that
+/// its constructor took.
+#[derive(Drop)]
+pub struct LiveItem<N: House> {
+    alloc: Global,
+    cell: ItemCell,
+    shape: ItemShape,
+    chron: Chron<Entry>,
+    writer: Writer<Entry>,
+    place: Option<Place<N>>,
+    item: u32,
+}
+
+impl<N: House> Model for LiveItem<N> {
+    ghost use Rattle.std.specs.Prelude.{◌≡◌, IfSome};
+    ghost use Rattle.ls_register.specs.Items.{ShowsItem};
+    ghost use Rattle.ls_live.specs.Live.{Live, StandsFor, shape_kept};
+
+    ghost Value = { Live };
+
+    ghost view = { λ i. record { table = i.chron; shape = i.cell.item.shape; history = i.writer.list } };
+
+    ghost invariant = { λ i. (i.writer.table ≡ i.chron) × (shape_kept i.shape ≡ i.cell.item.shape)
+        × StandsFor i.cell i.writer.list
+        × IfSome i.place (λ p. ShowsItem N.deed.config p i.item i.cell.item.shape i.chron) };
+}
+
+/// An adapter's pass to an item: by it events are published, and it has seen what was published through it. Contracts
+/// see the adapter, from 1, the table and the shape of the item, and a beginning of its history.
+#[derive(Drop)]
+pub struct PubPass<N: House> {
+    item: u32,
+    adapter: u8,
+    shape: ItemShape,
+    reader: Reader<Entry>,
+    place: Option<Place<N>>,
+}
+
+impl<N: House> Model for PubPass<N> {
+    ghost use Rattle.std.specs.Prelude.{◌≡◌, ◌≤◌, IfSome};
+    ghost use Rattle.ls_event.specs.declared.limits.TheConstants.{MOST_ADAPTERS};
+    ghost use Rattle.ls_register.specs.Items.{ShowsItem};
+    ghost use Rattle.ls_live.specs.Live.{Pass, shape_kept};
+
+    ghost Value = { Pass };
+
+    ghost view = { λ p. record
+        { adapter = p.adapter; table = p.reader.table; shape = shape_kept p.shape; list = p.reader.list } };
+
+    ghost invariant = { λ p. (1 ≤ p.adapter) × (p.adapter ≤ MOST_ADAPTERS)
+        × IfSome p.place (λ q. ShowsItem N.deed.config q p.item (shape_kept p.shape) p.reader.table) };
+}
+
+impl<N: House> LiveItem<N> {
+    /// A lone item as declared, with an empty history. It has 1 to [`MOST_FIELDS`](ls_event::MOST_FIELDS) fields, and
+    /// in kind COMMAND a key and a command among them.
+    pub fn new(alloc: Global, item: &ItemDef) -> Result<LiveItem<N>, NoMemory>
+        requires { IsShape (shape_of item.now) }
+        ensures { IfOk result (λ i. (i.shape ≡ shape_of item.now) × (i.history ≡ [])) }
+    {
+        let (chron, writer) = Chron::start(alloc)?;
+        let cell = ItemCell::new(alloc, item)?;
+        Ok(LiveItem {
+            alloc,
+            cell,
+            shape: ItemShape::of(item),
+            chron,
+            writer,
+            place: None,
+            item: 0,
+        })
+    }
+
+    /// The table of its history, which contracts see. It takes no memory.
+    pub fn sign(&mut self) -> Sign<Entry>
+        ensures { (result ≡ self.old.table) × (self.new ≡ self.old) }
+    {
+        self.chron.note(&mut self.writer).sign()
+    }
+
+    /// The item at its place in the register, which shows the declared item of this number, from 0.
+    pub fn at(self, place: Place<N>, item: u32) -> LiveItem<N>
+        requires { ShowsItem N.deed.config place item self.shape self.table }
+        ensures { result ≡ self }
+    {
+        let LiveItem {
+            alloc,
+            cell,
+            shape,
+            chron,
+            writer,
+            place: _,
+            item: _,
+        } = self;
+        LiveItem {
+            alloc,
+            cell,
+            shape,
+            chron,
+            writer,
+            place: Some(place),
+            item,
+        }
+    }
+
+    /// A pass of an adapter, 1 to [`MOST_ADAPTERS`](ls_event::MOST_ADAPTERS), that has seen the whole history. It knows
+    /// no place. It takes no memory.
+    pub fn pass(&mut self, adapter: u8) -> PubPass<N>
+        requires some { 1 ≤ adapter }
+        requires most { adapter ≤ MOST }
+        ensures same { self.new ≡ self.old }
+        ensures pass { result ≡ record
+            { adapter = adapter; table = self.old.table; shape = self.old.shape; list = self.old.history } }
+    {
+        let reader = self.chron.note(&mut self.writer);
+        PubPass {
+            item: self.item,
+            adapter,
+            shape: self.shape,
+            reader,
+            place: None,
+        }
+    }
+
+    /// Such a pass that knows the item's place in the register.
+    pub fn pass_at(&mut self, register: &Chron<Made>, adapter: u8) -> PubPass<N>
+        requires register { register.now ≡ N.deed.register }
+        requires some { 1 ≤ adapter }
+        requires most { adapter ≤ MOST }
+        ensures same { self.new ≡ self.old }
+        ensures pass { result ≡ record
+            { adapter = adapter; table = self.old.table; shape = self.old.shape; list = self.old.history } }
+    {
+        let reader = self.chron.note(&mut self.writer);
+        let place = match &mut self.place {
+            Some(place) => Some(place.again(register)),
+            None => None,
+        };
+        PubPass {
+            item: self.item,
+            adapter,
+            shape: self.shape,
+            reader,
+            place,
+        }
+    }
+
+    /// Whether the item has a place in the register, and is the declared item of this number there, from 0.
+    pub fn has_item(&self, item: u32) -> bool
+        ensures { IsTrue result → (d : Def) → slice_get N.deed.config item ≡ Some d → self.now.shape ≡ shape_of d }
+    {
+        match &self.place {
+            Some(_) => self.item == item,
+            None => false,
+        }
+    }
+
+    /// Whether the pass is of this item, by their places in the register. A lone item, and a pass that knows no place,
+    /// have none. It takes no memory.
+    pub fn is_of(&mut self, register: &Chron<Made>, pass: &mut PubPass<N>) -> bool
+        requires { register.now ≡ N.deed.register }
+        ensures same { (self.new ≡ self.old) × (pass.new ≡ pass.old) }
+        ensures one { IsTrue result → IsOf pass.old self.old }
+    {
+        let Some(mine) = &mut self.place else {
+            return false;
+        };
+        let Some(theirs) = &mut pass.place else {
+            return false;
+        };
+        mine.is_that(register, theirs)
+    }
+}
+
+impl<N: House> PubPass<N> {
+    /// The number of its item, from 0, where it knows a place.
+    pub fn item(&self) -> u32 {
+        self.item
+    }
+
+    /// Its adapter.
+    pub fn adapter(&self) -> u8
+        ensures adapter { result ≡ self.now.adapter }
+        ensures some { 1 ≤ result }
+        ensures most { result ≤ MOST }
+    {
+        self.adapter
+    }
+}
+
+/// A copy of an adapter's event with its seq, `None` where there is no memory.
+pub fn copied_entry(alloc: Global, adapter: u8, seq: u64, event: &Event) -> Option<Entry>
+    ensures { IfSome result (λ e. e ≡ entry_of adapter seq event.now) }
+{
+    match event.copy(alloc) {
+        Ok(event) => Some(Entry {
+            adapter,
+            seq,
+            event,
+        }),
+        Err(_) => None,
+    }
+}
+
+/// Adds an event to the end of the item's history by the pass, which then has seen the whole history. It answers the
+/// event's number, or the first cause of [`ItemCell::publish`]'s order that stands against it. A slot that lags by
+/// [`MOST_LAG`](ls_event::MOST_LAG) is caught up and keeps nothing back, so `Backlog` is never answered. After a
+/// refusal the history is as before; some slots may have been caught up. The pass is of the item, and an update has a
+/// cell for each field.
+pub fn publish_into<N: House>(
+    item: &mut LiveItem<N>,
+    pass: &mut PubPass<N>,
+    seq: u64,
+    event: Event,
+) -> Result<u64, PublishRefused>
+    requires of { IsOf pass.old item.old }
+    requires fields { HasFields item.old.shape.fields event }
+    ensures item { item.new ≡ record item.old { history = item.new.history } }
+    ensures pass { pass.new ≡ record pass.old { list = item.new.history } }
+    ensures begins { IsPrefix pass.old.list item.old.history }
+    ensures done { IfOk result (λ number.
+        (item.new.history ≡ item.old.history ++ entry_of pass.old.adapter seq event ∷ [])
+        × (number ≡ length item.new.history)) }
+    ensures admitted { IfOk result (λ _.
+        cause_in item.old.shape item.old.history (entry_of pass.old.adapter seq event) ≡ None) }
+    ensures refused { IfErr result (λ cause. (item.new.history ≡ item.old.history)
+        × IsCause (cause_in item.old.shape item.old.history (entry_of pass.old.adapter seq event)) cause) }
+    ensures lawful { IsHistory item.old.shape item.new.history }
+{
+    let entry = copied_entry(item.alloc, pass.adapter(), seq, &event);
+    publish_copied(item, pass, seq, event, &entry)
+}
+
+/// The same with a copy of the entry that was made before, as before a lock was taken. Without one `NoMemory` is
+/// answered, where no other cause is.
+pub fn publish_copied<N: House>(
+    item: &mut LiveItem<N>,
+    pass: &mut PubPass<N>,
+    seq: u64,
+    event: Event,
+    entry: &Option<Entry>,
+) -> Result<u64, PublishRefused>
+    requires of { IsOf pass.old item.old }
+    requires fields { HasFields item.old.shape.fields event }
+    requires copy { IfSome entry.now (λ e. e ≡ entry_of pass.old.adapter seq event) }
+    ensures item { item.new ≡ record item.old { history = item.new.history } }
+    ensures pass { pass.new ≡ record pass.old { list = item.new.history } }
+    ensures begins { IsPrefix pass.old.list item.old.history }
+    ensures done { IfOk result (λ number.
+        (item.new.history ≡ item.old.history ++ entry_of pass.old.adapter seq event ∷ [])
+        × (number ≡ length item.new.history)) }
+    ensures admitted { IfOk result (λ _.
+        cause_in item.old.shape item.old.history (entry_of pass.old.adapter seq event) ≡ None) }
+    ensures refused { IfErr result (λ cause. (item.new.history ≡ item.old.history)
+        × IsCause (cause_in item.old.shape item.old.history (entry_of pass.old.adapter seq event)) cause) }
+    ensures lawful { IsHistory item.old.shape item.new.history }
+{
+    let LiveItem {
+        cell,
+        chron,
+        writer,
+        ..
+    } = item;
+    chron.whole(writer, &mut pass.reader);
+    match weigh(cell, pass.adapter, seq, &event) {
+        Ok(()) => {}
+        Err(cause) => return Err(cause),
+    }
+    let Some(entry) = entry else {
+        return Err(PublishRefused::NoMemory);
+    };
+    let Ok(()) = cell.add(pass.adapter, seq, event) else {
+        return Err(PublishRefused::NoMemory);
+    };
+    let Ok(number) = chron.append(writer, entry) else {
+        unreachable!()
+    };
+    chron.whole(writer, &mut pass.reader);
+    Ok(number)
+}

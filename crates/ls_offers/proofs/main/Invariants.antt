@@ -1,0 +1,5 @@
+use Rattle.ls_offers.proofs.main.Given as goal
+
+-- the server of the register that was just made, and of the config
+abbrev pub ghosts-measure : goal.ghosts-measure
+ghosts-measure g a = record { deed = record { register = a.blank.register; config = a.config.items } }

@@ -1,0 +1,44 @@
+//! What may go to another thread.
+use crate::clock::MemClock;
+use crate::gate::{OpenGate, Point};
+use crate::mem_sink::{MemSink, PlainSink};
+use crate::mem_source::{MemSource, PlainSource};
+use crate::pipe::{MemPipe, PlainPipe};
+use crate::std_io::{StdSink, StdSource};
+
+/// A type whose values may be sent.
+fn sends<T: Send>() {}
+
+/// A type whose values may be shared.
+fn syncs<T: Sync>() {}
+
+/// Sources, sinks and pipes in memory.
+pub(crate) fn memory() {
+    sends::<MemSource>();
+    sends::<MemSink>();
+    sends::<MemPipe>();
+}
+
+/// Those that never fail.
+pub(crate) fn plain() {
+    sends::<PlainSource>();
+    sends::<PlainSink>();
+    sends::<PlainPipe>();
+}
+
+/// Those over std's readers and writers.
+pub(crate) fn over_std<T: Send>() {
+    sends::<StdSource<T>>();
+    sends::<StdSink<T>>();
+}
+
+/// A clock in memory.
+pub(crate) fn clock() {
+    sends::<MemClock>();
+}
+
+/// Gates and the points that they are passed.
+pub(crate) fn gate() {
+    sends::<Point>();
+    syncs::<OpenGate>();
+}

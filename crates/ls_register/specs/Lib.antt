@@ -1,0 +1,4 @@
+pub mod Tables
+pub mod Deeds
+pub mod Places
+pub mod Items

@@ -1,0 +1,21 @@
+use Rattle.std.proofs.Common.{◌+◌, ◌<◌, length, sym, ◌∙◌, ap, arith, slice_get}
+use Rattle.ls_shared.proofs.Shapes.{shape_at, stands_at}
+use Rattle.ls_shared.proofs.Items.{facts_next}
+use Rattle.ls_shared.proofs.shared.live_items.Goals as goal
+
+pub live_item-requires-clause-shape : goal.live_item-requires-clause-shape
+live_item-requires-clause-shape g c =
+    let within : c.loop-item.item < length c.args.defs.now = omega (arith, c.loop-item-test.true) in
+    let at = stands_at c.args.defs.now c.loop-item.item c.index-defs-item.result within c.index-defs-item.is in
+    shape_at c.args.defs.now c.loop-item.item c.index-defs-item.result c.requires.items at
+
+pub loop-item-preserved : goal.loop-item-preserved
+loop-item-preserved g c =
+    let within : c.loop-item.item < length c.args.defs.now = omega (arith, c.loop-item-test.true) in
+    let at = stands_at c.args.defs.now c.loop-item.item c.index-defs-item.result within c.index-defs-item.is in
+    let declared = ap (λ ds. slice_get ds c.loop-item.item) (sym c.requires.config) ∙ at in (
+      c.live_item.ensures.table,
+      facts_next g.N.House.deed.config c.loop-item.item (c.loop-item.item + 1) c.index-defs-item.result _ _ declared (omega arith) c.loop-item.invariant.1
+          c.in_ok-live.ensures.items,
+      omega (arith, c.in_ok-push.ensures.len, c.loop-item.invariant.2),
+    )

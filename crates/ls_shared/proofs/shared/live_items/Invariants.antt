@@ -1,0 +1,9 @@
+use Rattle.std.proofs.Common.{◌≡◌, take, vec_len}
+use Rattle.ls_register.specs.Items.{items_of, facts_of}
+use Rattle.ls_shared.proofs.shared.live_items.Given as goal
+
+abbrev pub invariant-loop-item : goal.invariant-loop-item
+invariant-loop-item g l =
+    (l.writer.table ≡ g.N.House.deed.register)
+    × (items_of l.writer.list ≡ facts_of (take l.item g.N.House.deed.config))
+    × (vec_len l.items ≡ l.item)

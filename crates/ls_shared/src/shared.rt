@@ -1,0 +1,215 @@
+//! Items behind their locks.
+ghost use Rattle.std.specs.Prelude.{◌≡◌, ◌<◌, ◌≤◌, ◌++◌, ◌∷◌, [], true, IfOk, IfErr, IfSome, OnOk, Some, length};
+ghost use Rattle.std.specs.Prelude.{slice_get, vec_len};
+ghost use mathlib.Core.List.{IsPrefix};
+ghost use Rattle.ls_event.specs.History.{HasFields};
+ghost use Rattle.ls_event.specs.Shapes.{IsShape, shape_of};
+ghost use Rattle.ls_event.specs.declared.limits.TheConstants.{MOST_ADAPTERS};
+ghost use Rattle.ls_config.specs.Items.{are_items};
+ghost use Rattle.ls_register.specs.Items.{items_of, facts_of, fact_of};
+ghost use Rattle.ls_live.specs.Live.{IsCause, cause_in, entry_of};
+ghost use Rattle.ls_shared.specs.Offers.{HasOnce};
+
+use ls_chron::{Chron, Writer};
+use ls_config::Config;
+use ls_event::{Entry, Event, ItemDef, PublishRefused};
+use ls_live::{LiveItem, PubPass, copied_entry, publish_copied};
+use ls_outside::{Gate, Point};
+use ls_register::{Blank, Book, House, Made, View, add_item, wait_for_good};
+use ls_value::NoMemory;
+use std::alloc::Global;
+use std::sync::{Mutex, Wait};
+
+/// The items of a server, each behind its lock, with the register that says what was made. It keeps the allocator that
+/// its constructor took.
+#[derive(Drop)]
+pub struct Shared<N: House> {
+    alloc: Global,
+    register: Chron<Made>,
+    config: Config,
+    book: Mutex<Book<N>>,
+    items: Vec<Mutex<LiveItem<N>>>,
+    ghost named: { register ≡ N.deed.register },
+    ghost configured: { config.items ≡ N.deed.config },
+    ghost counted: { vec_len items ≡ length config.items },
+}
+
+impl<N: House> Shared<N> {
+    /// The items of a config with empty histories; they stand first in the register. `N` names the register of the
+    /// blank, and the config's items, which are those that a config may have.
+    pub fn new(alloc: Global, blank: Blank, config: Config) -> Result<Shared<N>, NoMemory>
+        requires register { blank.register ≡ N.deed.register }
+        requires config { config.items ≡ N.deed.config }
+        requires items { are_items config.items ≡ true }
+    {
+        let Blank {
+            register,
+            mut writer,
+        } = blank;
+        let items = live_items::<N>(alloc, &register, &mut writer, config.items.as_slice())?;
+        let book = Mutex::new(Book::new(writer));
+        Ok(Shared {
+            alloc,
+            register,
+            config,
+            book,
+            items,
+        })
+    }
+
+    /// An adapter's pass of an item, whose list is the item's history as it stands under the item's lock. The item is
+    /// one of the config's, by its number from 0; the adapter is 1 to 64. It takes no memory, and may wait.
+    pub fn pass<R: Wait>(&self, rt: &R, item: u32, adapter: u8) -> PubPass<N>
+        requires item { item < length N.deed.config }
+        requires some { 1 ≤ adapter }
+        requires most { adapter ≤ MOST_ADAPTERS }
+        ensures adapter { result.adapter ≡ adapter }
+        ensures shape { IfSome (slice_get N.deed.config item) (λ d. result.shape ≡ shape_of d) }
+    {
+        let mut live = self.items[item as usize].lock(rt);
+        pass_of(rt, &mut live, &self.register, item, adapter)
+    }
+
+    /// The config with which it was made. It takes no lock and no memory.
+    pub fn config(&self) -> &Config
+        ensures { result.now.items ≡ N.deed.config }
+    {
+        &self.config
+    }
+
+    /// A view of the register as it stands under its lock. Its items are those of the config, in order. It takes no
+    /// memory, and may wait.
+    pub fn view<R: Wait>(&self, rt: &R) -> View<N>
+        ensures { items_of result ≡ facts_of N.deed.config }
+    {
+        self.book.lock(rt).view(&self.register)
+    }
+
+    /// Adds an event to the history of the pass's item, under the item's lock, and answers its number, from 1. An
+    /// update has a cell for each of the item's fields. The pass then has the history as it stood when the lock was let
+    /// go, and of that list the answer is true:
+    /// - a number: the event stands there at it, and no other one of this adapter has this seq;
+    /// - a refusal: it is the first cause that stands against the event behind that list, in the order of
+    ///   [`PublishRefused`]. `NoMemory` may come where there is none. `Backlog` never comes.
+    ///
+    /// The gate is passed while the lock is held. The call may wait.
+    pub fn offer<R: Wait, G: Gate>(
+        &self,
+        rt: &R,
+        pass: &mut PubPass<N>,
+        seq: u64,
+        event: Event,
+        gate: &G,
+    ) -> Result<u64, PublishRefused>
+        requires { HasFields pass.old.shape.fields event }
+        ensures begins { IsPrefix pass.old.list pass.new.list }
+        ensures adapter { pass.new.adapter ≡ pass.old.adapter }
+        ensures item { (pass.new.table ≡ pass.old.table) × (pass.new.shape ≡ pass.old.shape) }
+        ensures done { IfOk result (λ no. HasOnce pass.new.list no pass.old.adapter seq event) }
+        ensures refused { IfErr result
+            (IsCause (cause_in pass.old.shape pass.new.list (entry_of pass.old.adapter seq event))) }
+    {
+        let copied = copied_entry(self.alloc, pass.adapter(), seq, &event);
+        let item = pass.item();
+        let Some(lock) = self.items.get(item as usize) else {
+            wait_for_good(rt);
+            unreachable!()
+        };
+        let mut live = lock.lock(rt);
+        gate.pass(Point::Offering { item });
+        offer_to(rt, &mut live, &self.register, pass, seq, event, &copied)
+    }
+}
+
+/// The items of a config, whose places the register then has.
+fn live_items<N: House>(
+    alloc: Global,
+    register: &Chron<Made>,
+    writer: &mut Writer<Made>,
+    defs: &[ItemDef],
+) -> Result<Vec<Mutex<LiveItem<N>>>, NoMemory>
+    requires register { register.now ≡ N.deed.register }
+    requires writer { writer.old.table ≡ N.deed.register }
+    requires empty { writer.old.list ≡ [] }
+    requires config { defs.now ≡ N.deed.config }
+    requires items { are_items defs.now ≡ true }
+    ensures table { writer.new.table ≡ N.deed.register }
+    ensures items { OnOk result (items_of writer.new.list ≡ facts_of N.deed.config) }
+    ensures count { IfOk result (λ items. vec_len items ≡ length N.deed.config) }
+{
+    let mut items = Vec::new(alloc);
+    for item in 0..defs.len() {
+        let live = live_item::<N>(alloc, register, writer, item as u32, &defs[item])?;
+        items.push(Mutex::new(live))?;
+    }
+    Ok(items)
+}
+
+/// An item of a config, by its number, whose place the register then has.
+fn live_item<N: House>(
+    alloc: Global,
+    register: &Chron<Made>,
+    writer: &mut Writer<Made>,
+    item: u32,
+    def: &ItemDef,
+) -> Result<LiveItem<N>, NoMemory>
+    requires register { register.now ≡ N.deed.register }
+    requires writer { writer.old.table ≡ N.deed.register }
+    requires declared { slice_get N.deed.config item ≡ Some def.now }
+    requires shape { IsShape (shape_of def.now) }
+    ensures table { writer.new.table ≡ N.deed.register }
+    ensures items { OnOk result (items_of writer.new.list ≡ items_of writer.old.list ++ fact_of item def.now ∷ []) }
+{
+    let mut live = LiveItem::<N>::new(alloc, def)?;
+    let table = live.sign();
+    let Ok(place) = add_item::<N>(register, writer, item, def, table) else {
+        return Err(NoMemory);
+    };
+    Ok(live.at(place, item))
+}
+
+/// An adapter's pass of the item behind a lock. Where that isn't the item of this number, it waits for good.
+fn pass_of<N: House, R: Wait>(
+    rt: &R,
+    live: &mut LiveItem<N>,
+    register: &Chron<Made>,
+    item: u32,
+    adapter: u8,
+) -> PubPass<N>
+    requires register { register.now ≡ N.deed.register }
+    requires some { 1 ≤ adapter }
+    requires most { adapter ≤ MOST_ADAPTERS }
+    ensures adapter { result.adapter ≡ adapter }
+    ensures shape { IfSome (slice_get N.deed.config item) (λ d. result.shape ≡ shape_of d) }
+{
+    if !live.has_item(item) {
+        wait_for_good(rt);
+    }
+    live.pass_at(register, adapter)
+}
+
+/// Adds an event to the item behind a lock. Where the pass is of another item, it waits for good.
+fn offer_to<N: House, R: Wait>(
+    rt: &R,
+    live: &mut LiveItem<N>,
+    register: &Chron<Made>,
+    pass: &mut PubPass<N>,
+    seq: u64,
+    event: Event,
+    copied: &Option<Entry>,
+) -> Result<u64, PublishRefused>
+    requires register { register.now ≡ N.deed.register }
+    requires fields { HasFields pass.old.shape.fields event }
+    requires copied { IfSome copied.now (λ e. e ≡ entry_of pass.old.adapter seq event) }
+    ensures begins { IsPrefix pass.old.list pass.new.list }
+    ensures adapter { pass.new.adapter ≡ pass.old.adapter }
+    ensures item { (pass.new.table ≡ pass.old.table) × (pass.new.shape ≡ pass.old.shape) }
+    ensures done { IfOk result (λ no. HasOnce pass.new.list no pass.old.adapter seq event) }
+    ensures refused { IfErr result
+        (IsCause (cause_in pass.old.shape pass.new.list (entry_of pass.old.adapter seq event))) }
+{
+    if !live.is_of(register, pass) {
+        wait_for_good(rt);
+    }
+    publish_copied(live, pass, seq, event, copied)
+}
