@@ -1,24 +1,15 @@
 //! A push server for the protocol TLCP 2.1: the program.
 //!
-//! `main` has the command line and the real input and output, and hands them to `running::run`: words, a `Source` and a
-//! `Sink` in, a `Status` out. `run` reads pieces and feeds them to a `replay::Replay`, which finds the lines in them,
-//! has each done by an `engine::Engine`, and writes what the lines of a piece print at once. `Engine::line` does one
-//! line: it reads its step and has the hub do it.
-//!
-//! What `run` promises is `Ran` and `Completes` in specs/. It serves no network: a script stands for the feeds and the
-//! clients.
+//! `main` has the command line and the real input and output, and hands them to `run` of ls_run: words, a `Source` and a
+//! `Sink` in, a `Status` out. What `run` promises is said there. It serves no network: a script stands for the feeds
+//! and the clients.
 #![tactic(auto)]
 
-#[cfg(test)]
-mod by_hand;
-mod engine;
-mod replay;
-mod running;
 #[cfg(test)]
 mod tests;
 
 use ls_outside::{Put, StdSink, StdSource, write_all};
-use running::{Status, run};
+use ls_run::{Status, run};
 use std::env;
 use std::io::{self, ErrorKind};
 use std::process::ExitCode;
