@@ -23,8 +23,6 @@
 mod chron;
 mod cross;
 mod steps;
-#[cfg(test)]
-mod tests;
 mod view;
 
 pub use chron::{Chron, MOST_ENTRIES, Reader, Sign, Spent, Writer};

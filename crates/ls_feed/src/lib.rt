@@ -30,6 +30,3 @@ pub use passes::Passes;
 pub use reply::{Bad, Reply};
 pub use report::{FeedEnd, FeedReport};
 pub use serving::serve_feed;
-
-#[cfg(test)]
-mod tests;

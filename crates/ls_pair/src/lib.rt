@@ -20,8 +20,6 @@
 mod cross;
 mod side;
 mod steps;
-#[cfg(test)]
-mod tests;
 mod tie;
 
 pub use side::{Role, Side};

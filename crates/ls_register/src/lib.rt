@@ -28,8 +28,6 @@ mod cross;
 mod house;
 mod made;
 mod place;
-#[cfg(test)]
-mod tests;
 mod told;
 mod waiting;
 

@@ -1,7 +1,7 @@
 //! Scripts of frequencies and bandwidths: when a slot is due, what CONF and CONS tell, and the limits of requests.
-use ls_run::Status;
 use crate::longest::Long;
 use crate::worked::Row;
+use ls_run::Status;
 
 /// Frequencies, bandwidths, and changes of both.
 pub(crate) const BUDGETS: [Row; 6] = [

@@ -301,20 +301,24 @@ fn all_enqueue(served: &mut Served) -> Result<bool, NoMemory> {
     Ok(first && second && again && third && !behind)
 }
 
-/// Whether both sessions take their turns as they must: the first one's two slots by turns, the second one's with a
-/// snapshot.
+/// Both sessions take their turns: the first one's two slots by turns, the second one's with a snapshot.
+fn take_turns(alloc: Global, served: &mut Served, config: &Config) -> Result<bool, NoMemory> {
+    let began = all_subscribe(alloc, served, config)?;
+    let published = all_published(alloc, served, config);
+    let enqueued = all_enqueue(served)?;
+    let first = lines(alloc, &mut served.one, &mut served.cells)?;
+    let second = lines(alloc, &mut served.two, &mut served.cells)?;
+    let told = first.as_slice() == FIRST && second.as_slice() == SECOND;
+    Ok(began && published && enqueued && told)
+}
+
+/// Whether both sessions take their turns as they must.
 fn are_told(alloc: Global) -> Result<bool, NoMemory> {
     let Ok(config) = read_config(alloc, ITEMS) else {
         return Ok(false);
     };
     let mut served = begun(alloc, &config)?;
-    let began = all_subscribe(alloc, &mut served, &config)?;
-    let published = all_published(alloc, &mut served, &config);
-    let enqueued = all_enqueue(&mut served)?;
-    let first = lines(alloc, &mut served.one, &mut served.cells)?;
-    let second = lines(alloc, &mut served.two, &mut served.cells)?;
-    let told = first.as_slice() == FIRST && second.as_slice() == SECOND;
-    Ok(began && published && enqueued && told)
+    take_turns(alloc, &mut served, &config)
 }
 
 /// The line that tells of a client's message.
@@ -325,18 +329,30 @@ fn message(alloc: Global) -> Result<Line, NoMemory> {
     })
 }
 
-/// Whether a line of a client's message is numbered behind the lines of a session, and then given as they are.
-fn is_numbered(alloc: Global) -> Result<bool, NoMemory> {
-    let mut cells = Cells::new(alloc);
-    let mut session = session_of(alloc, 1)?;
-    let line = message(alloc)?;
-    let Ok(text) = session.prepare_line(&line) else {
-        return Ok(false);
+/// A line is numbered behind those of a session.
+fn numbers(session: &mut Session, line: &Line) -> bool {
+    let Ok(text) = session.prepare_line(line) else {
+        return false;
     };
     let number = session.finish_line(text);
-    let kept = session.line(1) == Some(MESSAGE) && session.last() == 1 && session.sent() == 0;
-    let given = lines(alloc, &mut session, &mut cells)?;
-    Ok(number == 1 && kept && given.as_slice() == MESSAGE_BEHIND && session.sent() == 1)
+    number == 1 && session.line(1) == Some(MESSAGE) && session.last() == 1 && session.sent() == 0
+}
+
+/// A session gives all its lines, with that of the message behind them.
+fn gives_message(alloc: Global, session: &mut Session) -> Result<bool, NoMemory> {
+    let mut cells = Cells::new(alloc);
+    let given = lines(alloc, session, &mut cells)?;
+    Ok(given.as_slice() == MESSAGE_BEHIND && session.sent() == 1)
+}
+
+/// Whether a line of a client's message is numbered behind the lines of a session, and then given as they are.
+fn is_numbered(alloc: Global) -> Result<bool, NoMemory> {
+    let line = message(alloc)?;
+    let mut session = session_of(alloc, 1)?;
+    if !numbers(&mut session, &line) {
+        return Ok(false);
+    }
+    gives_message(alloc, &mut session)
 }
 
 /// Both sessions subscribe and have updates enqueued, and the first one is told all of it at tick 7.
@@ -375,19 +391,19 @@ fn constrains(alloc: Global, served: &mut Served) -> Result<bool, NoMemory> {
     Ok(constrained && told.as_slice() == CONSTRAINED)
 }
 
-/// Whether a slot with a frequency waits for its tick.
+/// A slot with a frequency waits for its tick, and another bandwidth is told at once.
 fn are_limited(alloc: Global, served: &mut Served, config: &Config) -> Result<bool, NoMemory> {
     let told = first_told(alloc, served, config)? && limits(alloc, served, config)?;
-    Ok(told && waits(alloc, served)?)
+    Ok(told && waits(alloc, served)? && constrains(alloc, served)?)
 }
 
-/// Whether it does, and another bandwidth is told at once.
+/// Whether both are as they must be.
 fn is_limited(alloc: Global) -> Result<bool, NoMemory> {
     let Ok(config) = read_config(alloc, ITEMS) else {
         return Ok(false);
     };
     let mut served = begun(alloc, &config)?;
-    Ok(are_limited(alloc, &mut served, &config)? && constrains(alloc, &mut served)?)
+    are_limited(alloc, &mut served, &config)
 }
 
 /// A request for a new stream of the first session, behind so many lines.
@@ -439,14 +455,19 @@ fn loops(alloc: Global, served: &mut Served) -> Result<bool, NoMemory> {
     Ok(forced && told.as_slice() == LOOPED && unbound && over)
 }
 
-/// Whether a session is gone on with on another stream, and then without one.
+/// A session goes on with another stream, and then without one.
+fn goes_on(alloc: Global, served: &mut Served, config: &Config) -> Result<bool, NoMemory> {
+    let told = first_told(alloc, served, config)? && loses(served)?;
+    Ok(told && recovers(alloc, served)? && loops(alloc, served)?)
+}
+
+/// Whether it does.
 fn is_bound_anew(alloc: Global) -> Result<bool, NoMemory> {
     let Ok(config) = read_config(alloc, ITEMS) else {
         return Ok(false);
     };
     let mut served = begun(alloc, &config)?;
-    let told = first_told(alloc, &mut served, &config)? && loses(&mut served)?;
-    Ok(told && recovers(alloc, &mut served)? && loops(alloc, &mut served)?)
+    goes_on(alloc, &mut served, &config)
 }
 
 #[test]

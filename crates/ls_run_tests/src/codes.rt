@@ -1,7 +1,7 @@
 //! Scripts of requests that are refused, each for its code, and of the limits: at the limit, and one beyond it.
-use ls_run::Status;
 use crate::longest::Long;
 use crate::worked::Row;
+use ls_run::Status;
 
 /// Requests that are refused, subscriptions and sessions that end, and several of each.
 pub(crate) const REQUESTED: [Row; 9] = [

@@ -1,7 +1,7 @@
 //! Scripts of streams that are lost and of binds: which lines are given again, who has the stream, what is refused.
-use ls_run::Status;
 use crate::longest::Long;
 use crate::worked::Row;
+use ls_run::Status;
 
 /// Streams that are lost, and clients that go on behind the lines that they have.
 pub(crate) const RECOVERED: [Row; 9] = [

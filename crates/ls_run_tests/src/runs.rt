@@ -2,9 +2,7 @@
 //! turn.
 use crate::budgets::{BUDGETS, CHANGES, LOST, OWED};
 use crate::codes::{FIELDS, LINES, REQUESTED, SESSIONS, SLOTS, SUBSCRIPTIONS};
-use crate::longest::{
-    BACKLOG, BYTES, KEYS, Long, RAW_256, RAW_300, SILENT, WIDE, text_of,
-};
+use crate::longest::{BACKLOG, BYTES, KEYS, Long, RAW_256, RAW_300, SILENT, WIDE, text_of};
 use crate::recovery::{BOUND, GIVEN_AGAIN, KEPT, OWED_WITHOUT_STREAM, RECOVERED, UNSENT};
 use crate::streams::{
     ALL_TIMED_OUT, FAR, LOOPED, OWED_OVER_HTTP, OWED_OVER_WS, RECOVERED_OVER_HTTP, TIMED_OUT,

@@ -1,7 +1,7 @@
 //! Scripts of streams that are over, by a request or by their bytes, and of sessions that are without one for too long.
-use ls_run::Status;
 use crate::longest::Long;
 use crate::worked::Row;
+use ls_run::Status;
 
 /// Streams that are forced to be over, and those over http, with a content length.
 pub(crate) const LOOPED: [Row; 7] = [

@@ -20,8 +20,6 @@
 
 mod cross;
 mod shared;
-#[cfg(test)]
-mod tests;
 
 pub use ls_live::PubPass;
 pub use ls_register::{Blank, House, View};

@@ -1,9 +1,10 @@
 //! What no contract says: that the calls succeed with ample memory, and that the adapters fit std's readers and
 //! writers.
 use ls_outside::{
-    Call, Got, MemSink, MemSource, PlainSink, PlainSource, Put, Sink, Source, StdSink, StdSource,
-    write_all,
+    Call, Clock, Got, MemClock, MemPipe, MemSink, MemSource, Pipe, PlainPipe, PlainSink,
+    PlainSource, Put, Sink, Source, StdSink, StdSource, write_all,
 };
+use ls_value::NoMemory;
 use std::alloc::{AllocError, Global};
 use std::io::{Error, ErrorKind, Read, Result as IoResult, Write};
 use std::test::Fail;
@@ -164,4 +165,125 @@ fn writes_of_std(rt: HostRuntime) {
     // A slice takes bytes until it is full, and then none.
     assert!(rt; write_after(ErrorKind::Interrupted, &mut room[..1]) == (Put::Failed, 1));
     assert!(rt; room == [b'a', b'b']);
+}
+
+/// A pipe's faults of reading, its idle calls, and its faults of writing.
+fn counts<P: Pipe>(pipe: &P) -> (u64, u64, u64) {
+    (pipe.read_faults(), pipe.idles(), pipe.write_faults())
+}
+
+/// A pipe whose calls go by the two lists.
+fn mem_pipe(alloc: Global) -> Result<MemPipe, AllocError> {
+    let bytes = Vec::from_slice(alloc, b"abcdefgh")?;
+    let reads = Vec::from_slice(alloc, &READS)?;
+    let writes = Vec::from_slice(alloc, &WRITES)?;
+    Ok(MemPipe {
+        source: MemSource::new(bytes, Vec::new(alloc), reads),
+        sink: MemSink::new(alloc, writes),
+    })
+}
+
+fn both_ways_go(alloc: Global) -> Result<bool, AllocError> {
+    let mut pipe = mem_pipe(alloc)?;
+    let first = answers(alloc, &mut pipe, 2)?;
+    let is_read = first.as_slice() == b"FN".as_slice() && counts(&pipe) == (1, 1, 0);
+    let taken = write_all(&mut pipe, b"abc");
+    let refused = write_all(&mut pipe, b"defx");
+    let is_written = taken == Put::Taken(3) && refused == Put::Failed && counts(&pipe) == (1, 1, 1);
+    let rest = answers(alloc, &mut pipe, 6)?;
+    let is_left = pipe.sink.bytes() == b"abcdef".as_slice() && counts(&pipe) == (1, 2, 1);
+    Ok(is_read && is_written && rest.as_slice() == b"a.bc.defg.h.NE".as_slice() && is_left)
+}
+
+#[test]
+fn a_pipe_goes_both_ways(rt: HostRuntime) -> Result<(), Fail> {
+    assert!(rt; both_ways_go(rt.alloc())?);
+    Ok(())
+}
+
+fn both_ways_never_fail(alloc: Global) -> Result<bool, AllocError> {
+    let mut pipe = PlainPipe {
+        source: PlainSource::new(Vec::from_slice(alloc, b"abcdef")?, Vec::new(alloc)),
+        sink: PlainSink::new(),
+    };
+    let first = answers(alloc, &mut pipe, 1)?;
+    let answer = write_all(&mut pipe, b"xyz");
+    let is_written = answer == Put::Taken(3) && pipe.sink.taken() == 3;
+    let rest = answers(alloc, &mut pipe, 2)?;
+    let is_read = first.as_slice() == b"abcd.".as_slice() && rest.as_slice() == b"ef.E".as_slice();
+    Ok(is_read && is_written && counts(&pipe) == (0, 0, 0))
+}
+
+#[test]
+fn a_plain_pipe_never_fails(rt: HostRuntime) -> Result<(), Fail> {
+    assert!(rt; both_ways_never_fail(rt.alloc())?);
+    Ok(())
+}
+
+/// What so many calls of a clock tell.
+fn told(alloc: Global, clock: &mut MemClock, times: usize) -> Result<Vec<u64>, AllocError> {
+    let mut told = Vec::new(alloc);
+    for _ in 0..times {
+        told.push(clock.now())?;
+    }
+    Ok(told)
+}
+
+/// Lists of ticks, and what clocks tell by them.
+const CLOCKS: [(&[u64], &[u64]); 5] = [
+    (&[], &[0, 0]),
+    (&[5, 8], &[5, 8, 8, 8]),
+    (&[5, 3, 6, 0], &[5, 5, 6, 6, 6]),
+    (&[1_000_000_000_000_000_000], &[1_000_000_000_000_000_000]),
+    (
+        &[1_000_000_000_000_000_001, u64::MAX, 7],
+        &[
+            1_000_000_000_000_000_000,
+            1_000_000_000_000_000_000,
+            1_000_000_000_000_000_000,
+        ],
+    ),
+];
+
+fn is_told(alloc: Global, ticks: &[u64], expected: &[u64]) -> Result<bool, AllocError> {
+    let mut clock = MemClock::new(alloc, Vec::from_slice(alloc, ticks)?);
+    let told = told(alloc, &mut clock, expected.len())?;
+    Ok(told.as_slice() == expected)
+}
+
+#[test]
+fn clocks_tell_by_their_lists(rt: HostRuntime) -> Result<(), Fail> {
+    for (ticks, expected) in CLOCKS {
+        assert!(rt; is_told(rt.alloc(), ticks, expected)?);
+    }
+    Ok(())
+}
+
+#[test]
+fn clocks_count_what_they_wait(rt: HostRuntime) {
+    let mut clock = MemClock::new(rt.alloc(), Vec::new(rt.alloc()));
+    assert!(rt; clock.waited() == 0);
+    clock.wait(10);
+    clock.wait(5);
+    assert!(rt; clock.waited() == 15 && clock.now() == 0);
+    clock.wait(u64::MAX);
+    assert!(rt; clock.waited() == u64::MAX);
+}
+
+fn twins_go_apart(alloc: Global) -> Result<bool, NoMemory> {
+    let mut clock = MemClock::new(alloc, Vec::from_slice(alloc, &[4, 2, 9, 12])?);
+    let first = clock.now();
+    clock.wait(10);
+    let mut twin = clock.twin()?;
+    let of_twin = told(alloc, &mut twin, 4)?;
+    let own = told(alloc, &mut clock, 4)?;
+    let is_apart = first == 4 && twin.waited() == 0 && clock.waited() == 10;
+    let expected: &[u64] = &[4, 9, 12, 12];
+    Ok(is_apart && of_twin.as_slice() == expected && own.as_slice() == expected)
+}
+
+#[test]
+fn a_twin_tells_the_ticks_to_come(rt: HostRuntime) -> Result<(), Fail> {
+    assert!(rt; twins_go_apart(rt.alloc())?);
+    Ok(())
 }

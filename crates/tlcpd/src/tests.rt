@@ -18,7 +18,10 @@ fn shown_for(alloc: Global, word: &str) -> Result<Shown, AllocError> {
 #[test]
 fn words_alone(rt: HostRuntime) -> Result<(), Fail> {
     let alloc = rt.alloc();
-    assert_eq!(rt; shown_for(alloc, "--version")?, (Some("tlcpd 0.1.0\n"), None));
+    assert_eq!(rt;
+        shown_for(alloc, "--version")?,
+        (Some("tlcpd 0.1.0\n"), None)
+    );
     assert_eq!(rt; shown_for(alloc, "--help")?, (Some(HELP), None));
     assert_eq!(rt; shown_for(alloc, "replay")?, (None, None));
     Ok(())

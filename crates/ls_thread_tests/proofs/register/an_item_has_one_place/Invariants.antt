@@ -1,5 +1,5 @@
 use Rattle.std.proofs.Common.{[], ◌∷◌}
-use Rattle.ls_register.proofs.tests.an_item_has_one_place.Given as goal
+use Rattle.ls_thread_tests.proofs.register.an_item_has_one_place.Given as goal
 
 -- the house of the register that was just made, and of the one item
 abbrev pub ghosts-is_one_place : goal.ghosts-is_one_place

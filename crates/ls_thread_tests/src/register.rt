@@ -2,9 +2,9 @@
 ghost use Rattle.std.specs.Prelude.{◌≡◌, ◌≤◌, ◌∷◌, [], IfOk, length};
 ghost use Rattle.ls_event.specs.declared.limits.TheConstants.{MOST_FIELDS};
 
-use super::{Blank, Book, House, Made, add_item, one_table};
 use ls_chron::Chron;
 use ls_event::{Entry, ItemDef, Kind};
+use ls_register::{Blank, Book, House, Made, add_item, one_table};
 use ls_value::{Names, NoMemory, Text};
 use std::alloc::Global;
 use std::marker::Brand;

@@ -2,8 +2,8 @@
 ghost use Rattle.std.specs.Prelude.{◌≡◌, true};
 ghost use Rattle.ls_config.specs.Items.{are_items};
 
-use crate::{FeedEnd, LONGEST_LINE, serve_feed};
 use ls_config::{Config, read};
+use ls_feed::{FeedEnd, LONGEST_LINE, serve_feed};
 use ls_outside::{Call, MemClock, MemPipe, MemSink, MemSource, OpenGate};
 use ls_register::{Blank, House};
 use ls_shared::Shared;

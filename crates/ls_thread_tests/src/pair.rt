@@ -1,5 +1,5 @@
 //! Each public call once. A side has nothing that a program could look at: what it knows stands in contracts alone.
-use super::Tie;
+use ls_pair::Tie;
 use ls_value::NoMemory;
 use std::alloc::Global;
 use std::test::Fail;

@@ -1,4 +1,4 @@
-use Rattle.ls_shared.proofs.tests.each_call_answers.Given as goal
+use Rattle.ls_thread_tests.proofs.shared.each_call_answers.Given as goal
 
 -- the server of the register that was just made, and of the config
 abbrev pub ghosts-is_served : goal.ghosts-is_served

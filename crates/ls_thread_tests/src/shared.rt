@@ -2,10 +2,10 @@
 ghost use Rattle.std.specs.Prelude.{◌≡◌, ◌<◌, ◌≤◌, true, length, IfOk};
 ghost use Rattle.ls_config.specs.Items.{are_items};
 
-use super::{Blank, House, Shared};
 use ls_config::{Config, read};
 use ls_event::{Event, PublishRefused};
 use ls_outside::{Gate, OpenGate, Point};
+use ls_shared::{Blank, House, Shared};
 use std::alloc::Global;
 use std::marker::Brand;
 use std::process::Abort;

@@ -1,5 +1,5 @@
 //! Each public call once. What a list holds is known to contracts alone, so the numbers and counts are compared.
-use super::Chron;
+use ls_chron::Chron;
 use std::alloc::Global;
 use std::test::Fail;
 

@@ -1,4 +1,4 @@
-use Rattle.ls_feed.proofs.tests.fed.Given as goal
+use Rattle.ls_thread_tests.proofs.feed.fed.Given as goal
 
 -- the server of the register that was just made, and of the config
 abbrev pub ghosts-feed_over : goal.ghosts-feed_over
