@@ -92,8 +92,10 @@ impl ItemCell {
         // It stands for the empty history.
         ensures stands { IfOk result (λ c. StandsCell c [] []) }
     {
-        let seqs = vec![in alloc; 0u64; MOST_ADAPTERS as usize + 1]?;
+        // The seqs come last: those of adapters with high numbers seldom change, so that of two items made one after
+        // another no parts that change are neighbours in memory.
         let state = ItemState::new(alloc, item)?;
+        let seqs = vec![in alloc; 0u64; MOST_ADAPTERS as usize + 1]?;
         Ok(ItemCell {
             alloc,
             item: state,

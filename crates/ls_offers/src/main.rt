@@ -79,7 +79,10 @@ fn main(rt: HostRuntime) -> ExitCode {
     let Ok(blank) = Blank::new(rt.alloc()) else {
         return ExitCode::FAILURE;
     };
-    let Ok(config) = read(rt.alloc(), offers::ITEMS) else {
+    let Ok(items) = offers::items(rt.alloc()) else {
+        return ExitCode::FAILURE;
+    };
+    let Ok(config) = read(rt.alloc(), items.as_bytes()) else {
         return ExitCode::FAILURE;
     };
     status_of(offers::measure::<Brand, _>(&rt, blank, config))

@@ -8,21 +8,16 @@ use ls_config::Config;
 use ls_event::{Event, read_event};
 use ls_outside::OpenGate;
 use ls_shared::{Blank, House, PubPass, Shared};
-use std::alloc::Global;
+use std::alloc::{AllocError, Global};
+use std::fmt::Write;
 use std::rt::Runtime;
 use std::sync::Wait;
 use std::thread;
 use std::thread::Threads;
 use std::time::Instant;
 
-/// The items: one for each thread, and two on which it is measured what one of them takes.
-pub const ITEMS: &[u8] = b"\
-    i0 MERGE f1,f2,f3,f4,f5,f6,f7,f8\n\
-    i1 MERGE f1,f2,f3,f4,f5,f6,f7,f8\n\
-    i2 MERGE f1,f2,f3,f4,f5,f6,f7,f8\n\
-    i3 MERGE f1,f2,f3,f4,f5,f6,f7,f8\n\
-    i4 MERGE f1,f2,f3,f4,f5,f6,f7,f8\n\
-    i5 MERGE f1,f2,f3,f4,f5,f6,f7,f8\n";
+/// How many items a round has: one for each thread, and two on which it is measured what one of them takes.
+const ROUND_ITEMS: u32 = 6;
 
 /// What is offered each time: an update of two of eight fields.
 const UPDATE: &[u8] = b"f2=3.04&f7=20:00:33";
@@ -31,13 +26,23 @@ const UPDATE: &[u8] = b"f2=3.04&f7=20:00:33";
 const THREADS: usize = 4;
 
 /// How many events each thread offers in a round.
-const EVENTS: u64 = 100_000;
+const EVENTS: u64 = 2_000_000;
 
 /// How many rounds there are; the best of them counts.
-const ROUNDS: u64 = 5;
+const ROUNDS: u32 = 3;
 
 /// How many times as many events, in hundredths, four threads on four items have to offer as one on one.
 const LEAST: u128 = 250;
+
+/// The items: each round has its own, as each feed of a server has, so that no thread gives back memory that another
+/// one took.
+pub fn items(alloc: Global) -> Result<String, AllocError> {
+    let mut text = String::new(alloc);
+    for item in 0..ROUNDS * ROUND_ITEMS {
+        write!(text, "i{item} MERGE f1,f2,f3,f4,f5,f6,f7,f8\n")?;
+    }
+    Ok(text)
+}
 
 /// Whether an event has a cell for each of so many fields.
 fn is_of(event: &Event, fields: usize) -> bool
@@ -65,7 +70,8 @@ fn pass_of<N: House, R: Wait>(
     Some((pass, definition.fields.len()))
 }
 
-/// What threads offer side by side: each to the item of its own number behind a first one, or all to that one.
+/// What threads offer side by side, to the items of a round: each to the one of its own number behind a first one, or
+/// all to that one.
 struct Work {
     threads: usize,
     first: u32,
@@ -97,24 +103,20 @@ fn offer_often<N: House, R: Wait>(
     shared: &Shared<N>,
     work: &Work,
     index: usize,
-    round: u64,
+    round: u32,
     update: &Event,
 ) -> Option<()> {
     let thread = (index % THREADS) as u32;
-    let item = if work.is_apart {
-        work.first.saturating_add(thread)
-    } else {
-        work.first
-    };
+    let apart = if work.is_apart { thread } else { 0 };
+    let first = round.saturating_mul(ROUND_ITEMS);
+    let item = first.saturating_add(work.first).saturating_add(apart);
     let (mut pass, fields) = pass_of(rt, shared, item, thread as u8 + 1)?;
     if !is_of(update, fields) {
         return None;
     }
-    let before = round.saturating_mul(EVENTS);
     for n in 0..EVENTS {
         let event = update.copy(alloc).ok()?;
-        let seq = before.saturating_add(n + 1);
-        shared.offer(rt, &mut pass, seq, event, &OpenGate).ok()?;
+        shared.offer(rt, &mut pass, n + 1, event, &OpenGate).ok()?;
     }
     Some(())
 }
@@ -124,7 +126,7 @@ fn timed<N: House + Send + Sync, R: Runtime + AllocGlobal + Threads + Wait + Syn
     rt: &R,
     shared: &Shared<N>,
     work: &Work,
-    round: u64,
+    round: u32,
     update: &Event,
 ) -> Result<u128, Failed> {
     let alloc = rt.alloc();

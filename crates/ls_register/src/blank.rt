@@ -1,5 +1,5 @@
 //! A register that is being made.
-ghost use Rattle.std.specs.Prelude.{◌≡◌, ◌≤◌, ◌++◌, ◌∷◌, [], Some, IfOk, OnOk, OnErr, length, slice_get};
+ghost use Rattle.std.specs.Prelude.{◌≡◌, ◌≤◌, ◌^◌, ◌+◌, ◌++◌, ◌∷◌, [], Some, IfOk, OnOk, OnErr, length, slice_get};
 ghost use Rattle.ls_event.specs.Shapes.{shape_of};
 ghost use Rattle.ls_event.specs.declared.limits.TheConstants.{MOST_FIELDS};
 ghost use Rattle.ls_register.specs.Items.{items_of, fact_of, ShowsItem};
@@ -31,8 +31,8 @@ impl Blank {
 }
 
 /// Adds an item of the server's to the register that is being made, by its number from 0 and the history that `table`
-/// shows, and answers its place there. It takes no memory. `Spent` comes where the register has as many entries as a
-/// shared history may.
+/// shows, and answers its place there. It takes no memory. `Spent` comes exactly where the register has as many entries
+/// as a shared history may.
 pub fn add_item<N: House>(
     register: &Chron<Made>,
     writer: &mut Writer<Made>,
@@ -47,6 +47,8 @@ pub fn add_item<N: House>(
     ensures table { writer.new.table ≡ writer.old.table }
     ensures place { IfOk result (λ p. ShowsItem N.deed.config p item (shape_of def.now) table) }
     ensures items { OnOk result (items_of writer.new.list ≡ items_of writer.old.list ++ fact_of item def.now ∷ []) }
+    ensures more { OnOk result (length writer.new.list ≡ length writer.old.list + 1) }
+    ensures spent { OnErr result (length writer.old.list ≡ 2 ^ 61) }
     ensures err { OnErr result (writer.new ≡ writer.old) }
 {
     let entry = Made::Item {

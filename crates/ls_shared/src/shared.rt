@@ -1,15 +1,17 @@
 //! Items behind their locks.
-ghost use Rattle.std.specs.Prelude.{◌≡◌, ◌<◌, ◌≤◌, ◌++◌, ◌∷◌, [], true, IfOk, IfErr, IfSome, OnOk, Some, length};
+ghost use Rattle.std.specs.Prelude.{◌≡◌, ◌<◌, ◌≤◌, ◌+◌, ◌++◌, ◌∷◌, [], true, IfOk, IfErr, IfSome, OnOk, Some, length};
 ghost use Rattle.std.specs.Prelude.{slice_get, vec_len};
 ghost use mathlib.Core.List.{IsPrefix};
 ghost use Rattle.ls_event.specs.History.{HasFields};
 ghost use Rattle.ls_event.specs.Shapes.{IsShape, shape_of};
 ghost use Rattle.ls_event.specs.declared.limits.TheConstants.{MOST_ADAPTERS};
 ghost use Rattle.ls_config.specs.Items.{are_items};
+ghost use Rattle.ls_config.specs.declared.items.TheConstants.{MOST_ITEMS};
 ghost use Rattle.ls_register.specs.Items.{items_of, facts_of, fact_of};
 ghost use Rattle.ls_live.specs.Live.{IsCause, cause_in, entry_of};
 ghost use Rattle.ls_shared.specs.Offers.{HasOnce};
 
+use crossbeam_utils::CachePadded;
 use ls_chron::{Chron, Writer};
 use ls_config::Config;
 use ls_event::{Entry, Event, ItemDef, PublishRefused};
@@ -20,15 +22,15 @@ use ls_value::NoMemory;
 use std::alloc::Global;
 use std::sync::{Mutex, Wait};
 
-/// The items of a server, each behind its lock, with the register that says what was made. It keeps the allocator that
-/// its constructor took.
+/// The items of a server, each behind its lock and on cache lines of its own, so that offers to two of them don't slow
+/// one another; with the register that says what was made. It keeps the allocator that its constructor took.
 #[derive(Drop)]
 pub struct Shared<N: House> {
     alloc: Global,
     register: Chron<Made>,
     config: Config,
     book: Mutex<Book<N>>,
-    items: Vec<Mutex<LiveItem<N>>>,
+    items: Vec<CachePadded<Mutex<LiveItem<N>>>>,
     ghost named: { register ≡ N.deed.register },
     ghost configured: { config.items ≡ N.deed.config },
     ghost counted: { vec_len items ≡ length config.items },
@@ -66,7 +68,8 @@ impl<N: House> Shared<N> {
         ensures adapter { result.adapter ≡ adapter }
         ensures shape { IfSome (slice_get N.deed.config item) (λ d. result.shape ≡ shape_of d) }
     {
-        let mut live = self.items[item as usize].lock(rt);
+        let lock: &Mutex<LiveItem<N>> = &self.items[item as usize];
+        let mut live = lock.lock(rt);
         pass_of(rt, &mut live, &self.register, item, adapter)
     }
 
@@ -127,7 +130,7 @@ fn live_items<N: House>(
     register: &Chron<Made>,
     writer: &mut Writer<Made>,
     defs: &[ItemDef],
-) -> Result<Vec<Mutex<LiveItem<N>>>, NoMemory>
+) -> Result<Vec<CachePadded<Mutex<LiveItem<N>>>>, NoMemory>
     requires register { register.now ≡ N.deed.register }
     requires writer { writer.old.table ≡ N.deed.register }
     requires empty { writer.old.list ≡ [] }
@@ -140,7 +143,7 @@ fn live_items<N: House>(
     let mut items = Vec::new(alloc);
     for item in 0..defs.len() {
         let live = live_item::<N>(alloc, register, writer, item as u32, &defs[item])?;
-        items.push(Mutex::new(live))?;
+        items.push(CachePadded::new(Mutex::new(live)))?;
     }
     Ok(items)
 }
@@ -157,13 +160,15 @@ fn live_item<N: House>(
     requires writer { writer.old.table ≡ N.deed.register }
     requires declared { slice_get N.deed.config item ≡ Some def.now }
     requires shape { IsShape (shape_of def.now) }
+    requires few { length writer.old.list < MOST_ITEMS }
     ensures table { writer.new.table ≡ N.deed.register }
     ensures items { OnOk result (items_of writer.new.list ≡ items_of writer.old.list ++ fact_of item def.now ∷ []) }
+    ensures more { OnOk result (length writer.new.list ≡ length writer.old.list + 1) }
 {
     let mut live = LiveItem::<N>::new(alloc, def)?;
     let table = live.sign();
     let Ok(place) = add_item::<N>(register, writer, item, def, table) else {
-        return Err(NoMemory);
+        unreachable!()
     };
     Ok(live.at(place, item))
 }

@@ -21,7 +21,7 @@ use Rattle.ls_world.specs.World.{World, Session, history_of, change, live_at, en
 use Rattle.ls_world.specs.World.{reconfigured, constrained, numbered, forced, rebound, is_bound, unbound_at, unless_timed_out}
 use Rattle.ls_world.specs.Acting.{subscribed, add_code, change_code, constrain_code, create_code, bind_code, destroyed}
 use Rattle.ls_world.specs.Steps.{Stepped, Once, repeated, session_of, grown, is_whole, cause_to_refuse, publishes, with_link, creates, operated, operates}
-use Rattle.ls_world.specs.Steps.{session_named, refuses, refuses_stream, bound, binds, epoch_of, link_of, loses, stays}
+use Rattle.ls_world.specs.Steps.{session_named, refuses, binds, epoch_of, link_of, loses}
 use Rattle.ls_world.specs.Steps.{acts, is_opening, malformed, request_over, requests, connects, plain_create, enqueue_once, TurnGives, Gave, Idle, NotDue}
 use Rattle.ls_world.specs.Steps.{Spent, Superseded, Unbound, Over, SessionTurn}
 use Rattle.ls_world.specs.Steps.{session_turn, took, take_once, does}

@@ -1,4 +1,4 @@
-use Rattle.std.proofs.Common.{◌≡◌, take, vec_len}
+use Rattle.std.proofs.Common.{◌≡◌, length, take, vec_len}
 use Rattle.ls_register.specs.Items.{items_of, facts_of}
 use Rattle.ls_shared.proofs.shared.live_items.Given as goal
 
@@ -6,4 +6,5 @@ abbrev pub invariant-loop-item : goal.invariant-loop-item
 invariant-loop-item g l =
     (l.writer.table ≡ g.N.House.deed.register)
     × (items_of l.writer.list ≡ facts_of (take l.item g.N.House.deed.config))
+    × (length l.writer.list ≡ l.item)
     × (vec_len l.items ≡ l.item)
