@@ -303,13 +303,9 @@ fn all_enqueue(served: &mut Served) -> Result<bool, NoMemory> {
 
 /// Both sessions take their turns: the first one's two slots by turns, the second one's with a snapshot.
 fn take_turns(alloc: Global, served: &mut Served, config: &Config) -> Result<bool, NoMemory> {
-    let began = all_subscribe(alloc, served, config)?;
-    let published = all_published(alloc, served, config);
-    let enqueued = all_enqueue(served)?;
-    let first = lines(alloc, &mut served.one, &mut served.cells)?;
+    let first = first_told(alloc, served, config, 0)?;
     let second = lines(alloc, &mut served.two, &mut served.cells)?;
-    let told = first.as_slice() == FIRST && second.as_slice() == SECOND;
-    Ok(began && published && enqueued && told)
+    Ok(first && second.as_slice() == SECOND)
 }
 
 /// Whether both sessions take their turns as they must.
@@ -355,12 +351,17 @@ fn is_numbered(alloc: Global) -> Result<bool, NoMemory> {
     gives_message(alloc, &mut session)
 }
 
-/// Both sessions subscribe and have updates enqueued, and the first one is told all of it at tick 7.
-fn first_told(alloc: Global, served: &mut Served, config: &Config) -> Result<bool, NoMemory> {
+/// Both sessions subscribe and have updates enqueued, and the first one is told all of it at a tick.
+fn first_told(
+    alloc: Global,
+    served: &mut Served,
+    config: &Config,
+    now: u64,
+) -> Result<bool, NoMemory> {
     let began = all_subscribe(alloc, served, config)?;
     let published = all_published(alloc, served, config);
     let enqueued = all_enqueue(served)?;
-    let told = lines_at(alloc, &mut served.one, &mut served.cells, 7)?;
+    let told = lines_at(alloc, &mut served.one, &mut served.cells, now)?;
     Ok(began && published && enqueued && told.as_slice() == FIRST)
 }
 
@@ -393,7 +394,7 @@ fn constrains(alloc: Global, served: &mut Served) -> Result<bool, NoMemory> {
 
 /// A slot with a frequency waits for its tick, and another bandwidth is told at once.
 fn are_limited(alloc: Global, served: &mut Served, config: &Config) -> Result<bool, NoMemory> {
-    let told = first_told(alloc, served, config)? && limits(alloc, served, config)?;
+    let told = first_told(alloc, served, config, 7)? && limits(alloc, served, config)?;
     Ok(told && waits(alloc, served)? && constrains(alloc, served)?)
 }
 
@@ -457,7 +458,7 @@ fn loops(alloc: Global, served: &mut Served) -> Result<bool, NoMemory> {
 
 /// A session goes on with another stream, and then without one.
 fn goes_on(alloc: Global, served: &mut Served, config: &Config) -> Result<bool, NoMemory> {
-    let told = first_told(alloc, served, config)? && loses(served)?;
+    let told = first_told(alloc, served, config, 7)? && loses(served)?;
     Ok(told && recovers(alloc, served)? && loops(alloc, served)?)
 }
 
