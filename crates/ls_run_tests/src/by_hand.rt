@@ -156,7 +156,20 @@ fn subscribes(
     let Some(add) = add_of(alloc, params) else {
         return Ok(false);
     };
-    let Ok(plan) = session.prepare_add(&add, config, cells.free()) else {
+    adds(alloc, session, cells, config, &add)
+}
+
+/// A session is given this subscription. Whether nothing stood against it.
+fn adds(
+    alloc: Global,
+    session: &mut Session,
+    cells: &mut Cells,
+    config: &Config,
+    add: &Add,
+) -> Result<bool, NoMemory>
+    requires { AddFits add.now }
+{
+    let Ok(plan) = session.prepare_add(add, config, cells.free()) else {
         return Ok(false);
     };
     let slots = joined(alloc, cells, &plan.items)?;
@@ -331,7 +344,15 @@ fn numbers(session: &mut Session, line: &Line) -> bool {
         return false;
     };
     let number = session.finish_line(text);
-    number == 1 && session.line(1) == Some(MESSAGE) && session.last() == 1 && session.sent() == 0
+    number == 1 && is_kept(session)
+}
+
+/// Whether a session keeps the message as its one line, which wasn't given yet.
+fn is_kept(session: &Session) -> bool {
+    match session.line(1) {
+        Some(line) => line == MESSAGE && session.last() == 1 && session.sent() == 0,
+        None => false,
+    }
 }
 
 /// A session gives all its lines, with that of the message behind them.

@@ -12,10 +12,8 @@ use std::alloc::Global;
 /// What is known of a line that was read.
 #[derive(Drop)]
 enum Said {
-    /// It asks for a step.
-    Step(Repeat),
-    /// It is empty or a comment.
-    Skipped,
+    /// It asks for a step, or is empty or a comment.
+    Read(Option<Repeat>),
     /// It is outside the grammar.
     Bad,
 }
@@ -38,7 +36,7 @@ impl Given {
     /// What the last line of a script says, which begins with these lines.
     fn said(&self, alloc: Global, lines: &[u8]) -> Result<Said, Failed> {
         let mut script = Script::new(alloc)?;
-        let mut last = Said::Skipped;
+        let mut last = Said::Read(None);
         for text in [self.lines.as_slice(), lines] {
             for line in text.split(|b| *b == b'\n') {
                 last = read_line(&mut script, line)?;
@@ -73,8 +71,7 @@ impl Given {
 /// Reads a line.
 fn read_line(script: &mut Script, line: &[u8]) -> Result<Said, Failed> {
     match script.read(line) {
-        Ok(Some(asked)) => Ok(Said::Step(asked)),
-        Ok(None) => Ok(Said::Skipped),
+        Ok(asked) => Ok(Said::Read(asked)),
         Err(ScriptRefused::BadLine) => Ok(Said::Bad),
         Err(ScriptRefused::NoMemory) => Err(Failed::NoMemory),
     }
@@ -83,18 +80,18 @@ fn read_line(script: &mut Script, line: &[u8]) -> Result<Said, Failed> {
 /// What a line says.
 fn said_text(alloc: Global, said: &Said) -> Result<String, Failed> {
     match said {
-        Said::Step(asked) => {
+        Said::Read(Some(asked)) => {
             let step = step_text(alloc, &asked.step)?;
             Ok(format!(in alloc; "{step} x{}", asked.times)?)
         }
-        Said::Skipped => Ok(format!(in alloc; "skipped")?),
+        Said::Read(None) => Ok(format!(in alloc; "skipped")?),
         Said::Bad => Ok(format!(in alloc; "bad")?),
     }
 }
 
 /// The parameters of an `add` line of this number that was read.
 fn params_text(alloc: Global, line: u64, said: &Said) -> Result<String, Failed> {
-    let Said::Step(asked) = said else {
+    let Said::Read(Some(asked)) = said else {
         return Err(Failed::BadCase);
     };
     let Step::Add {
