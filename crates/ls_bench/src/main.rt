@@ -3,15 +3,19 @@
 
 mod fields;
 mod forms;
+mod offers;
 
+use ls_config::read;
+use ls_shared::Blank;
 use ls_value::NoMemory;
 use std::alloc::AllocError;
+use std::marker::Brand;
 use std::process::ExitCode;
 use std::rt::Runtime;
 use std::{env, io};
 
-/// What is shown without words that name a measurement.
-const USAGE: &str = "usage: ls_bench fields or forms";
+/// What is shown without a word that names a measurement.
+const USAGE: &str = "usage: ls_bench fields, forms or offers";
 
 /// Why a measurement ended.
 #[derive(Drop)]
@@ -24,6 +28,10 @@ pub enum Failed {
     Unread,
     /// The time grows faster than what is read.
     Grows,
+    /// An offer was refused.
+    Refused,
+    /// Four threads on four items offer too few.
+    TooSlow,
 }
 
 impl From<NoMemory> for Failed {
@@ -44,23 +52,55 @@ impl From<io::Error> for Failed {
     }
 }
 
-/// The measurement that the words of the command line name.
-fn measured<R: Runtime + AllocGlobal>(rt: &R) -> Result<(), Failed> {
+/// What can be measured.
+enum Measurement {
+    Fields,
+    Forms,
+    Offers,
+}
+
+/// The measurement that the word of the command line names.
+fn asked<R: Runtime + AllocGlobal>(rt: &R) -> Result<Option<Measurement>, Failed> {
     let mut words = env::args(rt)?;
     let _name = words.next();
     match words.next() {
-        Some(word) if word.as_str() == "fields" => fields::measure(rt),
-        Some(word) if word.as_str() == "forms" => forms::measure(rt),
-        _ => {
-            println!(rt; "{USAGE}")?;
-            Ok(())
-        }
+        Some(word) if word.as_str() == "fields" => Ok(Some(Measurement::Fields)),
+        Some(word) if word.as_str() == "forms" => Ok(Some(Measurement::Forms)),
+        Some(word) if word.as_str() == "offers" => Ok(Some(Measurement::Offers)),
+        _ => Ok(None),
     }
 }
 
-fn main(rt: HostRuntime) -> ExitCode {
-    match measured(&rt) {
+/// The status of an end.
+fn status_of(ended: Result<(), Failed>) -> ExitCode {
+    match ended {
         Ok(()) => ExitCode::SUCCESS,
         Err(_) => ExitCode::FAILURE,
     }
+}
+
+/// Says how it is used.
+fn say_usage<R: Runtime + AllocGlobal>(rt: &R) -> Result<(), Failed> {
+    println!(rt; "{USAGE}")?;
+    Ok(())
+}
+
+fn main(rt: HostRuntime) -> ExitCode {
+    match asked(&rt) {
+        Ok(Some(Measurement::Fields)) => return status_of(fields::measure(&rt)),
+        Ok(Some(Measurement::Forms)) => return status_of(forms::measure(&rt)),
+        Ok(Some(Measurement::Offers)) => {}
+        Ok(None) => return status_of(say_usage(&rt)),
+        Err(_) => return ExitCode::FAILURE,
+    }
+    let Ok(blank) = Blank::new(rt.alloc()) else {
+        return ExitCode::FAILURE;
+    };
+    let Ok(items) = offers::items(rt.alloc()) else {
+        return ExitCode::FAILURE;
+    };
+    let Ok(config) = read(rt.alloc(), items.as_bytes()) else {
+        return ExitCode::FAILURE;
+    };
+    status_of(offers::measure::<Brand, _>(&rt, blank, config))
 }

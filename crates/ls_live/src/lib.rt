@@ -15,15 +15,15 @@
 //! lock is held. An item with a place in a register ([`LiveItem::at`]) knows the passes that are its own by their
 //! places ([`LiveItem::is_of`]).
 //!
-//! No slot keeps an event back: one that lags by as much as it may is caught up. It takes no lock and tells no session.
+//! No slot keeps an event back: one that lags by as much as it may is caught up ([`weigh`]). It takes no lock and tells
+//! no session.
 #![tactic(auto)]
 
 mod cross;
 mod live;
 mod shape;
-#[cfg(test)]
-mod tests;
 mod weighing;
 
 pub use live::{LiveItem, PubPass, copied_entry, publish_copied, publish_into};
 pub use ls_event::PublishRefused;
+pub use weighing::weigh;

@@ -10,8 +10,13 @@ use ls_cell::ItemCell;
 use ls_event::{Event, PublishRefused};
 use ls_value::GREATEST_NUMBER;
 
-/// The first cause that stands against an event. A slot that lags by [`MOST_LAG`](ls_event::MOST_LAG) is caught up, and
-/// is no cause. After `NoMemory` some of these were caught up.
+/// The first cause that stands against an event of an adapter with this seq, in the order of
+/// [`publish_into`](crate::publish_into) (this project's profile). A slot that lags by [`MOST_LAG`](ls_event::MOST_LAG)
+/// events is caught up, and is no cause: `Backlog` is never answered.
+///
+/// # Errors
+///
+/// The cause. `NoMemory` only where no other one stands, and then some of the slots that lag were caught up.
 pub fn weigh(
     cell: &mut ItemCell,
     adapter: u8,

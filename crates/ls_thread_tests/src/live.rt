@@ -3,8 +3,9 @@ ghost use Rattle.std.specs.Prelude.{◌≡◌, ◌∷◌, [], IfOk, IsTrue, leng
 ghost use Rattle.ls_event.specs.History.{HasFields};
 ghost use Rattle.ls_event.specs.Shapes.{IsShape, shape_of};
 
-use ls_event::{Event, ItemDef, Kind, MOST_FIELDS, PublishRefused};
-use ls_live::{LiveItem, copied_entry, publish_copied, publish_into};
+use ls_cell::{ItemCell, Joined};
+use ls_event::{Event, ItemDef, Kind, MOST_FIELDS, MOST_SLOTS, Mode, PublishRefused, Snap};
+use ls_live::{LiveItem, copied_entry, publish_copied, publish_into, weigh};
 use ls_register::{Blank, House, add_item};
 use ls_value::{Cell, Cells, Names, NoMemory, Text};
 use std::alloc::Global;
@@ -107,5 +108,38 @@ fn a_pass_is_known_by_its_place(rt: HostRuntime) -> Result<(), Fail> {
         return Err(Fail::new("no such item"));
     }
     assert!(rt; is_published_at_its_place::<Brand>(rt.alloc(), blank, &def)?);
+    Ok(())
+}
+
+/// Publishes so many Clears.
+fn clear_often(cell: &mut ItemCell, times: u64) {
+    for seq in 0..times {
+        let _answer = cell.publish(1, seq.saturating_add(1), Event::Clear);
+    }
+}
+
+/// Whether a slot that lags is caught up, and keeps no event back.
+fn is_caught_up(alloc: Global, def: &ItemDef) -> Result<bool, NoMemory>
+    requires { IsShape (shape_of def.now) }
+{
+    let mut cell = ItemCell::new(alloc, def)?;
+    if cell.slots() as usize >= MOST_SLOTS {
+        return Ok(false);
+    }
+    let Joined { slot, .. } = cell.join(Mode::Raw, 1, Snap::No)?;
+    clear_often(&mut cell, 64);
+    let found = cell.check(1, 65, &Event::Clear);
+    let weighed = weigh(&mut cell, 1, 65, &Event::Clear);
+    let is_up_to_date = cell.has(slot) && cell.lag(slot) == 0;
+    Ok(found == Err(PublishRefused::Backlog { slot }) && weighed == Ok(()) && is_up_to_date)
+}
+
+#[test]
+fn a_slot_that_lags_is_caught_up(rt: HostRuntime) -> Result<(), Fail> {
+    let def = two_fields(rt.alloc())?;
+    if !is_shape(&def) {
+        return Err(Fail::new("no such item"));
+    }
+    assert!(rt; is_caught_up(rt.alloc(), &def)?);
     Ok(())
 }

@@ -26,10 +26,10 @@ const UPDATE: &[u8] = b"f2=3.04&f7=20:00:33";
 const THREADS: usize = 4;
 
 /// How many events each thread offers in a round.
-const EVENTS: u64 = 2_000_000;
+const EVENTS: u64 = 1_000_000;
 
 /// How many rounds there are; the best of them counts.
-const ROUNDS: u32 = 3;
+const ROUNDS: u32 = 10;
 
 /// How many times as many events, in hundredths, four threads on four items have to offer as one on one.
 const LEAST: u128 = 250;

@@ -1,4 +1,4 @@
-use Rattle.ls_offers.proofs.main.Given as goal
+use Rattle.ls_bench.proofs.main.Given as goal
 
 -- the server of the register that was just made, and of the config
 abbrev pub ghosts-measure : goal.ghosts-measure
