@@ -5,8 +5,8 @@
 //! and the clients.
 #![tactic(auto)]
 
-#[cfg(test)]
-mod tests;
+ghost use Rattle.std.specs.Prelude.{◌≡◌, ◌∷◌, ◌↔◌, [], IsTrue, map};
+ghost use Rattle.std.specs.String.{string_bytes};
 
 use ls_outside::{Put, StdSink, StdSource, write_all};
 use ls_run::{Status, run};
@@ -43,12 +43,24 @@ Standard error has the cause, with the line's number at 3.
 /// What `--version` shows.
 const VERSION: &str = "tlcpd 0.1.0\n";
 
+/// Whether the words are this one alone.
+fn are_just(words: &[String], wanted: &str) -> bool
+    ensures { IsTrue result ↔ (map string_bytes words.now ≡ wanted.now ∷ []) }
+{
+    match words {
+        [word] => word.as_str() == wanted,
+        _ => false,
+    }
+}
+
 /// The text that the words ask for, if they ask for nothing else.
 fn fixed_text(words: &[String]) -> Option<&'static str> {
-    match words {
-        [word] if word.as_str() == "--help" => Some(HELP),
-        [word] if word.as_str() == "--version" => Some(VERSION),
-        _ => None,
+    if are_just(words, "--help") {
+        Some(HELP)
+    } else if are_just(words, "--version") {
+        Some(VERSION)
+    } else {
+        None
     }
 }
 
