@@ -1,6 +1,6 @@
 -- A question is answered.
 use Rattle.std.proofs.Common.{◌≡◌, ◌<◌, ◌≤◌, ◌+◌, ◌++◌, ℕ, zero, suc, Bool, Option, List, [], ◌∷◌, length, map, take, drop, true, false, None, Some, is_some}
-use Rattle.std.proofs.Common.{Result, Ok, Err, IfOk, option_map, refl, sym, ◌∙◌, ap, subst, cond, arith, slice_get, min, nat_lt, ◌/◌, ◌^◌}
+use Rattle.std.proofs.Common.{Result, Ok, Err, inl, inr, IfOk, option_map, refl, sym, ◌∙◌, ap, subst, cond, arith, slice_get, min, nat_lt, ◌/◌, ◌^◌}
 use Rattle.std.specs.Option.{option_map_or}
 use Rattle.std.proofs.lemmas.Bool.{leb-true}
 use Rattle.std.proofs.lemmas.List.{map-append, take-map, drop-map}
@@ -29,8 +29,9 @@ use Rattle.ls_session.specs.Record.{Record, Question, question_of, answered, ans
 use Rattle.ls_stream.proofs.Moving.{lines_roomier, lines_round}
 use Rattle.ls_stream.specs.Standing.{IsShort, IsRoomier, NumbersLine}
 use Rattle.ls_stream.specs.declared.lines.Lines.{Lines as KeptLines}
-use Rattle.ls_session.specs.Session.{StandsSession, StandsRate, PassesOver, SpendsText, asked_of, ask_in}
+use Rattle.ls_session.specs.Session.{StandsSession, StandsRate, PassesOver, SpendsText, IsOther, asked_of, ask_in, suits}
 use Rattle.ls_session.specs.declared.asking.Asked.{Asked}
+use Rattle.ls_session.specs.declared.session.Reply.{Reply}
 use Rattle.ls_session.specs.declared.session.Session.{Session as Kept}
 use Rattle.ls_session.proofs.Changing.{numbered_stands}
 use Rattle.ls_session.proofs.Moves.{rate_numbered, rate_spent}
@@ -88,6 +89,12 @@ kept_stands k r a st kept = by_question (question_of r) refl
 pub kept_asked : (k : Kept) (r : Record) (v : Live) (d : Bool) (a : Asked) → StandsSession k r → question_of r ≡ Some (record { live = v; due = d })
     → k.asking.question ≡ Some a → ask_of a ≡ record { slot = ref_of v; due = d }
 kept_asked k r v d a st is kept = ap ask_of (kept_same k r (record { live = v; due = d }) a st is kept) ∙ asked_is r (record { live = v; due = d }) is
+
+-- a reply of a question that is kept is another's where it doesn't suit the question
+pub other_unsuited : (k : Kept) (r : Record) (a : Asked) (reply : Reply) → StandsSession k r → k.asking.question ≡ Some a
+    → IsOther r (ask_of a) reply → suits (is_now a.due) reply ≡ false
+other_unsuited k r a reply st kept (inl other) = absurd (other (kept_stands k r a st kept))
+other_unsuited k r a reply st kept (inr unsuited) = unsuited
 
 -- the next slot is asked next
 pub passed_stands : (k k' : Kept) (r : Record) → StandsSession k r → PassesOver k.asking k k' → StandsSession k' (passed_over r)
