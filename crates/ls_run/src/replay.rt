@@ -170,8 +170,8 @@ impl Replay {
     }
 
     /// Takes the end of the script: a rest that isn't empty is its last line.
-    pub fn finish<K: Sink>(mut self, sink: &mut K) -> Fed
-        ensures feeds { (p : Progress) → StandsFor self p
+    pub fn finish<K: Sink>(&mut self, sink: &mut K) -> Fed
+        ensures feeds { (p : Progress) → StandsFor self.old p
             → Feeds result p.world (last_line p.carry) (K.held sink.old) (K.held sink.new) [] }
         ensures cause { result ≡ Fed.WriteFault → Rose (K.faults sink.old) (K.faults sink.new) }
         ensures later { K.faults sink.old ≤ K.faults sink.new }

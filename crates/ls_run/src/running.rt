@@ -114,7 +114,7 @@ fn run_script<R: Wait, S: Source, K: Sink>(
     ensures write_fault { result ≡ Status.WriteFault → Rose (K.faults sink.old) (K.faults sink.new) }
 {
     match Replay::new(alloc) {
-        Ok(replay) => play(rt, source, sink, replay),
+        Ok(mut replay) => play(rt, source, sink, &mut replay),
         Err(NoMemory) => Status::NoMemory,
     }
 }
@@ -124,9 +124,9 @@ fn play<R: Wait, S: Source, K: Sink>(
     rt: &R,
     source: &mut S,
     sink: &mut K,
-    mut replay: Replay,
+    replay: &mut Replay,
 ) -> Status
-    requires { StandsFor replay start }
+    requires { StandsFor replay.old start }
     ensures not_usage { ¬ (result ≡ Status.Usage) }
     ensures ran { Ran result (S.unread source.old) (S.unread source.new) (K.held sink.old) (K.held sink.new) }
     ensures read_fault { result ≡ Status.ReadFault → Rose (S.faults source.old) (S.faults source.new)

@@ -66,135 +66,121 @@ fn fed(alloc: Global, client: &mut Client, line: &str) -> Result<String, LineRef
     Ok(told(alloc, client.feed(&line))?)
 }
 
-/// Whether a line has this answer, and makes this table of an item.
-fn makes(
+/// A case in words: a line, an item of a subscription, the answer to the line, and the item's table after it.
+fn item_case(
     alloc: Global,
-    client: &mut Client,
+    client: &Client,
     line: &str,
     place: (u32, u32),
-    want: (&str, &str),
-) -> Result<bool, LineRefused> {
-    let answer = fed(alloc, client, line)?;
-    let table = item_text(alloc, client, place.0, place.1)?;
-    Ok(answer.as_str() == want.0 && table.as_str() == want.1)
+    answer: &str,
+) -> Result<String, NoMemory> {
+    let (sub, item) = place;
+    let table = item_text(alloc, client, sub, item)?;
+    Ok(format!(in alloc; "{line} > {sub} > {item} > {answer} > {table}")?)
 }
 
-/// Whether a line has this answer, and makes this table with keys.
-fn makes_keys(
-    alloc: Global,
-    client: &mut Client,
-    line: &str,
-    want: (&str, &str),
-) -> Result<bool, LineRefused> {
+/// Feeds a case's line. Answers the case as it is then, which is the same where it holds.
+fn item_fed(alloc: Global, client: &mut Client, case: &str) -> Result<String, LineRefused> {
+    let mut parts = case.split(" > ");
+    let line = parts.next().unwrap_or("");
+    let sub = parts.next().unwrap_or("").parse::<u32>().unwrap_or(0);
+    let item = parts.next().unwrap_or("").parse::<u32>().unwrap_or(0);
     let answer = fed(alloc, client, line)?;
-    let table = keyed_text(alloc, client)?;
-    Ok(answer.as_str() == want.0 && table.as_str() == want.1)
+    Ok(item_case(alloc, client, line, (sub, item), answer.as_str())?)
 }
+
+/// A case in words: a line, the answer to it, and the table of the first item of subscription 1 after it, with its keys.
+fn keyed_case(
+    alloc: Global,
+    client: &Client,
+    line: &str,
+    answer: &str,
+) -> Result<String, NoMemory> {
+    let table = keyed_text(alloc, client)?;
+    Ok(format!(in alloc; "{line} > {answer} > {table}")?)
+}
+
+/// Feeds a case's line. Answers the case as it is then, which is the same where it holds.
+fn keyed_fed(alloc: Global, client: &mut Client, case: &str) -> Result<String, LineRefused> {
+    let line = case.split(" > ").next().unwrap_or("");
+    let answer = fed(alloc, client, line)?;
+    Ok(keyed_case(alloc, client, line, answer.as_str())?)
+}
+
+/// A line, a subscription and an item, the answer to the line, and the item's table after it.
+const TABLES: &str = "\
+EOS,1,1 > 1 > 1 > unknown 1 1 > none
+UNSUB,1 > 1 > 1 > unknown 1 0 > none
+CONF,1,unlimited,filtered > 1 > 1 > unknown 1 0 > none
+SUBOK,3,2,3 > 3 > 1 > ok > - 0 0
+CONF,3,2.0,filtered > 3 > 2 > ok > - 0 0
+U,3,1,20:00:33|3.04|# > 3 > 1 > ok > 20:00:33|3.04|# 1 0
+U,3,1,|3.07| > 3 > 1 > ok > 20:00:33|3.07|# 2 0
+U,3,1,^2|$ > 3 > 1 > ok > 20:00:33|3.07| 3 0
+U,3,2,^3 > 3 > 2 > ok > #|#|# 1 0
+U,3,2,a|b > 3 > 2 > bad > #|#|# 1 0
+U,3,2,a|b|c|d > 3 > 2 > bad > #|#|# 1 0
+U,3,2,a|b|%FF > 3 > 2 > bad > #|#|# 1 0
+U,3,3,a|b|c > 3 > 3 > unknown 3 3 > none
+U,4,1,a|b|c > 4 > 1 > unknown 4 1 > none
+OV,3,2,7 > 3 > 2 > ok > #|#|# 1 7
+OV,3,2,5 > 3 > 2 > ok > #|#|# 1 12
+OV,3,3,5 > 3 > 2 > unknown 3 3 > #|#|# 1 12
+EOS,3,1 > 3 > 1 > ok > 20:00:33|3.07| 3 0
+CS,3,1 > 3 > 1 > ok > 20:00:33|3.07| 3 0
+U,3,1,x|| > 3 > 1 > ok > x|3.07| 4 0
+PROBE > 3 > 1 > ok > x|3.07| 4 0
+END,31,Destroyed by request > 3 > 1 > ok > x|3.07| 4 0
+SUBOK,1,1,1 > 3 > 2 > ok > #|#|# 1 12
+U,1,1,1 > 1 > 1 > ok > 1 1 0
+U,1,1, > 1 > 1 > ok > 1 2 0
+SUBOK,3,1,1 > 3 > 1 > ok > - 0 0
+U,3,1, > 3 > 1 > ok > # 1 0
+EOS,3,2 > 3 > 2 > unknown 3 2 > none
+UNSUB,3 > 3 > 1 > ok > none
+UNSUB,3 > 1 > 1 > unknown 3 0 > 1 2 0
+CS,3,1 > 1 > 1 > unknown 3 1 > 1 2 0
+";
 
 #[test]
 fn tables_are_of_the_lines(rt: HostRuntime) -> Result<(), Fail> {
     let mut client = Client::new(rt.alloc())?;
-    // A line, an item, the answer, and the item's table after it.
-    let cases = [
-        ("EOS,1,1", 1, 1, "unknown 1 1", "none"),
-        ("UNSUB,1", 1, 1, "unknown 1 0", "none"),
-        ("CONF,1,unlimited,filtered", 1, 1, "unknown 1 0", "none"),
-        ("SUBOK,3,2,3", 3, 1, "ok", "- 0 0"),
-        ("CONF,3,2.0,filtered", 3, 2, "ok", "- 0 0"),
-        ("U,3,1,20:00:33|3.04|#", 3, 1, "ok", "20:00:33|3.04|# 1 0"),
-        ("U,3,1,|3.07|", 3, 1, "ok", "20:00:33|3.07|# 2 0"),
-        ("U,3,1,^2|$", 3, 1, "ok", "20:00:33|3.07| 3 0"),
-        ("U,3,2,^3", 3, 2, "ok", "#|#|# 1 0"),
-        ("U,3,2,a|b", 3, 2, "bad", "#|#|# 1 0"),
-        ("U,3,2,a|b|c|d", 3, 2, "bad", "#|#|# 1 0"),
-        ("U,3,2,a|b|%FF", 3, 2, "bad", "#|#|# 1 0"),
-        ("U,3,3,a|b|c", 3, 3, "unknown 3 3", "none"),
-        ("U,4,1,a|b|c", 4, 1, "unknown 4 1", "none"),
-        ("OV,3,2,7", 3, 2, "ok", "#|#|# 1 7"),
-        ("OV,3,2,5", 3, 2, "ok", "#|#|# 1 12"),
-        ("OV,3,3,5", 3, 2, "unknown 3 3", "#|#|# 1 12"),
-        ("EOS,3,1", 3, 1, "ok", "20:00:33|3.07| 3 0"),
-        ("CS,3,1", 3, 1, "ok", "20:00:33|3.07| 3 0"),
-        ("U,3,1,x||", 3, 1, "ok", "x|3.07| 4 0"),
-        ("PROBE", 3, 1, "ok", "x|3.07| 4 0"),
-        ("END,31,Destroyed by request", 3, 1, "ok", "x|3.07| 4 0"),
-        ("SUBOK,1,1,1", 3, 2, "ok", "#|#|# 1 12"),
-        ("U,1,1,1", 1, 1, "ok", "1 1 0"),
-        ("U,1,1,", 1, 1, "ok", "1 2 0"),
-        ("SUBOK,3,1,1", 3, 1, "ok", "- 0 0"),
-        ("U,3,1,", 3, 1, "ok", "# 1 0"),
-        ("EOS,3,2", 3, 2, "unknown 3 2", "none"),
-        ("UNSUB,3", 3, 1, "ok", "none"),
-        ("UNSUB,3", 1, 1, "unknown 3 0", "1 2 0"),
-        ("CS,3,1", 1, 1, "unknown 3 1", "1 2 0"),
-    ];
-    for (line, sub, item, answer, table) in cases {
+    for case in TABLES.lines() {
         assert!(rt;
-            makes(rt.alloc(), &mut client, line, (sub, item), (answer, table))?,
-            "{line}"
+            item_fed(rt.alloc(), &mut client, case)?.as_str() == case,
+            "{case}"
         );
     }
     Ok(())
 }
 
+/// A line, the answer to it, and the table of the first item of subscription 1 after it, with its keys.
+const KEYS: &str = "\
+SUBCMD,1,1,4,1,2 > ok > - 0 0; a -; b -; 0
+U,1,1,a|ADD|1|9 > ok > a|ADD|1|9 1 0; a a|#|1|9; b -; 1
+EOS,1,1 > ok > a|ADD|1|9 1 0; a a|#|1|9; b -; 1
+U,1,1,|UPDATE|3| > ok > a|UPDATE|3|9 2 0; a a|#|3|9; b -; 1
+U,1,1,b|ADD||# > ok > b|ADD|3|# 3 0; a a|#|3|9; b b|#|3|#; 2
+U,1,1,#|ADD|| > bad > b|ADD|3|# 3 0; a a|#|3|9; b b|#|3|#; 2
+U,1,1,|#|| > bad > b|ADD|3|# 3 0; a a|#|3|9; b b|#|3|#; 2
+U,1,1,|GO|| > bad > b|ADD|3|# 3 0; a a|#|3|9; b b|#|3|#; 2
+U,1,1,|add|| > bad > b|ADD|3|# 3 0; a a|#|3|9; b b|#|3|#; 2
+U,1,1,a|DELETE|#| > ok > a|DELETE|#|# 4 0; a -; b b|#|3|#; 1
+U,1,1,^4 > ok > a|DELETE|#|# 5 0; a -; b b|#|3|#; 1
+U,1,1,|UPDATE|5| > ok > a|UPDATE|5|# 6 0; a a|#|5|#; b b|#|3|#; 2
+CS,1,1 > ok > a|UPDATE|5|# 6 0; a -; b -; 0
+U,1,1,b|ADD|^2 > ok > b|ADD|5|# 7 0; a -; b b|#|5|#; 1
+SUBCMD,1,1,2,2,3 > ok > - 0 0; a -; b -; 0
+U,1,1,a|b > bad > - 0 0; a -; b -; 0
+";
+
 #[test]
 fn keys_follow_their_commands(rt: HostRuntime) -> Result<(), Fail> {
     let mut client = Client::new(rt.alloc())?;
-    // A line, the answer, and the table after it.
-    let cases = [
-        ("SUBCMD,1,1,4,1,2", "ok", "- 0 0; a -; b -; 0"),
-        ("U,1,1,a|ADD|1|9", "ok", "a|ADD|1|9 1 0; a a|#|1|9; b -; 1"),
-        ("EOS,1,1", "ok", "a|ADD|1|9 1 0; a a|#|1|9; b -; 1"),
-        (
-            "U,1,1,|UPDATE|3|",
-            "ok",
-            "a|UPDATE|3|9 2 0; a a|#|3|9; b -; 1",
-        ),
-        (
-            "U,1,1,b|ADD||#",
-            "ok",
-            "b|ADD|3|# 3 0; a a|#|3|9; b b|#|3|#; 2",
-        ),
-        (
-            "U,1,1,#|ADD||",
-            "bad",
-            "b|ADD|3|# 3 0; a a|#|3|9; b b|#|3|#; 2",
-        ),
-        (
-            "U,1,1,|#||",
-            "bad",
-            "b|ADD|3|# 3 0; a a|#|3|9; b b|#|3|#; 2",
-        ),
-        (
-            "U,1,1,|GO||",
-            "bad",
-            "b|ADD|3|# 3 0; a a|#|3|9; b b|#|3|#; 2",
-        ),
-        (
-            "U,1,1,|add||",
-            "bad",
-            "b|ADD|3|# 3 0; a a|#|3|9; b b|#|3|#; 2",
-        ),
-        (
-            "U,1,1,a|DELETE|#|",
-            "ok",
-            "a|DELETE|#|# 4 0; a -; b b|#|3|#; 1",
-        ),
-        ("U,1,1,^4", "ok", "a|DELETE|#|# 5 0; a -; b b|#|3|#; 1"),
-        (
-            "U,1,1,|UPDATE|5|",
-            "ok",
-            "a|UPDATE|5|# 6 0; a a|#|5|#; b b|#|3|#; 2",
-        ),
-        ("CS,1,1", "ok", "a|UPDATE|5|# 6 0; a -; b -; 0"),
-        ("U,1,1,b|ADD|^2", "ok", "b|ADD|5|# 7 0; a -; b b|#|5|#; 1"),
-        ("SUBCMD,1,1,2,2,3", "ok", "- 0 0; a -; b -; 0"),
-        ("U,1,1,a|b", "bad", "- 0 0; a -; b -; 0"),
-    ];
-    for (line, answer, table) in cases {
+    for case in KEYS.lines() {
         assert!(rt;
-            makes_keys(rt.alloc(), &mut client, line, (answer, table))?,
-            "{line}"
+            keyed_fed(rt.alloc(), &mut client, case)?.as_str() == case,
+            "{case}"
         );
     }
     Ok(())

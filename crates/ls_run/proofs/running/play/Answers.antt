@@ -5,7 +5,7 @@ use Rattle.ls_run.proofs.running.play.Goals as goal
 
 pub loop-init : goal.loop-init
 loop-init g c = (
-  going_start c.args.replay _ _ c.requires,
+  going_start c.args.replay.now _ _ c.requires,
   omega arith,
   omega arith,
   rose_by_none _ _ (omega arith),
