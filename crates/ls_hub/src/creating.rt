@@ -69,8 +69,8 @@ impl Hub {
             → StandsHub self.new (created w connection create.now)) }
     {
         let place = self.sessions.len();
-        let session = Session::new(self.alloc, place as u64 + 1, create, self.tick)?;
         self.living.reserve(1)?;
+        let session = Session::new(self.alloc, place as u64 + 1, create, self.tick)?;
         self.sessions.push(session)?;
         self.living.push_reserved(place);
         give_session(&mut self.connections, connection, place, 1);

@@ -28,7 +28,7 @@ pub(crate) fn opening(
 {
     let mut lines = Vec::new(alloc);
     lines.push(session_text(alloc, number, keepalive)?)?;
-    lines.push(text(alloc, &Line::ServName)?)?;
+    lines.push(text_of(alloc, Line::ServName)?)?;
     let cons = bandwidth_text(alloc, bandwidth)?;
     lines.push(cons)?;
     Ok(lines)
@@ -62,12 +62,19 @@ fn with_count(alloc: Global, mut lines: Vec<Bytes>, count: u64) -> Result<Vec<By
     Ok(lines)
 }
 
+/// The text of a line.
+pub(crate) fn text_of(alloc: Global, line: Line) -> Result<Bytes, NoMemory>
+    ensures { IfOk result (λ t. t ≡ text_of_line line) }
+{
+    text(alloc, &line)
+}
+
 /// The line `PROG` with a count.
 fn count_text(alloc: Global, count: u64) -> Result<Bytes, NoMemory>
     ensures text { IfOk result (λ t. t ≡ text_of_line (line.Prog count)) }
     ensures short { IfOk result (λ t. IsShort t) }
 {
-    text(alloc, &Line::Prog { count })
+    text_of(alloc, Line::Prog { count })
 }
 
 /// The line `CONOK` of a session of this number.
@@ -75,9 +82,9 @@ fn session_text(alloc: Global, number: u64, keepalive: u32) -> Result<Bytes, NoM
     ensures { IfOk result (λ t. t ≡ text_of_line (line.ConOk (codes "S" ++ decimal number) keepalive)) }
 {
     let name = format!(in alloc; "S{number}")?;
-    text(
+    text_of(
         alloc,
-        &Line::ConOk {
+        Line::ConOk {
             session: Text::from_string(name),
             keep_alive: u64::from(keepalive),
         },
@@ -90,7 +97,7 @@ pub fn bandwidth_text(alloc: Global, limit: Option<u64>) -> Result<Bytes, NoMemo
     ensures short { IfOk result (λ t. IsShort t) }
 {
     let bandwidth = limit_word(alloc, limit)?;
-    text(alloc, &Line::Cons { bandwidth })
+    text_of(alloc, Line::Cons { bandwidth })
 }
 
 /// A bandwidth as a line tells it: `unlimited` where there is none.

@@ -212,12 +212,13 @@ impl ClientRows {
         ensures { OnOk result (text.new.items ≡ text.old.items
             ++ tells_text self.now.row sub item (what_in self.now.next kind)) }
     {
-        match kind {
-            LineKind::Row => append_row(text, sub, item, self.row.as_ref(), &self.next),
-            LineKind::Lost(lost) => append(text, &Line::Ov { sub, item, lost }),
-            LineKind::Cleared => append(text, &Line::Cs { sub, item }),
-            LineKind::End => append(text, &Line::Eos { sub, item }),
-        }
+        let line = match kind {
+            LineKind::Row => return append_row(text, sub, item, self.row.as_ref(), &self.next),
+            LineKind::Lost(lost) => Line::Ov { sub, item, lost },
+            LineKind::Cleared => Line::Cs { sub, item },
+            LineKind::End => Line::Eos { sub, item },
+        };
+        append(text, &line)
     }
 
     /// Changes what the client has by what a line told. After `NoMemory` it has what it had.

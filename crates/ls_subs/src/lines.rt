@@ -43,19 +43,17 @@ pub fn begin_text(
     requires { (k : _) → keys ≡ Some k → (k.key ≤ MOST_FIELDS) × (k.command ≤ MOST_FIELDS) }
     ensures { IfOk result (λ t. t ≡ line_text [] (Begins sub items fields keys)) }
 {
-    match keys {
-        None => text(alloc, &Line::SubOk { sub, items, fields }),
-        Some(keys) => text(
-            alloc,
-            &Line::SubCmd {
-                sub,
-                items,
-                fields,
-                key: keys.key as u32 + 1,
-                command: keys.command as u32 + 1,
-            },
-        ),
-    }
+    let line = match keys {
+        None => Line::SubOk { sub, items, fields },
+        Some(keys) => Line::SubCmd {
+            sub,
+            items,
+            fields,
+            key: keys.key as u32 + 1,
+            command: keys.command as u32 + 1,
+        },
+    };
+    text_of(alloc, line)
 }
 
 /// The line `CONF,<sub>,<frequency>,<filtered or unfiltered>`: the greatest frequency is given in thousandths of an
@@ -70,14 +68,19 @@ pub fn configure_text(
 {
     let frequency = frequency_word(alloc, frequency)?;
     let filter = Text::from_str(alloc, filter_word(filtered))?;
-    text(
-        alloc,
-        &Line::Conf {
-            sub,
-            frequency,
-            filter,
-        },
-    )
+    let line = Line::Conf {
+        sub,
+        frequency,
+        filter,
+    };
+    text_of(alloc, line)
+}
+
+/// The text of a line.
+fn text_of(alloc: Global, line: Line) -> Result<Bytes, NoMemory>
+    ensures { IfOk result (λ t. t ≡ text_of_line line) }
+{
+    text(alloc, &line)
 }
 
 /// A greatest frequency as a line tells it.
