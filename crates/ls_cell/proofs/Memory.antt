@@ -54,7 +54,7 @@ keys_not p (state.Command ks) (Update cells) is =
     cond_not (nat_le MOST_KEYS (length ks) && adds_key p ks cells) push.TooManyKeys (λ x. cc) is
 keys_not p (state.Command ks) Clear is = cc
 
-push_not : (p : Shape) (s : Snapshot) (e : Event) → push_refusal p s e ≡ Some push.NoMemory → ⊥
+pub push_not : (p : Shape) (s : Snapshot) (e : Event) → push_refusal p s e ≡ Some push.NoMemory → ⊥
 push_not p s e =
     let bytes = weight_made e (row_made p s e) in
     or_not (order_refusal p s e) (option_or (weight_refusal bytes) (keys_refusal p s e)) (first_not p s e)
@@ -62,7 +62,7 @@ push_not p s e =
     (cond_not (nat_lt MOST_WEIGHT bytes) (push.TooLong bytes) (λ x. cc)) (keys_not p s e))
 
 -- the causes in their order
-abbrev in_order : Bool → ℕ → Option PushRefused → Option ℕ → Bool → Option PublishRefused
+abbrev pub in_order : Bool → ℕ → Option PushRefused → Option ℕ → Bool → Option PublishRefused
 in_order repeated last pushed far spent =
     cond repeated (Some (refused.Repeated last))
     (option_or (option_map publish_cause pushed) (backlog_or far (cond spent (Some refused.Spent) None)))

@@ -1,75 +1,25 @@
 -- Why a publish is refused, where slots that lag are caught up.
 use Rattle.std.proofs.Common.{◌≡◌, ℕ, ◌≤◌, List, length, refl, sym, ◌∙◌, ap, subst, Bool, true, false, cond, Option, Some, None}
-use Rattle.std.proofs.Common.{Result, Ok, Err, IfErr, nat_le, nat_lt, ◌&&◌, option_map, slice_index}
-use Rattle.std.specs.Option.{option_or}
+use Rattle.std.proofs.Common.{Result, Ok, Err, IfErr, nat_le, slice_index}
 use Rattle.ls_value.specs.declared.limits.TheConstants.{GREATEST_NUMBER}
 use Rattle.ls_event.specs.declared.event.Event.{Event}
-use Rattle.ls_event.specs.declared.event.Event.TheVariants.{Update, Clear}
 use Rattle.ls_event.specs.declared.event.Entry.{Entry}
 use Rattle.ls_event.specs.declared.event.PushRefused.{PushRefused}
 use Rattle.ls_event.specs.declared.event.PushRefused.TheVariants as push
 use Rattle.ls_event.specs.declared.event.PublishRefused.{PublishRefused}
 use Rattle.ls_event.specs.declared.event.PublishRefused.TheVariants as refused
-use Rattle.ls_event.specs.declared.orders.Order.{Order}
-use Rattle.ls_event.specs.declared.orders.CommandRefused.{CommandRefused}
-use Rattle.ls_event.specs.declared.orders.CommandRefused.TheVariants as order
-use Rattle.ls_event.specs.declared.snapshot.Snapshot.{Snapshot}
-use Rattle.ls_event.specs.declared.snapshot.Snapshot.TheVariants as state
-use Rattle.ls_event.specs.declared.limits.TheConstants.{MOST_ADAPTERS, MOST_WEIGHT, MOST_KEYS}
+use Rattle.ls_event.specs.declared.limits.TheConstants.{MOST_ADAPTERS}
 use Rattle.ls_event.specs.History.{last_seq}
 use Rattle.ls_event.specs.Shapes.{Shape}
-use Rattle.ls_event.specs.Orders.{order_of}
-use Rattle.ls_event.specs.States.{state_at, push_refusal, order_refusal, order_cause, weight_refusal, weight_made, row_made}
-use Rattle.ls_event.specs.States.{keys_refusal, adds_key}
-use Rattle.ls_event.specs.Publishes.{publish_cause, backlog_or}
+use Rattle.ls_event.specs.States.{state_at, push_refusal}
 use Rattle.ls_cell.specs.Numbered.{first_lagging}
 use Rattle.ls_cell.specs.Any.{any_last}
 use Rattle.ls_cell.specs.Cell.{Held, refusal_of, least_lagging}
+use Rattle.ls_cell.proofs.Memory.{in_order, push_not}
 use Rattle.ls_cell.proofs.Refusals.{refusal_is}
 use Rattle.ls_live.specs.Live.{IsCause, StandsFor, cause_in, entry_of, lagging_in}
 
--- want of memory is no cause that a state has
-or_not : (a b : Option PushRefused) → (a ≡ Some push.NoMemory → ⊥) → (b ≡ Some push.NoMemory → ⊥)
-    → option_or a b ≡ Some push.NoMemory → ⊥
-or_not None b first rest is = rest is
-or_not (Some x) b first rest is = first is
-
-cond_not : (v : Bool) (x : PushRefused) → (Some x ≡ Some push.NoMemory → ⊥) → cond v (Some x) None ≡ Some push.NoMemory
-    → ⊥
-cond_not true x no_cause is = no_cause is
-cond_not false x no_cause is = cc
-
-order_not : (r : Result Order CommandRefused) → order_cause r ≡ Some push.NoMemory → ⊥
-order_not (Ok o) is = cc
-order_not (Err order.NoKey) is = cc
-order_not (Err order.BadCommand) is = cc
-
-first_not : (p : Shape) (s : Snapshot) (e : Event) → order_refusal p s e ≡ Some push.NoMemory → ⊥
-first_not p (state.Merge row) e is = cc
-first_not p (state.Distinct rows) e is = cc
-first_not p (state.Command ks) (Update cells) is = order_not (order_of cells p.key p.command) is
-first_not p (state.Command ks) Clear is = cc
-
-keys_not : (p : Shape) (s : Snapshot) (e : Event) → keys_refusal p s e ≡ Some push.NoMemory → ⊥
-keys_not p (state.Merge row) e is = cc
-keys_not p (state.Distinct rows) e is = cc
-keys_not p (state.Command ks) (Update cells) is =
-    cond_not (nat_le MOST_KEYS (length ks) && adds_key p ks cells) push.TooManyKeys (λ x. cc) is
-keys_not p (state.Command ks) Clear is = cc
-
-push_not : (p : Shape) (s : Snapshot) (e : Event) → push_refusal p s e ≡ Some push.NoMemory → ⊥
-push_not p s e =
-    let bytes = weight_made e (row_made p s e) in
-    or_not (order_refusal p s e) (option_or (weight_refusal bytes) (keys_refusal p s e)) (first_not p s e)
-    (or_not (weight_refusal bytes) (keys_refusal p s e)
-    (cond_not (nat_lt MOST_WEIGHT bytes) (push.TooLong bytes) (λ x. cc)) (keys_not p s e))
-
--- the causes in their order
-abbrev in_order : Bool → ℕ → Option PushRefused → Option ℕ → Bool → Option PublishRefused
-in_order repeated last pushed far spent =
-    cond repeated (Some (refused.Repeated last))
-    (option_or (option_map publish_cause pushed) (backlog_or far (cond spent (Some refused.Spent) None)))
-
+-- a cause is itself
 is_cause : (x e : PublishRefused) → (x ≡ refused.NoMemory → ⊥) → Some x ≡ Some e → IsCause (Some x) e
 is_cause x e memory is = let same : x ≡ e = cc in subst (IsCause (Some x)) same (own x memory)
   where
