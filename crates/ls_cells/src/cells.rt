@@ -72,9 +72,10 @@ impl Cells {
         ensures err { OnErr result ((items : List Item) (lives : List Live) → StandsCells self.old items lives
             → StandsCells self.new items lives) }
     {
-        let cell = ItemCell::new(self.alloc, definition)?;
         self.settled.reserve(1)?;
-        self.cells.push(cell)?;
+        self.cells.reserve(1)?;
+        let cell = ItemCell::new(self.alloc, definition)?;
+        self.cells.push_reserved(cell);
         self.settled.push_reserved(Marks::new(self.alloc));
         Ok(())
     }

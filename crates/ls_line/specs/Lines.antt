@@ -91,8 +91,10 @@ part_text (Coded bytes) = bytes
 -- and of one that a line lends
 abbrev pub lent_text : Lent → List ℕ
 lent_text (lent.Fixed w) = word_text w
-lent_text (lent.Number n) = decimal n
-lent_text (lent.Bytes bytes) = bytes.now
+lent_text (lent.Ordinal n) = decimal n
+lent_text (lent.Count n) = decimal n
+lent_text (lent.Text t) = t.now
+lent_text (lent.Coded bytes) = bytes.now
 
 -- a text with others behind it, each after a comma
 abbrev pub then_texts : List ℕ → List (List ℕ) → List ℕ

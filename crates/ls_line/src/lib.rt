@@ -1,9 +1,9 @@
 //! Lines of TLCP 2.1, as data and as text.
 //!
 //! [`Line`] has a variant for each tag, with a field for each part. [`append`] writes a line's text behind others,
-//! and [`text`] gives it in memory of its own; [`append_update`] writes a U line up to its coded fields, which
-//! `ls_update` appends. [`read`] reads a line, or says by [`LineRefused`] why there is none; [`counts`] tells which
-//! lines PROG counts. [`LineBuf`] holds one text in room that it has from its beginning.
+//! and [`text`] and [`into_text`] give it in memory of its own; [`append_update`] writes a U line up to its coded
+//! fields, which `ls_update` appends. [`read`] reads a line, or says by [`LineRefused`] why there is none; [`counts`]
+//! tells which lines PROG counts. [`LineBuf`] holds one text in room that it has from its beginning.
 //!
 //! `Line::Ov { sub: 3, item: 1, lost: 6 }` has the text `OV,3,1,6`, and is read from it again.
 //!
@@ -29,4 +29,4 @@ pub use law::{
 };
 pub use line::{Line, LineRefused};
 pub use reading::read;
-pub use writing::{append, append_update, counts, text};
+pub use writing::{append, append_update, counts, into_text, text};

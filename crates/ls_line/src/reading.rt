@@ -4,6 +4,7 @@ ghost use Rattle.std.specs.List.{list_all};
 ghost use Rattle.std.specs.Str.{is_utf8};
 ghost use Rattle.ls_line.specs.Lines.{text_of_line, is_message_byte, IsWritable};
 ghost use Rattle.ls_line.specs.Forms.{kinds_of};
+ghost use Rattle.ls_line.specs.Pieces.{first_piece};
 ghost use Rattle.ls_line.specs.Reading.{piece, has_rest, has_parts, ordinal_in, count_in, or_zero};
 ghost use Rattle.ls_line.specs.Reading.{is_bad_number, is_bad_text, first_bad, cause_behind, refusal, line_behind};
 ghost use Rattle.ls_line.specs.Reading.{line_of, AnswersFirst};
@@ -144,21 +145,21 @@ fn cause_behind(tag: Tag, bytes: &[u8]) -> Option<LineRefused>
     None
 }
 
-/// The ordinal that a piece says; 0 where it says none.
-fn ordinal(bytes: &[u8]) -> u32
-    ensures { result ≡ or_zero (ordinal_in bytes.now) }
+/// The ordinal that the first piece says; 0 where it says none.
+fn ordinal(rest: &[u8]) -> u32
+    ensures { result ≡ or_zero (ordinal_in (first_piece rest.now)) }
 {
-    match ordinal_in(bytes) {
+    match ordinal_in(first_piece(rest)) {
         Some(n) => n,
         None => 0,
     }
 }
 
-/// The other number that a piece says; 0 where it says none.
-fn count(bytes: &[u8]) -> u64
-    ensures { result ≡ or_zero (count_in bytes.now) }
+/// The other number that the first piece says; 0 where it says none.
+fn count(rest: &[u8]) -> u64
+    ensures { result ≡ or_zero (count_in (first_piece rest.now)) }
 {
-    match count_in(bytes) {
+    match count_in(first_piece(rest)) {
         Some(n) => n,
         None => 0,
     }
@@ -174,29 +175,49 @@ fn owned(alloc: Global, bytes: &[u8]) -> Result<Text, NoMemory>
     }
 }
 
-/// Reads the next part, and goes on behind it.
+/// Both of these bytes as texts. They are UTF-8, so that only memory is wanted.
+fn both_owned(alloc: Global, first: &[u8], second: &[u8]) -> Result<(Text, Text), NoMemory>
+    ensures first { IfOk result (λ texts. texts.0 ≡ first.now) }
+    ensures second { IfOk result (λ texts. texts.1 ≡ second.now) }
+{
+    let first = owned(alloc, first)?;
+    let second = owned(alloc, second)?;
+    Ok((first, second))
+}
+
+/// Reads the next part.
 macro_rules! part {
-    ($alloc:ident $rest:ident word($word:ident)) => {
+    ($alloc:ident $rest:ident word($word:ident)) => {};
+    ($alloc:ident $rest:ident ordinal($field:ident)) => { let $field = ordinal($rest); };
+    ($alloc:ident $rest:ident count($field:ident)) => { let $field = count($rest); };
+    ($alloc:ident $rest:ident text($field:ident)) => { let $field = owned($alloc, first_piece($rest))?; };
+    ($alloc:ident $rest:ident message($field:ident)) => { let $field = owned($alloc, $rest)?; };
+    ($alloc:ident $rest:ident coded($field:ident)) => { let $field = Bytes::of($alloc, $rest)?; };
+}
+
+/// Reads the parts, each behind the one before, and makes the line. Two texts are taken at once, since each exit behind
+/// a text that is owned makes the proof of `line_behind` longer.
+macro_rules! with_parts {
+    ($alloc:ident $rest:ident $line:expr;) => { Ok($line) };
+    ($alloc:ident $rest:ident $line:expr; text($first:ident) text($second:ident)) => {{
+        let ($first, $second) = both_owned($alloc, first_piece($rest), first_piece(behind($rest)))?;
+        Ok($line)
+    }};
+    ($alloc:ident $rest:ident $line:expr; text($first:ident) count($field:ident) message($second:ident)) => {{
+        let last = behind($rest);
+        let $field = count(last);
+        let ($first, $second) = both_owned($alloc, first_piece($rest), behind(last))?;
+        Ok($line)
+    }};
+    ($alloc:ident $rest:ident $line:expr; $kind:ident($part:ident)) => {{
+        part!($alloc $rest $kind($part));
+        Ok($line)
+    }};
+    ($alloc:ident $rest:ident $line:expr; $kind:ident($part:ident) $($more:tt)+) => {{
+        part!($alloc $rest $kind($part));
         let $rest = behind($rest);
-    };
-    ($alloc:ident $rest:ident ordinal($field:ident)) => {
-        let $field = ordinal(first_piece($rest));
-        let $rest = behind($rest);
-    };
-    ($alloc:ident $rest:ident count($field:ident)) => {
-        let $field = count(first_piece($rest));
-        let $rest = behind($rest);
-    };
-    ($alloc:ident $rest:ident text($field:ident)) => {
-        let $field = owned($alloc, first_piece($rest))?;
-        let $rest = behind($rest);
-    };
-    ($alloc:ident $rest:ident message($field:ident)) => {
-        let $field = owned($alloc, $rest)?;
-    };
-    ($alloc:ident $rest:ident coded($field:ident)) => {
-        let $field = Bytes::of($alloc, $rest)?;
-    };
+        with_parts!($alloc $rest $line; $($more)+)
+    }};
 }
 
 macro_rules! made {
@@ -205,10 +226,7 @@ macro_rules! made {
         written { $($written:tt)* }
     ) => {
         match $given {
-            $(Tag::$variant => {
-                $(part!($alloc $rest $kind($part));)*
-                Ok(Line::$variant { $($field),* })
-            })*
+            $(Tag::$variant => with_parts!($alloc $rest Line::$variant { $($field),* }; $($kind($part))*),)*
         }
     };
 }

@@ -3,7 +3,7 @@ ghost use Rattle.std.specs.Prelude.{◌≡◌};
 ghost use Rattle.ls_line.specs.Lines.{word_text};
 ghost use Rattle.ls_line.specs.Forms.{tags_read, tag_text, kinds_of, is_rest, tag_of};
 
-use ls_value::same_bytes;
+use ls_value::{Text, same_bytes};
 
 /// The table of lines. A row has the variant of `Line` with its fields, the tag, whether PROG counts the line, and
 /// the parts: a field and what it is, or a word. The lines of messages are not read, and have no `Tag`.
@@ -107,10 +107,14 @@ pub(crate) enum Kind {
 pub(crate) enum Lent<'a> {
     /// This word.
     Fixed(Word),
-    /// A number, in decimal digits.
-    Number(u64),
-    /// These bytes.
-    Bytes(&'a [u8]),
+    /// A number from 1 to `GREATEST_ORDINAL`.
+    Ordinal(u32),
+    /// Another number.
+    Count(u64),
+    /// A text or a message.
+    Text(&'a Text),
+    /// Bytes that are the rest of the line.
+    Coded(&'a [u8]),
 }
 
 macro_rules! kind {

@@ -1,5 +1,5 @@
 //! Texts of lines (TLCP 2.1).
-ghost use Rattle.std.specs.Prelude.{◌≡◌, ◌++◌, ℕ, List, IfOk, OnOk, false, map};
+ghost use Rattle.std.specs.Prelude.{◌≡◌, ◌≤◌, ◌++◌, ℕ, List, take, IfOk, OnOk, false, map};
 ghost use Rattle.ls_line.specs.declared.line.Line.TheVariants as line;
 ghost use Rattle.ls_line.specs.Lines.{text_of_line, is_data, is_of_message, IsWritable, lent_text, then_texts};
 ghost use Rattle.ls_line.specs.Reading.{Says};
@@ -10,23 +10,47 @@ use ls_value::{Bytes, NoMemory};
 use ls_words::append_decimal;
 use std::alloc::Global;
 
-macro_rules! lent {
-    (word($word:ident)) => { Lent::Fixed(Word::$word) };
-    (ordinal($field:ident)) => { Lent::Number(u64::from(*$field)) };
-    (count($field:ident)) => { Lent::Number(*$field) };
-    (text($field:ident)) => { Lent::Bytes($field.as_bytes()) };
-    (message($field:ident)) => { Lent::Bytes($field.as_bytes()) };
-    (coded($field:ident)) => { Lent::Bytes($field.as_slice()) };
+/// A tag, and the parts behind it: the first `count` of these.
+#[derive(Clone, Copy)]
+struct Shape<'a> {
+    tag: &'static [u8],
+    parts: [Lent<'a>; 5],
+    count: usize,
 }
 
-macro_rules! appended {
-    ({ $out:ident $line:ident }
+macro_rules! lent {
+    (word($word:ident)) => { Lent::Fixed(Word::$word) };
+    (ordinal($field:ident)) => { Lent::Ordinal(*$field) };
+    (count($field:ident)) => { Lent::Count(*$field) };
+    (text($field:ident)) => { Lent::Text($field) };
+    (message($field:ident)) => { Lent::Text($field) };
+    (coded($field:ident)) => { Lent::Coded($field.as_slice()) };
+}
+
+/// The shape of a tag and at most five parts.
+macro_rules! shape {
+    ($tag:literal) => { shape!(0; $tag, none!(), none!(), none!(), none!(), none!()) };
+    ($tag:literal, $a:expr) => { shape!(1; $tag, $a, none!(), none!(), none!(), none!()) };
+    ($tag:literal, $a:expr, $b:expr) => { shape!(2; $tag, $a, $b, none!(), none!(), none!()) };
+    ($tag:literal, $a:expr, $b:expr, $c:expr) => { shape!(3; $tag, $a, $b, $c, none!(), none!()) };
+    ($tag:literal, $a:expr, $b:expr, $c:expr, $d:expr) => { shape!(4; $tag, $a, $b, $c, $d, none!()) };
+    ($tag:literal, $a:expr, $b:expr, $c:expr, $d:expr, $e:expr) => { shape!(5; $tag, $a, $b, $c, $d, $e) };
+    ($count:literal; $tag:literal, $($part:expr),*) => { Shape { tag: $tag, parts: [$($part),*], count: $count } };
+}
+
+/// What stands where a shape has no part.
+macro_rules! none {
+    () => { Lent::Count(0) };
+}
+
+macro_rules! shaped {
+    ({ $line:ident }
         read { $($variant:ident { $($field:ident),* } = $tag:literal, $counts:literal: $($kind:ident($part:ident))*;)* }
         written { $($more:ident { $($of:ident),* } = $text:literal, $does:literal: $($is:ident($it:ident))*;)* }
     ) => {
         match $line {
-            $(Line::$variant { $($field),* } => append_parts($out, $tag, &[$(lent!($kind($part))),*]),)*
-            $(Line::$more { $($of),* } => append_parts($out, $text, &[$(lent!($is($it))),*]),)*
+            $(Line::$variant { $($field),* } => shape!($tag $(, lent!($kind($part)))*),)*
+            $(Line::$more { $($of),* } => shape!($text $(, lent!($is($it)))*),)*
         }
     };
 }
@@ -61,6 +85,13 @@ pub fn text(alloc: Global, line: &Line) -> Result<Bytes, NoMemory>
     whole_text(alloc, line)
 }
 
+/// The text of a line that is of no more use. Its drop is proved here, once for all callers.
+pub fn into_text(alloc: Global, line: Line) -> Result<Bytes, NoMemory>
+    ensures { IfOk result (λ text. text ≡ text_of_line line) }
+{
+    text(alloc, &line)
+}
+
 /// The text of a line, in memory of its own.
 fn whole_text(alloc: Global, line: &Line) -> Result<Bytes, NoMemory>
     ensures { IfOk result (λ text. text ≡ text_of_line line.now) }
@@ -74,7 +105,16 @@ fn whole_text(alloc: Global, line: &Line) -> Result<Bytes, NoMemory>
 pub fn append(text: &mut Vec<u8>, line: &Line) -> Result<(), NoMemory>
     ensures { OnOk result (text.new.items ≡ text.old.items ++ text_of_line line.now) }
 {
-    lines!(appended { text line })
+    let shape = shape_of(line);
+    append_parts(text, shape.tag, &shape.parts[..shape.count])
+}
+
+/// The tag and the parts of a line.
+fn shape_of(line: &Line) -> Shape<'_>
+    ensures count { result.count ≤ 5 }
+    ensures text { then_texts result.tag.now (map lent_text (take result.count result.parts)) ≡ text_of_line line.now }
+{
+    lines!(shaped { line })
 }
 
 /// Appends what a U line has before its coded fields, for these to be appended behind it.
@@ -83,11 +123,7 @@ pub fn append_update(text: &mut Vec<u8>, sub: u32, item: u32) -> Result<(), NoMe
     ensures { OnOk result ((coded : List ℕ)
         → text.new.items ++ coded ≡ text.old.items ++ text_of_line (line.U sub item coded)) }
 {
-    let parts = [
-        Lent::Number(u64::from(sub)),
-        Lent::Number(u64::from(item)),
-        Lent::Bytes(b""),
-    ];
+    let parts = [Lent::Ordinal(sub), Lent::Ordinal(item), Lent::Coded(b"")];
     append_parts(text, b"U", &parts)
 }
 
@@ -109,7 +145,9 @@ fn append_part(text: &mut Vec<u8>, part: Lent) -> Result<(), NoMemory>
 {
     match part {
         Lent::Fixed(word) => Ok(text.extend_from_slice(word_text(word))?),
-        Lent::Number(n) => append_decimal(text, n),
-        Lent::Bytes(bytes) => Ok(text.extend_from_slice(bytes)?),
+        Lent::Ordinal(n) => append_decimal(text, u64::from(n)),
+        Lent::Count(n) => append_decimal(text, n),
+        Lent::Text(t) => Ok(text.extend_from_slice(t.as_bytes())?),
+        Lent::Coded(bytes) => Ok(text.extend_from_slice(bytes)?),
     }
 }

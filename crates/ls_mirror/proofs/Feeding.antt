@@ -1,6 +1,6 @@
 -- What a client stands for, one line later.
 use Rattle.std.proofs.Common.{◌≡◌, ◌==◌, ℕ, ◌≤◌, ◌<◌, ◌^◌, true, List, ◌∷◌, Option, Some, None, Result, Ok, Err, OnOk, OnErr, sym, refl, ap, ◌∙◌, subst, ⊎_elim}
-use Rattle.std.proofs.Common.{unwrap_or}
+use Rattle.std.proofs.Common.{[], false, unwrap_or}
 use Rattle.std.specs.Option.{option_map}
 use Rattle.std.specs.BTreeMap.{BTreeMap}
 use Rattle.std.proofs.lemmas.Bool.{and_parts, leb-true, le-leb}
@@ -11,14 +11,15 @@ use Rattle.ls_mirror.specs.declared.subscription.Subscription.{Subscription}
 use Rattle.ls_mirror.specs.Client.{Heard, begun, begun_after, heard, heard_of, last_row, AreDecoded}
 use Rattle.ls_mirror.specs.Refusing.{IsBad}
 use Rattle.ls_mirror.specs.Standing.{StandsClient, StandsTable, IsTableOf, IsSame, AreSame, AreSubscriptionsAfter, IsBadAt, IsBadHeard, IsHeardOf, has_item}
-use Rattle.ls_mirror.specs.Standing.{begun_of, table_at, subscription_at}
+use Rattle.ls_mirror.specs.Standing.{BeginsOrEnds, begun_of, table_at, subscription_at}
+use Rattle.ls_mirror.specs.Tables.{blank_table}
 use Rattle.ls_mirror.proofs.Counting.{shows_more}
 use Rattle.ls_mirror.proofs.Determined.{one_decoded}
 
-some_one : {X : Type 0} (x y : X) → Some x ≡ Some y → x ≡ y
+pub some_one : {X : Type 0} (x y : X) → Some x ≡ Some y → x ≡ y
 some_one x y e = ap (λ o. unwrap_or o x) e
 
-not_none : {X : Type 0} (x : X) → Some x ≡ None → ⊥
+pub not_none : {X : Type 0} (x : X) → Some x ≡ None → ⊥
 not_none x e = cc
 
 -- a client with other subscriptions
@@ -95,6 +96,57 @@ stands_same c subs lines same st = record {
   small = λ q t e. let before = same_before _ _ t (same q) e in subst (λ n. n < 2 ^ 64) (sym before.2.fields) (st.small q before.0 before.1);
   come = λ q i t e. let before = same_before _ _ t (same q) e in same_shown before.0 t (heard q i lines) i before.2 (st.come q i before.0 before.1);
 }
+
+-- refused: the entries are those before
+pub kept_on_err : {X E : Type 0} (answer : Result X E) (c : Client) (subs : BTreeMap ℕ Subscription)
+    → subs.entries ≡ c.subscriptions.entries
+    → OnErr answer ((lines : List Line) → StandsClient c lines → StandsClient (with c subs) lines)
+kept_on_err (Ok x) c subs e = tt
+kept_on_err (Err x) c subs e = λ lines st.
+    let same : (q : ℕ) → subscription_at subs q ≡ subscription_at c.subscriptions q = λ q. rw e refl in
+    record {
+      blank = st.blank;
+      live = λ q. ap (option_map begun_of) (same q) ∙ st.live q;
+      small = λ q s is. st.small q s (sym (same q) ∙ is);
+      come = λ q i s is. st.come q i s (sym (same q) ∙ is);
+    }
+
+-- a subscription begins anew without tables, or ends
+module _ (c : Client) (subs : BTreeMap ℕ Subscription) (sub : ℕ) (to : Option Subscription)
+    (here : subscription_at subs sub ≡ to)
+    (others : (q : ℕ) → (q == sub) ≡ false → subscription_at subs q ≡ subscription_at c.subscriptions q)
+    (small : (s : Subscription) → to ≡ Some s → s.fields < 2 ^ 64)
+    (blank : (s : Subscription) → to ≡ Some s → (i : ℕ) → table_at s.tables i ≡ blank_table)
+    (l : Line) (lines : List Line)
+    (b : BeginsOrEnds l sub (option_map begun_of to)) (st : StandsClient c lines) where
+  live_begun : (q : ℕ) → option_map begun_of (subscription_at subs q) ≡ begun_after q l (begun q lines)
+  live_begun q = ⊎_elim
+      (λ yes. ap (λ x. option_map begun_of (subscription_at subs x)) yes.1 ∙ ap (option_map begun_of) here
+      ∙ sym (rw yes.0 at (b.begins q (begun q lines))))
+      (λ no. ap (option_map begun_of) (others q no.0) ∙ st.live q ∙ sym (rw no.0 at (b.begins q (begun q lines))))
+      (eqb_tells q sub)
+
+  to_here : (q : ℕ) (s : Subscription) → q ≡ sub → subscription_at subs q ≡ Some s → to ≡ Some s
+  to_here q s same e = sym here ∙ sym (ap (subscription_at subs) same) ∙ e
+
+  small_begun : (q : ℕ) (s : Subscription) → subscription_at subs q ≡ Some s → s.fields < 2 ^ 64
+  small_begun q s e = ⊎_elim
+      (λ yes. small s (to_here q s yes.1 e))
+      (λ no. st.small q s (sym (others q no.0) ∙ e))
+      (eqb_tells q sub)
+
+  none_came : (s : Subscription) (i : ℕ) → to ≡ Some s → StandsTable s.fields s.places [] (table_at s.tables i)
+  none_came s i e = record { whats = []; decoded = tt; is = blank s e i }
+
+  come_begun : (q i : ℕ) (s : Subscription) → subscription_at subs q ≡ Some s
+      → StandsTable s.fields s.places (heard q i (l ∷ lines)) (table_at s.tables i)
+  come_begun q i s e = rw (b.hears q i (heard q i lines)) (⊎_elim
+      (λ yes. rw yes.0 (none_came s i (to_here q s yes.1 e)))
+      (λ no. rw no.0 (st.come q i s (sym (others q no.0) ∙ e)))
+      (eqb_tells q sub))
+
+  pub stands_begun : StandsClient (with c subs) (l ∷ lines)
+  stands_begun = record { blank = st.blank; live = live_begun; small = small_begun; come = come_begun }
 
 -- the table of an item
 pub table_stands : (c : Client) (lines : List Line) (sub item : ℕ) (s : Subscription) → subscription_at c.subscriptions sub ≡ Some s → 1 ≤ item → item ≤ s.items

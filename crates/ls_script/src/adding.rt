@@ -1,9 +1,9 @@
 //! The parameters that an `add` line's words are handed on as (this project's profile; TLCP 2.1, control with LS_op
 //! add).
-ghost use Rattle.std.specs.Prelude.{◌≡◌, [], ◌∷◌, ◌++◌, IfOk, true, option_map};
+ghost use Rattle.std.specs.Prelude.{◌≡◌, [], ◌∷◌, ◌++◌, IfOk, OnOk, true, option_map};
 ghost use Rattle.std.specs.Str.{is_utf8};
 ghost use Rattle.ls_step.specs.Adding.{is_utf8_word, are_utf8, spaced, mode_word, parameter, extra_parameter};
-ghost use Rattle.ls_step.specs.Adding.{needed_pairs, add_pairs};
+ghost use Rattle.ls_step.specs.Adding.{needed_pairs, all_pairs, add_pairs};
 
 use ls_event::Mode;
 use ls_form::{Pair, Params};
@@ -20,10 +20,8 @@ pub fn add_params(alloc: Global, line: u64, words: &AddWords) -> Result<Option<P
     ensures { IfOk result (λ params. params ≡ add_pairs line words.now) }
 {
     if are_utf8(words) {
-        let pairs = needed_pairs(alloc, line, words)?;
-        let pairs = with_extra(alloc, pairs, "LS_snapshot", &words.snapshot)?;
-        let pairs = with_extra(alloc, pairs, "LS_requested_buffer_size", &words.buffer)?;
-        let pairs = with_extra(alloc, pairs, "LS_requested_max_frequency", &words.frequency)?;
+        let mut pairs = Vec::new(alloc);
+        push_all(alloc, &mut pairs, line, words)?;
         Ok(Some(Params::of(pairs)))
     } else {
         Ok(None)
@@ -62,51 +60,64 @@ fn is_utf8(word: &Bytes) -> bool
     }
 }
 
-/// The parameters that each `add` line has.
-fn needed_pairs(alloc: Global, line: u64, words: &AddWords) -> Result<Vec<Pair>, NoMemory>
+/// Adds all parameters.
+fn push_all(
+    alloc: Global,
+    pairs: &mut Vec<Pair>,
+    line: u64,
+    words: &AddWords,
+) -> Result<(), NoMemory>
     requires { are_utf8 words.now ≡ true }
-    ensures { IfOk result (λ pairs. pairs.items ≡ needed_pairs line words.now) }
+    ensures { OnOk result (pairs.new.items ≡ pairs.old.items ++ all_pairs line words.now) }
 {
-    let number = Text::from_string(format!(in alloc; "{line}")?);
-    let pairs = with(alloc, Vec::new(alloc), "LS_reqId", number)?;
-    let pairs = with(alloc, pairs, "LS_op", Text::from_str(alloc, "add")?)?;
-    let pairs = with(alloc, pairs, "LS_subId", text(alloc, words.sub.as_slice())?)?;
-    let pairs = with(
-        alloc,
-        pairs,
-        "LS_mode",
-        Text::from_str(alloc, mode_word(words.mode))?,
-    )?;
-    let pairs = with(alloc, pairs, "LS_group", names(alloc, &words.items)?)?;
-    let pairs = with(alloc, pairs, "LS_schema", names(alloc, &words.fields)?)?;
-    Ok(pairs)
+    push_needed(alloc, pairs, line, words)?;
+    push_extra(alloc, pairs, "LS_snapshot", &words.snapshot)?;
+    push_extra(alloc, pairs, "LS_requested_buffer_size", &words.buffer)?;
+    push_extra(alloc, pairs, "LS_requested_max_frequency", &words.frequency)
 }
 
-/// One more parameter, behind the others.
-fn with(alloc: Global, mut pairs: Vec<Pair>, name: &str, text: Text) -> Result<Vec<Pair>, NoMemory>
-    ensures { IfOk result (λ more. more.items ≡ pairs.items ++ parameter name.now text ∷ []) }
+/// Adds the parameters that each `add` line has.
+fn push_needed(
+    alloc: Global,
+    pairs: &mut Vec<Pair>,
+    line: u64,
+    words: &AddWords,
+) -> Result<(), NoMemory>
+    requires { are_utf8 words.now ≡ true }
+    ensures { OnOk result (pairs.new.items ≡ pairs.old.items ++ needed_pairs line words.now) }
+{
+    let number = Text::from_string(format!(in alloc; "{line}")?);
+    push(alloc, pairs, "LS_reqId", number)?;
+    push(alloc, pairs, "LS_op", Text::from_str(alloc, "add")?)?;
+    push(alloc, pairs, "LS_subId", text(alloc, words.sub.as_slice())?)?;
+    let mode = Text::from_str(alloc, mode_word(words.mode))?;
+    push(alloc, pairs, "LS_mode", mode)?;
+    push(alloc, pairs, "LS_group", names(alloc, &words.items)?)?;
+    push(alloc, pairs, "LS_schema", names(alloc, &words.fields)?)
+}
+
+/// Adds a parameter.
+fn push(alloc: Global, pairs: &mut Vec<Pair>, name: &str, text: Text) -> Result<(), NoMemory>
+    ensures { OnOk result (pairs.new.items ≡ pairs.old.items ++ parameter name.now text ∷ []) }
 {
     let name = Text::from_str(alloc, name)?;
     pairs.push(Pair { name, text })?;
-    Ok(pairs)
+    Ok(())
 }
 
-/// One more parameter, where it is there.
-fn with_extra(
+/// Adds a parameter, where it is there.
+fn push_extra(
     alloc: Global,
-    pairs: Vec<Pair>,
+    pairs: &mut Vec<Pair>,
     name: &str,
     word: &Option<Bytes>,
-) -> Result<Vec<Pair>, NoMemory>
+) -> Result<(), NoMemory>
     requires { is_utf8_word word.now ≡ true }
-    ensures { IfOk result (λ more. more.items ≡ pairs.items ++ extra_parameter name.now word.now) }
+    ensures { OnOk result (pairs.new.items ≡ pairs.old.items ++ extra_parameter name.now word.now) }
 {
     match word {
-        Some(word) => {
-            let text = text(alloc, word.as_slice())?;
-            with(alloc, pairs, name, text)
-        }
-        None => Ok(pairs),
+        Some(word) => push(alloc, pairs, name, text(alloc, word.as_slice())?),
+        None => Ok(()),
     }
 }
 

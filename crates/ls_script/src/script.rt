@@ -587,22 +587,41 @@ fn add_words(
     let Some(mode) = mode_of(texts.mode) else {
         return Ok(None);
     };
+    if texts.sub.is_empty() || texts.items.is_empty() || texts.fields.is_empty() {
+        return Ok(None);
+    }
     let Some(extras) = read_extras(alloc, rest)? else {
         return Ok(None);
     };
-    if !texts.sub.is_empty() && !texts.items.is_empty() && !texts.fields.is_empty() {
-        Ok(Some(AddWords {
-            sub: Bytes::of(alloc, texts.sub)?,
-            items: Bytes::of(alloc, texts.items)?,
-            fields: Bytes::of(alloc, texts.fields)?,
-            mode,
-            snapshot: extras.snapshot,
-            buffer: extras.buffer,
-            frequency: extras.frequency,
-        }))
-    } else {
-        Ok(None)
-    }
+    let NeededWords { sub, items, fields } = needed_words(alloc, texts)?;
+    Ok(Some(AddWords {
+        sub,
+        items,
+        fields,
+        mode,
+        snapshot: extras.snapshot,
+        buffer: extras.buffer,
+        frequency: extras.frequency,
+    }))
+}
+
+/// The words of an `add` line that always stand there, but for the mode, copied.
+#[derive(Drop)]
+struct NeededWords {
+    sub: Bytes,
+    items: Bytes,
+    fields: Bytes,
+}
+
+/// Copies these words.
+fn needed_words(alloc: Global, texts: &AddTexts<'_>) -> Result<NeededWords, NoMemory>
+    ensures { IfOk result (λ w. (w.sub ≡ texts.now.sub.now) × (w.items ≡ texts.now.items.now)
+        × (w.fields ≡ texts.now.fields.now)) }
+{
+    let sub = Bytes::of(alloc, texts.sub)?;
+    let items = Bytes::of(alloc, texts.items)?;
+    let fields = Bytes::of(alloc, texts.fields)?;
+    Ok(NeededWords { sub, items, fields })
 }
 
 /// The cells of an update: `None` exactly where a text says no event, or a Clear.

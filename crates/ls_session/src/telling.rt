@@ -3,7 +3,7 @@ ghost use Rattle.std.specs.Prelude.{◌≡◌, ◌<◌, ◌^◌, [], Some, IfOk}
 ghost use Rattle.ls_world.specs.Lines.{Ends, Configures, line_text};
 ghost use Rattle.ls_stream.specs.Standing.{IsShort};
 
-use ls_line::{Line, text};
+use ls_line::{Line, into_text};
 use ls_subs::configure_text;
 use ls_value::{Bytes, NoMemory};
 use std::alloc::Global;
@@ -13,7 +13,7 @@ pub(crate) fn unsub_text(alloc: Global, sub: u32) -> Result<Bytes, NoMemory>
     ensures text { IfOk result (λ t. t ≡ line_text [] (Ends sub)) }
     ensures short { IfOk result (λ t. IsShort t) }
 {
-    text(alloc, &Line::Unsub { sub })
+    into_text(alloc, Line::Unsub { sub })
 }
 
 /// The line `CONF` of a subscription with this greatest frequency, in thousandths of an update per second.

@@ -1,6 +1,7 @@
 //! Items behind their locks.
 ghost use Rattle.std.specs.Prelude.{◌≡◌, ◌<◌, ◌≤◌, ◌+◌, ◌++◌, ◌∷◌, [], true, IfOk, IfErr, IfSome, OnOk, Some, length};
 ghost use Rattle.std.specs.Prelude.{slice_get, vec_len};
+ghost use Rattle.std.specs.Vec.{vec_capacity};
 ghost use mathlib.Core.List.{IsPrefix};
 ghost use Rattle.ls_event.specs.History.{HasFields};
 ghost use Rattle.ls_event.specs.Shapes.{IsShape, shape_of};
@@ -140,12 +141,35 @@ fn live_items<N: House>(
     ensures items { OnOk result (items_of writer.new.list ≡ facts_of N.deed.config) }
     ensures count { IfOk result (λ items. vec_len items ≡ length N.deed.config) }
 {
-    let mut items = Vec::new(alloc);
+    let mut items = Vec::with_capacity(alloc, defs.len())?;
+    push_items::<N>(alloc, register, writer, defs, &mut items)?;
+    Ok(items)
+}
+
+/// Adds the items of a config, whose places the register then has. There is room for them.
+fn push_items<N: House>(
+    alloc: Global,
+    register: &Chron<Made>,
+    writer: &mut Writer<Made>,
+    defs: &[ItemDef],
+    items: &mut Vec<CachePadded<Mutex<LiveItem<N>>>>,
+) -> Result<(), NoMemory>
+    requires register { register.now ≡ N.deed.register }
+    requires writer { writer.old.table ≡ N.deed.register }
+    requires empty { writer.old.list ≡ [] }
+    requires config { defs.now ≡ N.deed.config }
+    requires items { are_items defs.now ≡ true }
+    requires room { length defs.now ≤ vec_capacity items.old }
+    requires none { vec_len items.old ≡ 0 }
+    ensures table { writer.new.table ≡ N.deed.register }
+    ensures items { OnOk result (items_of writer.new.list ≡ facts_of N.deed.config) }
+    ensures count { OnOk result (vec_len items.new ≡ length N.deed.config) }
+{
     for item in 0..defs.len() {
         let live = live_item::<N>(alloc, register, writer, item as u32, &defs[item])?;
-        items.push(CachePadded::new(Mutex::new(live)))?;
+        items.push_reserved(CachePadded::new(Mutex::new(live)));
     }
-    Ok(items)
+    Ok(())
 }
 
 /// An item of a config, by its number, whose place the register then has.

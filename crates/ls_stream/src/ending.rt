@@ -4,8 +4,7 @@ ghost use Rattle.ls_world.specs.Acting.{destroyed};
 ghost use Rattle.ls_world.specs.Steps.{end_text};
 ghost use Rattle.ls_world.specs.World.{timed_out};
 
-use crate::opening::text_of;
-use ls_line::Line;
+use ls_line::{Line, into_text};
 use ls_value::{Bytes, NoMemory, Text};
 use std::alloc::Global;
 
@@ -14,7 +13,7 @@ pub(crate) fn destroyed_text(alloc: Global) -> Result<Bytes, NoMemory>
     ensures { IfOk result (λ t. t ≡ end_text destroyed) }
 {
     let message = Text::from_str(alloc, "Destroyed by request")?;
-    text_of(alloc, Line::End { code: 31, message })
+    into_text(alloc, Line::End { code: 31, message })
 }
 
 /// The line `END,73,<message>`: the client left the session for too long.
@@ -22,5 +21,5 @@ pub(crate) fn timed_out_text(alloc: Global) -> Result<Bytes, NoMemory>
     ensures { IfOk result (λ t. t ≡ end_text timed_out) }
 {
     let message = Text::from_str(alloc, "Session timed out")?;
-    text_of(alloc, Line::End { code: 73, message })
+    into_text(alloc, Line::End { code: 73, message })
 }

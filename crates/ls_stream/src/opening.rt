@@ -10,7 +10,7 @@ ghost use Rattle.ls_world.specs.World.{opening_lines, bandwidth_text, count_line
 ghost use Rattle.ls_stream.specs.Standing.{IsShort};
 
 use ls_form::print_milli;
-use ls_line::{Line, text};
+use ls_line::{Line, into_text};
 use ls_request::Bind;
 use ls_value::{Bytes, NoMemory, Text};
 use std::alloc::Global;
@@ -28,7 +28,7 @@ pub(crate) fn opening(
 {
     let mut lines = Vec::new(alloc);
     lines.push(session_text(alloc, number, keepalive)?)?;
-    lines.push(text_of(alloc, Line::ServName)?)?;
+    lines.push(into_text(alloc, Line::ServName)?)?;
     let cons = bandwidth_text(alloc, bandwidth)?;
     lines.push(cons)?;
     Ok(lines)
@@ -62,19 +62,12 @@ fn with_count(alloc: Global, mut lines: Vec<Bytes>, count: u64) -> Result<Vec<By
     Ok(lines)
 }
 
-/// The text of a line.
-pub(crate) fn text_of(alloc: Global, line: Line) -> Result<Bytes, NoMemory>
-    ensures { IfOk result (λ t. t ≡ text_of_line line) }
-{
-    text(alloc, &line)
-}
-
 /// The line `PROG` with a count.
 fn count_text(alloc: Global, count: u64) -> Result<Bytes, NoMemory>
     ensures text { IfOk result (λ t. t ≡ text_of_line (line.Prog count)) }
     ensures short { IfOk result (λ t. IsShort t) }
 {
-    text_of(alloc, Line::Prog { count })
+    into_text(alloc, Line::Prog { count })
 }
 
 /// The line `CONOK` of a session of this number.
@@ -82,7 +75,7 @@ fn session_text(alloc: Global, number: u64, keepalive: u32) -> Result<Bytes, NoM
     ensures { IfOk result (λ t. t ≡ text_of_line (line.ConOk (codes "S" ++ decimal number) keepalive)) }
 {
     let name = format!(in alloc; "S{number}")?;
-    text_of(
+    into_text(
         alloc,
         Line::ConOk {
             session: Text::from_string(name),
@@ -97,7 +90,7 @@ pub fn bandwidth_text(alloc: Global, limit: Option<u64>) -> Result<Bytes, NoMemo
     ensures short { IfOk result (λ t. IsShort t) }
 {
     let bandwidth = limit_word(alloc, limit)?;
-    text_of(alloc, Line::Cons { bandwidth })
+    into_text(alloc, Line::Cons { bandwidth })
 }
 
 /// A bandwidth as a line tells it: `unlimited` where there is none.

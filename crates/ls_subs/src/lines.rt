@@ -9,7 +9,7 @@ ghost use Rattle.ls_update.specs.Fields.{spelled};
 ghost use Rattle.ls_update.specs.Writing.{row_behind};
 
 use ls_form::print_milli;
-use ls_line::{Line, append_update, text};
+use ls_line::{Line, append_update, into_text};
 use ls_mirror::KeyPlaces;
 use ls_value::{Bytes, NoMemory, Row, Text};
 use std::alloc::Global;
@@ -53,7 +53,7 @@ pub fn begin_text(
             command: keys.command as u32 + 1,
         },
     };
-    text_of(alloc, line)
+    into_text(alloc, line)
 }
 
 /// The line `CONF,<sub>,<frequency>,<filtered or unfiltered>`: the greatest frequency is given in thousandths of an
@@ -73,14 +73,7 @@ pub fn configure_text(
         frequency,
         filter,
     };
-    text_of(alloc, line)
-}
-
-/// The text of a line.
-fn text_of(alloc: Global, line: Line) -> Result<Bytes, NoMemory>
-    ensures { IfOk result (λ t. t ≡ text_of_line line) }
-{
-    text(alloc, &line)
+    into_text(alloc, line)
 }
 
 /// A greatest frequency as a line tells it.

@@ -9,15 +9,6 @@ use ls_value::{Bytes, Cells, Names, Text};
 use ls_words::split_once;
 use std::alloc::Global;
 
-/// What is known of a line that was read.
-#[derive(Drop)]
-enum Said {
-    /// It asks for a step, or is empty or a comment.
-    Read(Option<Repeat>),
-    /// It is outside the grammar.
-    Bad,
-}
-
 /// The lines that stand before each script.
 #[derive(Drop)]
 pub struct Given {
@@ -33,22 +24,23 @@ impl Given {
         }
     }
 
-    /// What the last line of a script says, which begins with these lines.
-    fn said(&self, alloc: Global, lines: &[u8]) -> Result<Said, Failed> {
-        let mut script = Script::new(alloc)?;
-        let mut last = Said::Read(None);
-        for text in [self.lines.as_slice(), lines] {
-            for line in text.split(|b| *b == b'\n') {
-                last = read_line(&mut script, line)?;
-            }
-        }
-        Ok(last)
-    }
-
     /// The step of the last line of a script, which begins with these lines.
     pub fn script(&self, alloc: Global, lines: &[u8]) -> Result<Vec<u8>, Failed> {
-        let text = said_text(alloc, &self.said(alloc, lines)?)?;
+        let mut script = Script::new(alloc)?;
+        let text = self.text_behind(alloc, &mut script, lines)?;
         Ok(text.into_bytes())
+    }
+
+    /// Reads these lines and more, and gives the step of the last one.
+    fn text_behind(
+        &self,
+        alloc: Global,
+        script: &mut Script,
+        lines: &[u8],
+    ) -> Result<String, Failed> {
+        read_but_last(script, &self.lines)?;
+        let line = read_but_last(script, lines)?;
+        line_text(alloc, script, line)
     }
 
     /// The step of a line, which is kept behind these.
@@ -63,41 +55,69 @@ impl Given {
     pub fn params(&self, alloc: Global, input: &[u8]) -> Result<Vec<u8>, Failed> {
         let (n, line) = two(input);
         let n = number(n)?;
-        let text = params_text(alloc, n, &self.said(alloc, line)?)?;
+        let mut script = Script::new(alloc)?;
+        let text = self.params_behind(alloc, &mut script, n, line)?;
         Ok(text.into_bytes())
+    }
+
+    /// Reads these lines, and gives the parameters of an `add` line of this number behind them.
+    fn params_behind(
+        &self,
+        alloc: Global,
+        script: &mut Script,
+        n: u64,
+        line: &[u8],
+    ) -> Result<String, Failed> {
+        read_but_last(script, &self.lines)?;
+        match script.read(line) {
+            Ok(Some(asked)) => params_text(alloc, n, &asked.step),
+            _ => Err(Failed::BadCase),
+        }
     }
 }
 
-/// Reads a line.
-fn read_line(script: &mut Script, line: &[u8]) -> Result<Said, Failed> {
+/// Reads all lines but the last one, which is given back.
+fn read_but_last<'a>(script: &mut Script, lines: &'a [u8]) -> Result<&'a [u8], Failed> {
+    let mut last: Option<&'a [u8]> = None;
+    for line in lines.split(|b| *b == b'\n') {
+        if let Some(before) = last {
+            read_line(script, before)?;
+        }
+        last = Some(line);
+    }
+    Ok(last.unwrap_or(b""))
+}
+
+/// Reads a line, which may be outside the grammar.
+fn read_line(script: &mut Script, line: &[u8]) -> Result<(), Failed> {
     match script.read(line) {
-        Ok(asked) => Ok(Said::Read(asked)),
-        Err(ScriptRefused::BadLine) => Ok(Said::Bad),
+        Ok(_) | Err(ScriptRefused::BadLine) => Ok(()),
         Err(ScriptRefused::NoMemory) => Err(Failed::NoMemory),
     }
 }
 
 /// What a line says.
-fn said_text(alloc: Global, said: &Said) -> Result<String, Failed> {
-    match said {
-        Said::Read(Some(asked)) => {
-            let step = step_text(alloc, &asked.step)?;
-            Ok(format!(in alloc; "{step} x{}", asked.times)?)
-        }
-        Said::Read(None) => Ok(format!(in alloc; "skipped")?),
-        Said::Bad => Ok(format!(in alloc; "bad")?),
+fn line_text(alloc: Global, script: &mut Script, line: &[u8]) -> Result<String, Failed> {
+    match script.read(line) {
+        Ok(Some(asked)) => asked_text(alloc, &asked),
+        Ok(None) => Ok(format!(in alloc; "skipped")?),
+        Err(ScriptRefused::BadLine) => Ok(format!(in alloc; "bad")?),
+        Err(ScriptRefused::NoMemory) => Err(Failed::NoMemory),
     }
 }
 
-/// The parameters of an `add` line of this number that was read.
-fn params_text(alloc: Global, line: u64, said: &Said) -> Result<String, Failed> {
-    let Said::Read(Some(asked)) = said else {
-        return Err(Failed::BadCase);
-    };
+/// A step, and how often it is asked for.
+fn asked_text(alloc: Global, asked: &Repeat) -> Result<String, Failed> {
+    let step = step_text(alloc, &asked.step)?;
+    Ok(format!(in alloc; "{step} x{}", asked.times)?)
+}
+
+/// The parameters of an `add` line of this number.
+fn params_text(alloc: Global, line: u64, step: &Step) -> Result<String, Failed> {
     let Step::Add {
         connection: _,
         words,
-    } = &asked.step
+    } = step
     else {
         return Err(Failed::BadCase);
     };

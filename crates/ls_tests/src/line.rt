@@ -64,6 +64,8 @@ fn messages_are_written(rt: HostRuntime) -> Result<(), NoMemory> {
     let done = message_done(rt.alloc())?;
     assert!(rt; counts(&done));
     assert!(rt; writes(rt.alloc(), &done, b"MSGDONE,*,0"));
+    let written = into_text(rt.alloc(), done)?;
+    assert!(rt; same_bytes(written.as_slice(), b"MSGDONE,*,0"));
     Ok(())
 }
 

@@ -1,4 +1,4 @@
-use Rattle.std.proofs.Common.{refl, ap, map, ◌∙◌}
+use Rattle.std.proofs.Common.{refl, ap, map, ◌++◌, ◌∙◌}
 use Rattle.ls_line.specs.Lines.{lent_text, then_texts}
 use Rattle.ls_line.proofs.Commas.{texts_whole, texts_next}
 use Rattle.ls_line.proofs.writing.append_parts.Goals as goal
@@ -16,5 +16,7 @@ returns c =
 pub loop-part-preserved : goal.loop-part-preserved
 loop-part-preserved c =
     texts_next c.loop-part.text.items c.push.new.self.items c.append_part.new.text.items c.args.parts.now
-    c.loop-part.part-index _
-    c.loop-part-test.true c.in_ok-push.ensures.items c.in_ok-append_part.ensures ∙ c.loop-part.invariant
+    c.loop-part.part-index c.part-item.result
+    c.loop-part-test.true c.in_ok-push.ensures.items
+    (c.in_ok-append_part.ensures ∙ ap (λ p. c.push.new.self.items ++ lent_text p) c.part-item.is)
+    ∙ c.loop-part.invariant

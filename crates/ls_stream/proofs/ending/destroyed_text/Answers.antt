@@ -4,4 +4,4 @@ use Rattle.ls_line.specs.Lines.{text_of_line}
 use Rattle.ls_stream.proofs.ending.destroyed_text.Goals as goal
 
 pub returns : goal.returns
-returns c = subst (λ (m : List ℕ). IfOk c.text_of.result (λ t. t ≡ text_of_line (line.End 31 m))) c.in_ok-message.ensures c.text_of.ensures
+returns c = subst (λ (m : List ℕ). IfOk c.into_text.result (λ t. t ≡ text_of_line (line.End 31 m))) c.in_ok-message.ensures c.into_text.ensures

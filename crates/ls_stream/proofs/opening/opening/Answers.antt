@@ -8,5 +8,5 @@ pub returns-clause-short : goal.returns-clause-short
 returns-clause-short c =
     let first = subst (λ (t : List ℕ). IsShort t) (sym c.in_ok-session_text.ensures)
     (conok_short c.args.number c.args.keepalive c.ranges.number.fits (omega (arith, c.ranges.keepalive.fits))) in
-    let second = subst (λ (t : List ℕ). IsShort t) (sym c.in_ok-text_of.ensures) servname_short in
+    let second = subst (λ (t : List ℕ). IsShort t) (sym c.in_ok-into_text.ensures) servname_short in
     grind (arith, elements)

@@ -1,6 +1,7 @@
-use Rattle.std.proofs.Common.{◌≡◌, length, take, vec_len}
+use Rattle.std.proofs.Common.{◌≡◌, ◌≤◌, length, take, vec_len}
+use Rattle.std.specs.Vec.{vec_capacity}
 use Rattle.ls_register.specs.Items.{items_of, facts_of}
-use Rattle.ls_shared.proofs.shared.live_items.Given as goal
+use Rattle.ls_shared.proofs.shared.push_items.Given as goal
 
 abbrev pub invariant-loop-item : goal.invariant-loop-item
 invariant-loop-item g l =
@@ -8,3 +9,4 @@ invariant-loop-item g l =
     × (items_of l.writer.list ≡ facts_of (take l.item g.N.House.deed.config))
     × (length l.writer.list ≡ l.item)
     × (vec_len l.items ≡ l.item)
+    × (length l.defs ≤ vec_capacity l.items)
