@@ -1,8 +1,8 @@
 //! A run of the program, from its words to its status.
 //!
 //! `run` has words, a `Source` and a `Sink` for its input and output, and a `Status` for its end. It reads pieces and
-//! feeds them to a `Replay`, which finds the lines in them, has each done by an `Engine`, and writes what the lines of a
-//! piece print at once. `Engine::line` does one line: it reads its step and has the hub do it.
+//! feeds them to a `Replay`, which finds the lines in them, has each done by an `Engine`, and writes at once what the
+//! lines of a piece print. `Engine::line` does one line: it reads its step and has the hub do it.
 //!
 //! ```text
 //! let status = run(rt, alloc, &words, &mut source, &mut sink);   // words: replay

@@ -9,7 +9,8 @@
 //! A contract of the engine begins with each world that its state stands for, and ends with the world after the step:
 //!
 //! ```text
-//! ensures { (w : World) → StandsHub self.old w → DidHub (requests w connection name params) outs.items self.new }
+//! ensures { OnOk result ((w : World) → StandsHub self.old w
+//!     → Prints (requests w connection link name.now params) text.old.items text.new.items self.new) }
 //! ```
 //!
 //! What follows of the definitions is in `ls_laws`. The proofs here are the lemmas that the engine's crates need too.

@@ -1,7 +1,7 @@
 //! A push server for the protocol TLCP 2.1: the program.
 //!
-//! `main` has the command line and the real input and output, and hands them to `run` of ls_run: words, a `Source` and a
-//! `Sink` in, a `Status` out. What `run` promises is said there. It serves no network: a script stands for the feeds
+//! `main` has the command line and the real input and output, and hands them to `run` of ls_run: words, a `Source` and
+//! a `Sink` in, a `Status` out. What `run` promises is said there. It serves no network: a script stands for the feeds
 //! and the clients.
 #![tactic(auto)]
 
