@@ -9,7 +9,8 @@ use Rattle.ls_budget.specs.Due.{due_at, answered_tick, allows, IsFirst}
 use Rattle.ls_budget.specs.declared.due.Due.TheVariants as due
 use Rattle.ls_budget.specs.Kept.{KeptCredit, StandsBandwidth, KeepsBy, KeepsCredit, lacks_at, tick_by, kept_tick, due_of, lacks_after, spent}
 use Rattle.ls_budget.specs.Kept.{MaySpend}
-use Rattle.ls_budget.specs.declared.limits.TheConstants.{GREATEST_TICK, MOST_BYTES}
+use Rattle.ls_value.specs.declared.limits.TheConstants.{GREATEST_TICK}
+use Rattle.ls_budget.specs.declared.limits.TheConstants.{MOST_BYTES}
 use Rattle.ls_budget.proofs.Credits.{lacking_later, credit_tick_first}
 
 -- what is lacking at a tick

@@ -5,7 +5,8 @@ use Rattle.ls_budget.specs.Budget.{Spend, full_credit, lacking}
 use Rattle.std.specs.Option.{ForSome}
 use Rattle.ls_budget.specs.declared.due.Due.{Due}
 use Rattle.ls_budget.specs.declared.due.Due.TheVariants as due
-use Rattle.ls_budget.specs.declared.limits.TheConstants.{GREATEST_TICK, MOST_BYTES}
+use Rattle.ls_value.specs.declared.limits.TheConstants.{GREATEST_TICK}
+use Rattle.ls_budget.specs.declared.limits.TheConstants.{MOST_BYTES}
 use Rattle.ls_budget.specs.Due.{due_at}
 use Rattle.ls_budget.specs.Window.{latest_tick, MadeWithCredit}
 

@@ -4,11 +4,13 @@ ghost use Rattle.std.specs.Option.{ForSome};
 ghost use Rattle.ls_budget.specs.Budget.{Spend, full_credit, credit_tick};
 ghost use Rattle.ls_budget.specs.Due.{due_at, answered_tick, allows, IsFirst};
 ghost use Rattle.ls_budget.specs.Kept.{StandsBandwidth, MaySpend, set_anew, tick_by, due_of, spent, lacks_at};
-ghost use Rattle.ls_budget.specs.declared.limits.TheConstants.{GREATEST_TICK, MOST_BYTES};
+ghost use Rattle.ls_value.specs.declared.limits.TheConstants.{GREATEST_TICK};
+ghost use Rattle.ls_budget.specs.declared.limits.TheConstants.{MOST_BYTES};
 ghost use Rattle.ls_budget.specs.declared.due.Due.TheVariants as due;
 
 use crate::due::Due;
-use crate::limits::{GREATEST_TICK, MOST_BYTES};
+use crate::limits::MOST_BYTES;
+use ls_value::GREATEST_TICK;
 use std::marker::Model;
 
 /// The rate at which a session may give, in thousandths of a kbit per second (which is a thousandth of a bit per ms),

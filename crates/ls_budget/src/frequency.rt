@@ -4,7 +4,7 @@ ghost use Rattle.std.specs.Option.{ForSome};
 ghost use Rattle.ls_budget.specs.Budget.{interval, frequency_tick};
 ghost use Rattle.ls_budget.specs.Due.{due_at};
 ghost use Rattle.ls_budget.specs.Kept.{StandsFrequency};
-ghost use Rattle.ls_budget.specs.declared.limits.TheConstants.{GREATEST_TICK};
+ghost use Rattle.ls_value.specs.declared.limits.TheConstants.{GREATEST_TICK};
 
 use crate::due::Due;
 use std::marker::Model;
@@ -29,7 +29,7 @@ impl Model for Frequency {
     ghost use Rattle.std.specs.Prelude.{◌<◌, ◌≤◌};
     ghost use Rattle.std.specs.Option.{ForSome};
     ghost use Rattle.ls_budget.specs.Kept.{KeptFrequency};
-    ghost use Rattle.ls_budget.specs.declared.limits.TheConstants.{GREATEST_TICK};
+    ghost use Rattle.ls_value.specs.declared.limits.TheConstants.{GREATEST_TICK};
 
     ghost Value = { KeptFrequency };
 

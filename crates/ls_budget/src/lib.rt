@@ -20,4 +20,5 @@ pub use law::{
     a_credit_tick_is_the_first_with_credit, an_interval_is_rounded_up,
     credit_never_falls_with_time, spends_of_a_window_are_bounded,
 };
-pub use limits::{GREATEST_TICK, MOST_BYTES};
+pub use limits::MOST_BYTES;
+pub use ls_value::GREATEST_TICK;

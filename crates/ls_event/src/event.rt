@@ -4,12 +4,18 @@ ghost use Rattle.std.specs.Prelude.{◌≡◌, IfOk};
 use ls_value::{Cells, NoMemory, Row, Text};
 use std::alloc::Global;
 
-/// How a slot tells of its item (TLCP 2.1, LS_mode).
+/// How a slot tells of its item (TLCP 2.1, LS_mode; General Concepts, modes).
 #[derive(Clone, Copy, Debug, PartialEq, Eq)]
 pub enum Mode {
+    /// Each update by itself, as it came and unfiltered. There is no snapshot.
     Raw,
+    /// The item's row: updates that wait are merged, so that of each field the last value is told. The snapshot is the
+    /// row.
     Merge,
+    /// Each update by itself, where of those that wait the oldest may be dropped. The snapshot is the last rows.
     Distinct,
+    /// A table of rows by key: of each key that waits, whether it was added, changed or deleted, and its row. The
+    /// snapshot is the rows.
     Command,
 }
 
@@ -54,7 +60,8 @@ pub struct Stored {
 /// A cut: what a buffer gives at once. `upto` is the number of the last event that it tells of.
 #[derive(Drop)]
 pub enum Taken {
-    /// An update's own row, or a row of the snapshot.
+    /// An update's own row, or a row of the snapshot, of which `upto` is the number of the item's last event when the
+    /// slot joined.
     Row {
         row: Row,
         upto: u64,

@@ -24,17 +24,17 @@ pub enum FormRefused {
     /// It has more than `LONGEST_FORM` bytes.
     TooLong {
         /// The number of its bytes.
-        n: usize,
+        n: u64,
     },
     /// The name or the text of a pair, decoded, isn't UTF-8, and no pair before it is refused.
     NotUtf8 {
         /// The place of the pair.
-        at: usize,
+        at: u64,
     },
     /// A pair has the name of an earlier one, and no pair before it is refused.
     Twice {
         /// The place of the pair.
-        at: usize,
+        at: u64,
     },
     /// Memory was refused.
     NoMemory,
@@ -133,7 +133,9 @@ pub fn pairs(alloc: Global, bytes: &[u8]) -> Result<Params, FormRefused>
     ensures refused { IfErr result (λ e. (e ≡ FormRefused.NoMemory) ⊎ (form_cause bytes.now ≡ Some e)) }
 {
     if bytes.len() > LONGEST_FORM {
-        return Err(FormRefused::TooLong { n: bytes.len() });
+        return Err(FormRefused::TooLong {
+            n: bytes.len() as u64,
+        });
     }
     let mut pairs = Vec::new(alloc);
     let mut names = BTreeSet::new(alloc);
@@ -160,7 +162,7 @@ fn append(
     ensures refused { IfErr result (λ e. (e ≡ FormRefused.NoMemory)
         ⊎ (cause_behind pairs.old.items (decoded (name.now, text.now)) ≡ Some e)) }
 {
-    let at = pairs.len() + 1;
+    let at = (pairs.len() + 1) as u64;
     let Some(pair) = pair_of(alloc, name, text)? else {
         return Err(FormRefused::NotUtf8 { at });
     };
@@ -226,7 +228,7 @@ fn spaced(alloc: Global, bytes: &[u8]) -> Result<Vec<u8>, NoMemory>
     Ok(spaced)
 }
 
-/// As `spaced`.
+/// These bytes with a space for each `+`; the error is the allocator's own.
 fn collect_spaced(alloc: Global, bytes: &[u8]) -> Result<Vec<u8>, AllocError>
     ensures { IfOk result (λ v. v.items ≡ map url.plus_to_space bytes.now) }
 {

@@ -2,7 +2,7 @@
 use Rattle.std.proofs.Common.{◌≡◌, ℕ, zero, suc, ◌+◌, ◌<◌, ◌≤◌, List, [], ◌∷◌, ◌++◌, length, map, get_or, set, refl, sym, ◌∙◌, ap, subst, cond}
 use Rattle.std.proofs.Common.{Bool, true, false, append_assoc, Result, Ok, Err, OnErr, arith, nat_lt, nat_le, ◌&&◌, slice_get, Option, Some, None}
 use Rattle.std.specs.List.{list_any}
-use Rattle.ls_budget.specs.declared.limits.TheConstants.{GREATEST_TICK}
+use Rattle.ls_value.specs.declared.limits.TheConstants.{GREATEST_TICK}
 use Rattle.ls_value.specs.declared.limits.TheConstants.{GREATEST_NUMBER}
 use Rattle.ls_step.specs.declared.out.Out.TheVariants as out
 use Rattle.ls_step.specs.Notes.{text_of_out}

@@ -1,7 +1,7 @@
 -- An operation on the session of a place: it was refused, or the session changed and its slots joined or left.
 use Rattle.std.proofs.Common.{◌≡◌, ℕ, ◌<◌, ◌≤◌, List, ◌++◌, length, map, refl, sym, ◌∙◌, ap, arith, subst, cond, true}
 use Rattle.std.proofs.Common.{Option, Some, None, slice_set, slice_index_or, append_assoc}
-use Rattle.ls_budget.specs.declared.limits.TheConstants.{GREATEST_TICK}
+use Rattle.ls_value.specs.declared.limits.TheConstants.{GREATEST_TICK}
 use Rattle.ls_event.specs.declared.item.ItemDef.{ItemDef}
 use Rattle.ls_request.specs.declared.request.Add.{Add}
 use Rattle.ls_world.specs.Cases.{first_code}

@@ -2,7 +2,7 @@
 use Rattle.std.proofs.Common.{◌≡◌, ℕ, zero, suc, ◌+◌, ◌<◌, ◌≤◌, List, [], ◌∷◌, ◌++◌, length, map, refl, sym, ◌∙◌, ap, arith, subst, cond, true, false}
 use Rattle.std.proofs.Common.{append-nil, append_assoc, slice_get, slice_index_or, nat_le, ◌&&◌, Bool, Option, Some, None}
 use Rattle.std.specs.Option.{option_map_or}
-use Rattle.ls_budget.specs.declared.limits.TheConstants.{GREATEST_TICK}
+use Rattle.ls_value.specs.declared.limits.TheConstants.{GREATEST_TICK}
 use Rattle.ls_step.specs.declared.step.Step.TheVariants as step
 use Rattle.ls_step.specs.declared.step.Step.{Step}
 use Rattle.ls_step.specs.Ranges.{Fits, LaterTick}

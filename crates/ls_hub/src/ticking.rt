@@ -1,7 +1,7 @@
 //! The clock, and the sessions that end by it (this project's profile).
 ghost use Rattle.std.specs.Prelude.{◌≡◌, ◌≤◌, ◌<◌, ◌+◌, ℕ, length, slice_get, nat_le, Some, true, false};
 ghost use Rattle.std.specs.Option.{option_map_or};
-ghost use Rattle.ls_budget.specs.declared.limits.TheConstants.{GREATEST_TICK};
+ghost use Rattle.ls_value.specs.declared.limits.TheConstants.{GREATEST_TICK};
 ghost use Rattle.ls_world.specs.World.{World, Session as ASession, is_timed_out};
 ghost use Rattle.ls_world.specs.Steps.{ticks};
 ghost use Rattle.ls_world.specs.declared.TheConstants.{MOST_UNBOUND};

@@ -26,4 +26,5 @@ mod weights;
 pub use command::CommandState;
 pub use distinct::DistinctState;
 pub use item::{ItemState, a_state_grows_with_its_history};
+pub use ls_event::{PushRefused, Snapshot};
 pub use merge::MergeState;

@@ -1,11 +1,13 @@
 //! A buffer for the text of a line.
 ghost use Rattle.std.specs.Prelude.{◌≡◌, ◌≤◌, IfOk, [], length, take};
+ghost use Rattle.ls_line.specs.declared.limits.TheConstants.{LONGEST_TEXT};
 
+use crate::limits::LONGEST_TEXT;
 use ls_value::NoMemory;
 use std::alloc::Global;
 use std::marker::Model;
 
-/// A buffer that holds a text of at most 16,384 bytes, in memory that it has from its beginning.
+/// A buffer that holds a text of at most [`LONGEST_TEXT`] bytes, in memory that it has from its beginning.
 #[derive(Drop)]
 pub struct LineBuf {
     bytes: Vec<u8>,
@@ -14,12 +16,13 @@ pub struct LineBuf {
 
 impl Model for LineBuf {
     ghost use Rattle.std.specs.Prelude.{◌≡◌, ◌≤◌, List, ℕ, length, take};
+    ghost use Rattle.ls_line.specs.declared.limits.TheConstants.{LONGEST_TEXT};
 
     ghost Value = { List ℕ };
 
     ghost view = { λ b. take b.used b.bytes.items };
 
-    ghost invariant = { λ b. (length b.bytes.items ≡ 16384) × (b.used ≤ 16384) };
+    ghost invariant = { λ b. (length b.bytes.items ≡ LONGEST_TEXT) × (b.used ≤ LONGEST_TEXT) };
 }
 
 impl LineBuf {
@@ -27,13 +30,13 @@ impl LineBuf {
     pub fn new(alloc: Global) -> Result<LineBuf, NoMemory>
         ensures { IfOk result (λ b. b ≡ []) }
     {
-        let bytes = vec![in alloc; 0; 16384]?;
+        let bytes = vec![in alloc; 0; LONGEST_TEXT]?;
         Ok(LineBuf { bytes, used: 0 })
     }
 
-    /// Holds this text, of at most 16,384 bytes, in place of the one before. No memory is taken.
+    /// Holds this text, of at most [`LONGEST_TEXT`] bytes, in place of the one before. No memory is taken.
     pub fn fill(&mut self, text: &[u8])
-        requires { length text.now ≤ 16384 }
+        requires { length text.now ≤ LONGEST_TEXT }
         ensures { self.new ≡ text.now }
     {
         put_first(&mut self.bytes, text);

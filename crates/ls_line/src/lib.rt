@@ -16,6 +16,7 @@
 
 mod buffer;
 mod law;
+mod limits;
 mod line;
 mod pieces;
 mod reading;
@@ -27,6 +28,7 @@ pub use law::{
     each_line_has_one_text, each_line_read_can_be_written, each_text_without_a_cause_is_a_line,
     each_written_line_is_read_again,
 };
+pub use limits::LONGEST_TEXT;
 pub use line::{Line, LineRefused};
 pub use reading::read;
 pub use writing::{append, append_update, counts, into_text, text};

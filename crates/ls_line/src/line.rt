@@ -28,9 +28,9 @@ pub enum Line {
         /// Kilobits a second as a decimal, or `unlimited`.
         bandwidth: Text,
     },
-    /// `PROG,<count>`: how many data lines of the session came before this stream's.
+    /// `PROG,<count>`: how many numbered lines of the session came before this stream's.
     Prog {
-        /// The count of data lines.
+        /// The count of numbered lines.
         count: u64,
     },
     /// `PROBE`: the stream is alive.
@@ -166,12 +166,12 @@ pub enum LineRefused {
     /// A number is no decimal without leading zeros, or is outside its range.
     BadNumber {
         /// The first such piece.
-        at: usize,
+        at: u64,
     },
     /// A text is not UTF-8, or a piece is not the word that stands there in each line of this tag.
     BadText {
         /// The first such piece.
-        at: usize,
+        at: u64,
     },
     /// Memory was refused.
     NoMemory,

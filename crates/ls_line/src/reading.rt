@@ -100,13 +100,13 @@ fn is_bad_text(kind: Kind, bytes: &[u8]) -> bool
 }
 
 /// The first piece with a bad number. The first piece behind the tag is piece 2.
-fn bad_number(kinds: &[Kind], bytes: &[u8]) -> Option<usize>
+fn bad_number(kinds: &[Kind], bytes: &[u8]) -> Option<u64>
     ensures { result ≡ first_bad is_bad_number kinds.now bytes.now 2 }
 {
     let mut rest = bytes;
     for i in 0..kinds.len() {
         if is_bad_number(kinds[i], piece(kinds[i], rest)) {
-            return Some(i + 2);
+            return Some((i + 2) as u64);
         }
         rest = behind(rest);
     }
@@ -114,13 +114,13 @@ fn bad_number(kinds: &[Kind], bytes: &[u8]) -> Option<usize>
 }
 
 /// The first piece with a bad text. The first piece behind the tag is piece 2.
-fn bad_text(kinds: &[Kind], bytes: &[u8]) -> Option<usize>
+fn bad_text(kinds: &[Kind], bytes: &[u8]) -> Option<u64>
     ensures { result ≡ first_bad is_bad_text kinds.now bytes.now 2 }
 {
     let mut rest = bytes;
     for i in 0..kinds.len() {
         if is_bad_text(kinds[i], piece(kinds[i], rest)) {
-            return Some(i + 2);
+            return Some((i + 2) as u64);
         }
         rest = behind(rest);
     }

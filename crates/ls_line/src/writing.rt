@@ -67,7 +67,7 @@ macro_rules! counted {
     };
 }
 
-/// Whether a line is a data line, which counts in PROG. No memory is taken.
+/// Whether a line is a numbered line, which PROG counts. No memory is taken.
 pub fn counts(line: &Line) -> bool
     ensures { result ≡ is_data line.now }
 {

@@ -60,7 +60,7 @@ impl Client {
     /// Takes a line. After a refusal the client is as before.
     ///
     /// SUBOK and SUBCMD begin a subscription, anew where its number is live, and UNSUB ends it. U, OV, CS and EOS add
-    /// to the table of their item. CONF, and lines that are no data lines or answer a message, add nothing.
+    /// to the table of their item. CONF, and lines that are no numbered lines or answer a message, add nothing.
     ///
     /// `Unknown` comes exactly where an UNSUB or CONF names no live subscription, or an EOS, CS, OV or U no live one
     /// that has the item; `BadFields` where the coded fields of a U line say no row after the item's last row, or in

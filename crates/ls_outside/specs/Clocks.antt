@@ -1,9 +1,6 @@
 -- The ticks that clocks tell, in ms (this project's profile).
-use Rattle.std.specs.Prelude.{ℕ, ◌^◌, max, min, List, [], ◌∷◌}
-
--- the greatest tick
-abbrev pub GREATEST : ℕ
-GREATEST = 10 ^ 18
+use Rattle.std.specs.Prelude.{ℕ, max, min, List, [], ◌∷◌}
+use Rattle.ls_value.specs.declared.limits.TheConstants.{GREATEST_TICK}
 
 -- a clock in memory: the ticks that it has still to tell, the last one that it told, and the ms that it was let wait
 pub record ClockState : Type 0 where
@@ -15,4 +12,4 @@ pub record ClockState : Type 0 where
 -- the end of its list
 abbrev pub next_told : List ℕ → ℕ → ℕ
 next_told [] told = told
-next_told (tick ∷ ticks) told = max told (min tick GREATEST)
+next_told (tick ∷ ticks) told = max told (min tick GREATEST_TICK)

@@ -1,15 +1,13 @@
 //! What tells the time.
 ghost use Rattle.std.specs.Prelude.{◌≡◌, ◌≤◌, ℕ, ◌+◌, ◌-◌, ◌^◌, min, drop, IfOk};
-ghost use Rattle.ls_outside.specs.Clocks.{GREATEST, next_told};
+ghost use Rattle.ls_value.specs.declared.limits.TheConstants.{GREATEST_TICK};
+ghost use Rattle.ls_outside.specs.Clocks.{next_told};
 
-use ls_value::NoMemory;
+use ls_value::{GREATEST_TICK, NoMemory};
 use std::alloc::{AllocError, Global};
 use std::marker::Model;
 
-/// The greatest tick that a clock tells, in ms.
-const GREATEST_TICK: u64 = 1_000_000_000_000_000_000;
-
-/// A clock. It tells ticks, moments in ms, which never fall and are at most 10^18.
+/// A clock. It tells ticks, moments in ms, which never fall and are at most [`GREATEST_TICK`].
 pub trait Clock: Sized {
     /// The last tick that it told; 0 before the first.
     ghost told: { Self → ℕ };
@@ -18,7 +16,7 @@ pub trait Clock: Sized {
     fn now(&mut self) -> u64
         ensures later { told self.old ≤ told self.new }
         ensures tick { result ≡ told self.new }
-        ensures most { result ≤ GREATEST };
+        ensures most { result ≤ GREATEST_TICK };
 
     /// Waits so many ms. Nothing is promised of the time that goes by.
     fn wait(&mut self, ms: u64)
@@ -49,15 +47,16 @@ impl Model for MemClock {
     ghost view = { λ c. record { to_come = drop c.next c.ticks.items; told = c.told; waited = c.waited } };
 
     ghost use Rattle.std.specs.Prelude.{◌≤◌, length};
-    ghost use Rattle.ls_outside.specs.Clocks.{GREATEST};
+    ghost use Rattle.ls_value.specs.declared.limits.TheConstants.{GREATEST_TICK};
 
-    ghost invariant = { λ c. (c.told ≤ GREATEST) × (c.next ≤ length c.ticks.items) };
+    ghost invariant = { λ c. (c.told ≤ GREATEST_TICK) × (c.next ≤ length c.ticks.items) };
 }
 
 impl MemClock {
     /// A clock that tells these ticks, the first one first, and behind the end of the list the last one again; where
-    /// the list is empty, 0. A tick below one that was told counts as that one, and one above 10^18 as 10^18. It waits
-    /// for no time: it counts what it was let wait. A twin tells the ticks that are still to come, and takes memory.
+    /// the list is empty, 0. A tick below one that was told counts as that one, and one above [`GREATEST_TICK`] as
+    /// that. It waits for no time: it counts what it was let wait. A twin tells the ticks that are still to come, and
+    /// takes memory.
     pub fn new(alloc: Global, ticks: Vec<u64>) -> MemClock
         ensures { result ≡ record { to_come = ticks.items; told = 0; waited = 0 } }
     {
@@ -91,7 +90,7 @@ impl Clock for MemClock {
     fn now(&mut self) -> u64
         ensures later { self.old.told ≤ self.new.told }
         ensures tick { result ≡ self.new.told }
-        ensures most { result ≤ GREATEST }
+        ensures most { result ≤ GREATEST_TICK }
         ensures after { self.new ≡ record self.old {
           to_come = drop 1 self.old.to_come;
           told = next_told self.old.to_come self.old.told;

@@ -20,6 +20,7 @@ pub use limits::{
     DEFAULT_KEEPALIVE, DEFAULT_LENGTH, GREATEST_KEEPALIVE, LEAST_KEEPALIVE, LEAST_LENGTH,
     MOST_OWN_NAME,
 };
+pub use ls_event::Snap;
 pub use reading::{read, read_pairs};
 pub use request::{Add, Bind, Control, Create, LinkKind, Op, Request, RequestRefused};
 pub use values::mode_of;

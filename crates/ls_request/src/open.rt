@@ -67,7 +67,7 @@ fn bandwidth(params: &Params) -> Option<Option<u64>>
     }
 }
 
-/// The number of data lines that the client has: none where it is absent.
+/// The number of numbered lines that the client has: none where it is absent.
 fn recovery(params: &Params) -> Option<Option<u64>>
     ensures value { result ≡ or_absent None recovery_of (text_under params.now (codes "LS_recovery_from")) }
     ensures fits { IfSome result (λ r. IfSome r (λ n. n ≤ GREATEST_NUMBER)) }

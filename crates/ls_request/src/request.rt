@@ -42,7 +42,7 @@ pub struct Create {
 pub struct Bind {
     /// The session's number. A session text of another form is 0, which no session has.
     pub session: u64,
-    /// The number of data lines that the client has, where it recovers (TLCP 2.1, LS_recovery_from).
+    /// The number of numbered lines that the client has, where it recovers (TLCP 2.1, LS_recovery_from).
     pub recover: Option<u64>,
     /// The keep-alive time in milliseconds, from 1,000 to 30,000.
     pub keepalive: u32,

@@ -325,7 +325,7 @@ impl Script {
         }
     }
 
-    /// `add`, and what stands behind its mode.
+    /// The step of an `add` line, of which this stands behind the mode: `None` as for [`Script::add_line`].
     fn add_behind(
         &self,
         connection: &[u8],
@@ -353,7 +353,7 @@ impl Script {
         }
     }
 
-    /// `req`.
+    /// The step of a `req` line: `None` exactly where its connection isn't declared, or the request's name is no name.
     fn request_line(
         &self,
         connection: &[u8],
@@ -376,7 +376,7 @@ impl Script {
         }))
     }
 
-    /// `set`.
+    /// The step of a `set` line: `None` exactly where the adapter set's name is no name.
     fn set_line(&self, name: &[u8]) -> Result<Option<Step>, NoMemory>
         ensures { IfOk result (λ step. step ≡ set_line name.now) }
     {
@@ -386,7 +386,8 @@ impl Script {
         }
     }
 
-    /// `item`.
+    /// The step of an `item` line: `None` exactly where its words say no item, an item has its name, or no more items
+    /// may be declared.
     fn item_line(&self, name: &[u8], word: &[u8], fields: &[u8]) -> Result<Option<Step>, NoMemory>
         ensures { IfOk result (λ step. step ≡ item_line self.now name.now word.now fields.now) }
     {
@@ -400,7 +401,7 @@ impl Script {
         Ok(Some(Step::Item { name, kind, fields }))
     }
 
-    /// `tick`.
+    /// The step of a `tick` line: `None` exactly where its number is no number of a line, or is below the last tick.
     fn tick_line(&self, text: &[u8]) -> Option<Step>
         ensures { result ≡ tick_line self.now text.now }
     {
@@ -408,7 +409,8 @@ impl Script {
         Some(Step::Tick { ms })
     }
 
-    /// `conn`.
+    /// The step of a `conn` line: `None` exactly where its word is no kind of connections, or its name can't be that of
+    /// a new one.
     fn conn_line(&self, name: &[u8], word: &[u8]) -> Result<Option<Step>, NoMemory>
         ensures { IfOk result (λ step. step ≡ conn_line self.now name.now word.now) }
     {
@@ -421,7 +423,8 @@ impl Script {
         Ok(Some(Step::Conn { name, link }))
     }
 
-    /// The name of a new connection that a text is.
+    /// The name of a new connection that a text is: `None` exactly where it is no name, a connection has it, or no more
+    /// connections may be declared.
     fn new_connection(&self, text: &[u8]) -> Result<Option<Text>, NoMemory>
         ensures { IfOk result (λ name. name ≡ (if is_new self.now.connections text.now then Some text.now else None)) }
     {
@@ -432,7 +435,7 @@ impl Script {
         Ok(name)
     }
 
-    /// `open`.
+    /// The step of an `open` line: `None` exactly where its name can't be that of a new connection.
     fn open_line(&self, name: &[u8]) -> Result<Option<Step>, NoMemory>
         ensures { IfOk result (λ step. step ≡ open_line self.now name.now) }
     {
@@ -442,7 +445,8 @@ impl Script {
         }
     }
 
-    /// `add`.
+    /// The step of an `add` line: `None` exactly where its connection isn't declared, or [`add_words`] makes nothing of
+    /// its other words.
     fn add_line(
         &self,
         connection: &[u8],
@@ -462,7 +466,8 @@ impl Script {
         Ok(Some(Step::Add { connection, words }))
     }
 
-    /// `pub`.
+    /// The step of a `pub` line: `None` exactly where its adapter or its seq is no number in its range, its item isn't
+    /// declared, or its text says no update of the item's fields.
     fn publish_line(
         &self,
         adapter: &[u8],
@@ -497,7 +502,8 @@ impl Script {
         }))
     }
 
-    /// `clear`.
+    /// The step of a `clear` line: `None` exactly where its adapter or its seq is no number in its range, or its item
+    /// isn't declared.
     fn clear_line(&self, adapter: &[u8], seq: &[u8], item: &[u8]) -> Option<Step>
         ensures { result ≡ clear_line self.now adapter.now seq.now item.now }
     {
@@ -507,7 +513,8 @@ impl Script {
         Some(Step::Clear { adapter, seq, item })
     }
 
-    /// `enq`.
+    /// The step of an `enq` line: `None` exactly where its connection isn't declared, or its subscription or its rank
+    /// is no number of a line.
     fn enqueue_line(&self, connection: &[u8], sub: &[u8], rank: &[u8]) -> Option<Step>
         ensures { result ≡ enqueue_line self.now connection.now sub.now rank.now }
     {
@@ -521,7 +528,7 @@ impl Script {
         })
     }
 
-    /// `take`.
+    /// The step of a `take` line: `None` exactly where its connection isn't declared.
     fn take_line(&self, connection: &[u8]) -> Option<Step>
         ensures { result ≡ take_line self.now connection.now }
     {
@@ -529,7 +536,7 @@ impl Script {
         Some(Step::Take { connection })
     }
 
-    /// `lose`.
+    /// The step of a `lose` line: `None` exactly where its connection isn't declared.
     fn lose_line(&self, connection: &[u8]) -> Option<Step>
         ensures { result ≡ lose_line self.now connection.now }
     {

@@ -1,6 +1,6 @@
 -- What a turn gives before its round is asked.
 use Rattle.std.proofs.Common.{◌≡◌, ◌≤◌, ◌+◌, ℕ, Bool, List, [], ◌∷◌, length, true, false, refl, sym, ap, subst, cond, nat_lt, Option, None, Some}
-use Rattle.ls_budget.specs.declared.limits.TheConstants.{GREATEST_TICK}
+use Rattle.ls_value.specs.declared.limits.TheConstants.{GREATEST_TICK}
 use Rattle.ls_stream.specs.Giving.{given_first, bound_first, owed_first}
 use Rattle.ls_stream.specs.Standing.{GivesFirst, AnswersGives, current_text}
 use Rattle.ls_stream.specs.declared.lines.Lines.{Lines as KeptLines}

@@ -4,7 +4,7 @@ use Rattle.std.proofs.Common.{option_map, slice_get}
 use Rattle.std.proofs.lemmas.Bool.{lt-ltb}
 use Rattle.ls_budget.specs.Budget.{Spend}
 use Rattle.ls_budget.specs.Kept.{KeptCredit, StandsBandwidth}
-use Rattle.ls_budget.specs.declared.limits.TheConstants.{GREATEST_TICK}
+use Rattle.ls_value.specs.declared.limits.TheConstants.{GREATEST_TICK}
 use Rattle.ls_stream.proofs.Moving.{lines_roomier}
 use Rattle.ls_stream.specs.Standing.{StandsLines, IsRoomier}
 use Rattle.ls_stream.specs.declared.lines.Lines.{Lines as KeptLines}

@@ -2,8 +2,7 @@
 use Rattle.std.proofs.Common.{◌≡◌, ◌<◌, ◌≤◌, ◌&&◌, ℕ, Bool, length, true, false, refl, sym, ◌∙◌, ap, subst, cond, arith}
 use Rattle.std.proofs.Common.{Option, None, Some, is_some, nat_le, nat_lt, nat_eq, slice_get, option_map}
 use Rattle.std.proofs.lemmas.Bool.{leb-true, leb-false, ltb-true, ltb-false, eqb-true}
-use Rattle.ls_value.specs.declared.limits.TheConstants.{GREATEST_NUMBER}
-use Rattle.ls_budget.specs.declared.limits.TheConstants.{GREATEST_TICK}
+use Rattle.ls_value.specs.declared.limits.TheConstants.{GREATEST_NUMBER, GREATEST_TICK}
 use Rattle.ls_budget.specs.declared.due.Due.TheVariants as due
 use Rattle.ls_budget.specs.Due.{due_at as due_answer}
 use Rattle.ls_stream.proofs.Reading.{lines_last}

@@ -1,11 +1,10 @@
 -- What a session keeps, and the record that it stands for. It says nothing of items or their histories.
 use Rattle.std.specs.Prelude.{◌≡◌, ◌≤◌, ◌<◌, ◌⊎◌, ℕ, ◌+◌, List, [], ◌∷◌, length, map, Bool, true, false}
 use Rattle.std.specs.Prelude.{Option, None, Some, is_some, option_map, nat_eq, if◌then◌else◌}
-use Rattle.ls_value.specs.declared.limits.TheConstants.{GREATEST_NUMBER}
+use Rattle.ls_value.specs.declared.limits.TheConstants.{GREATEST_NUMBER, GREATEST_TICK}
 use Rattle.ls_budget.specs.Budget.{Spend, credit_tick}
 use Rattle.ls_budget.specs.Kept.{KeptCredit, StandsBandwidth}
 use Rattle.ls_budget.specs.Due.{due_at as due_answer}
-use Rattle.ls_budget.specs.declared.limits.TheConstants.{GREATEST_TICK}
 use Rattle.ls_turns.specs.Round.{node_of_place, slots_of}
 use Rattle.ls_turns.specs.declared.slot_ref.SlotRef.{SlotRef}
 use Rattle.ls_stream.specs.Standing.{StandsLines, IsShort, IsReadyFor, current_text}

@@ -1,6 +1,6 @@
 //! New streams, and streams that are lost (TLCP 2.1, bind_session and force_rebind).
 ghost use Rattle.std.specs.Prelude.{◌≡◌, ◌≤◌, ◌+◌, ℕ, None, Some, length, IfOk, OnOk, OnErr, IsErrOf};
-ghost use Rattle.ls_budget.specs.declared.limits.TheConstants.{GREATEST_TICK};
+ghost use Rattle.ls_value.specs.declared.limits.TheConstants.{GREATEST_TICK};
 ghost use Rattle.ls_world.specs.World.{rebound, forced};
 ghost use Rattle.ls_subs.specs.declared.plan.Refusal.TheVariants as Refusal;
 ghost use Rattle.ls_session.specs.Record.{Record, begun_anew, unless_ended, binding_code, loss_of, after_loss};
@@ -11,10 +11,11 @@ use ls_request::Bind;
 use ls_subs::Refusal;
 
 impl Session {
-    /// A new stream at a tick, in ms, which isn't before that of the last turn: the next line to be given is the one
-    /// behind the count that the client tells, and else the one behind the line given last. Its epoch is answered. It
-    /// is refused, in this order: 20 where the session has ended, 4 where the line behind the count isn't kept or the
-    /// count is beyond the last line, 74 where no epoch is left. A refusal changes nothing.
+    /// A new stream at a tick, in ms, of at most [`GREATEST_TICK`](ls_value::GREATEST_TICK) and not below that of an
+    /// earlier call: the next line to be given is the one behind the count that the client tells, and else the one
+    /// behind the line given last. Its epoch is answered. It is refused, in this order: 20 where the session has ended,
+    /// 4 where the line behind the count isn't kept or the count is beyond the last line, 74 where no epoch is left. A
+    /// refusal changes nothing.
     pub fn bind(&mut self, bind: &Bind, now: u64) -> Result<u64, Refusal>
         ensures accepted { IfOk result (λ epoch. (r : Record) → StandsSession self.old r
             → (binding_code r.session bind.now ≡ None) × (epoch ≡ length r.session.streams + 1)
@@ -28,12 +29,13 @@ impl Session {
             return Err(Refusal::Code(code));
         }
         let limit = self.bandwidth.rate();
-        let epoch = self.lines.bind(self.alloc, bind, limit)?;
+        let epoch = self.lines.bind(bind, limit)?;
         self.asking.begin(now);
         Ok(epoch)
     }
 
-    /// The stream of an epoch is lost at a tick, in ms, which isn't before that of the last turn. No memory is taken.
+    /// The stream of an epoch is lost at a tick, in ms, of at most [`GREATEST_TICK`](ls_value::GREATEST_TICK) and not
+    /// below that of an earlier call. No memory is taken.
     pub fn lose(&mut self, epoch: u64, now: u64) -> Lost
         ensures { (r : Record) → StandsSession self.old r → r.tick ≤ now → now ≤ GREATEST_TICK
             → (result ≡ loss_of epoch r.session) × StandsSession self.new (after_loss now result r) }

@@ -1,7 +1,7 @@
 //! When a slot is due, and what a line takes of a session's bandwidth (General Concepts, frequency and bandwidth).
 ghost use Rattle.std.specs.Prelude.{◌≡◌, ◌≤◌, ◌+◌, ℕ, max, Some, slice_get, length};
 ghost use Rattle.ls_budget.specs.Due.{due_at};
-ghost use Rattle.ls_budget.specs.declared.limits.TheConstants.{GREATEST_TICK};
+ghost use Rattle.ls_value.specs.declared.limits.TheConstants.{GREATEST_TICK};
 ghost use Rattle.ls_world.specs.World.{Live};
 ghost use Rattle.ls_world.specs.World.{due_at as due_tick_of};
 ghost use Rattle.ls_subs.specs.Standing.{ref_of};

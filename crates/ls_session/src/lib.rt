@@ -16,11 +16,11 @@
 //! turn(500, 1)  Idle
 //! ```
 //!
-//! Each question takes the same time, however many slots there are. Who knows that nothing is pending of the slot that is
-//! asked next (`next_slot`) passes over it without a question (`skip`). `prepare_add` and `finish_add` add a subscription
-//! around the joining of its slots, `reconf` gives it another frequency, `delete` ends it, `constrain` gives the
-//! session another bandwidth, and `finish` ends it. `bind` begins a new stream of the next epoch, also where a client
-//! lost the last one and goes on behind the lines that it has; `lose` leaves the session without a stream, and
+//! Each question takes the same time, however many slots there are. Who knows that nothing is pending of the slot that
+//! is asked next (`next_slot`) passes over it without a question (`skip`). `prepare_add` and `finish_add` add a
+//! subscription around the joining of its slots, `reconf` gives it another frequency, `delete` ends it, `constrain`
+//! gives the session another bandwidth, and `finish` ends it. `bind` begins a new stream of the next epoch, also where
+//! a client lost the last one and goes on behind the lines that it has; `lose` leaves the session without a stream, and
 //! `force_rebind` has the stream end by LOOP.
 #![tactic(auto)]
 

@@ -2,8 +2,7 @@
 //! another bandwidth (TLCP 2.1, control).
 ghost use Rattle.std.specs.Prelude.{◌≡◌, ◌≤◌, ◌<◌, ◌+◌, ℕ, List, length, map, None, Some, IfOk, OnOk, OnErr, IsErrOf};
 ghost use Rattle.std.specs.Option.{ForSome};
-ghost use Rattle.ls_value.specs.declared.limits.TheConstants.{GREATEST_NUMBER};
-ghost use Rattle.ls_budget.specs.declared.limits.TheConstants.{GREATEST_TICK};
+ghost use Rattle.ls_value.specs.declared.limits.TheConstants.{GREATEST_NUMBER, GREATEST_TICK};
 ghost use Rattle.ls_event.specs.declared.item.ItemDef.{ItemDef};
 ghost use Rattle.ls_line.specs.Lines.{text_of_line};
 ghost use Rattle.ls_request.specs.declared.request.Add.{Add as Adding};
@@ -78,8 +77,9 @@ impl Session {
         Ok(plan)
     }
 
-    /// A subscription begins, whose items were joined by these slots: its two lines are numbered, and its slots join
-    /// the round's end. No memory is taken.
+    /// A subscription begins, whose items were joined by these slots, one for each item: its two lines are numbered,
+    /// and its slots join the round's end. The plan is that of the last [`Session::prepare_add`], and the session
+    /// didn't change since. No memory is taken.
     pub fn finish_add(&mut self, plan: AddPlan, slots: &[u32])
         requires ready { IsReady self.old plan }
         requires slots { length slots.now ≡ length plan.items.items }
@@ -99,9 +99,10 @@ impl Session {
         self.lines.number(configures);
     }
 
-    /// The text of a line that tells of a client's message, MSGDONE or MSGFAIL. It takes all the memory that
-    /// [`Session::finish_line`] needs. It is refused, in this order: 20 where the session has ended, 70 where too many
-    /// lines wait, 74 where no number is left. A refusal changes nothing.
+    /// The text of a line that tells of a client's message: MSGDONE or MSGFAIL, whose parts are in the ranges that
+    /// [`Line`] has for them, and whose text has at most [`LONGEST_TEXT`](ls_line::LONGEST_TEXT) bytes. It takes all
+    /// the memory that [`Session::finish_line`] needs. It is refused, in this order: 20 where the session has ended, 70
+    /// where too many lines wait, 74 where no number is left. A refusal changes nothing.
     pub fn prepare_line(&mut self, line: &Line) -> Result<Bytes, Refusal>
         ensures text { IfOk result (λ t. t ≡ text_of_line line.now) }
         ensures ready { OnOk result (IsReadyFor 1 self.new.lines) }
@@ -118,7 +119,9 @@ impl Session {
         Ok(text)
     }
 
-    /// The line of this text is numbered, and waits to be given. Its number is answered. No memory is taken.
+    /// The line of this text is numbered, and waits to be given. Its number is answered. The text is that of a
+    /// [`Session::prepare_line`], and nothing was numbered since: of several texts that were prepared one may be. No
+    /// memory is taken.
     pub fn finish_line(&mut self, text: Bytes) -> u64
         requires { IsReadyFor 1 self.old.lines }
         ensures number { result ≡ last_line self.old.lines + 1 }
@@ -208,8 +211,9 @@ impl Session {
     }
 
     /// The session has another bandwidth, in thousandths of a kbit per second, `None` for none, from a tick on, in ms,
-    /// which isn't before that of the last turn: CONS is owed to its stream, and the credit begins anew. It is refused,
-    /// in this order: 20 where the session has ended, 70 where too many lines are owed. A refusal changes nothing.
+    /// of at most [`GREATEST_TICK`](ls_value::GREATEST_TICK) and not below that of an earlier call: CONS is owed to its
+    /// stream, and the credit begins anew. It is refused, in this order: 20 where the session has ended, 70 where too
+    /// many lines are owed. A refusal changes nothing.
     pub fn constrain(&mut self, bandwidth: Option<u64>, now: u64) -> Result<(), Refusal>
         requires { ForSome bandwidth (λ limit. 0 < limit) }
         ensures accepted { OnOk result ((r : Record) → StandsSession self.old r

@@ -2,7 +2,7 @@
 ghost use Rattle.std.specs.Prelude.{◌≡◌, ◌≤◌, ◌<◌, ◌⊎◌, ◌&&◌, ℕ, List, [], Option, length, map, true, false, is_some};
 ghost use Rattle.std.specs.Prelude.{nat_lt, nat_le, IfOk, IfSome, option_map};
 ghost use Rattle.std.specs.Option.{ForSome};
-ghost use Rattle.ls_budget.specs.declared.limits.TheConstants.{GREATEST_TICK};
+ghost use Rattle.ls_value.specs.declared.limits.TheConstants.{GREATEST_TICK};
 ghost use Rattle.ls_world.specs.Lines.{text_at};
 ghost use Rattle.ls_world.specs.World.{live_at, opened, ended, is_alive, timed_out};
 ghost use Rattle.ls_world.specs.Acting.{destroyed};
@@ -85,7 +85,8 @@ pub enum Lost {
 }
 
 /// A session: the lines of its streams, its subscriptions, the round of their slots, and its bandwidth. It keeps the
-/// allocator that its constructor took.
+/// allocator that its constructor took. The ticks that its calls take are in ms, at most
+/// [`GREATEST_TICK`](ls_value::GREATEST_TICK), and never fall.
 #[derive(Drop)]
 pub struct Session {
     pub(crate) alloc: Global,
@@ -96,8 +97,8 @@ pub struct Session {
 }
 
 impl Session {
-    /// A session of this number at a tick, in ms, whose first stream is owed CONOK, SERVNAME and CONS. The texts of END
-    /// are made now, so that the session ends without memory.
+    /// A session of this number at a tick, in ms, of at most [`GREATEST_TICK`](ls_value::GREATEST_TICK), whose first
+    /// stream is owed CONOK, SERVNAME and CONS. The texts of END are made now, so that the session ends without memory.
     pub fn new(alloc: Global, id: u64, create: &Create, now: u64) -> Result<Session, NoMemory>
         requires { ForSome create.now.bandwidth (λ limit. 0 < limit) }
         ensures { IfOk result (λ k. now ≤ GREATEST_TICK

@@ -1,6 +1,6 @@
 //! A session's turn (TLCP 2.1, notifications).
 ghost use Rattle.std.specs.Prelude.{◌≡◌, ◌≤◌, false, slice_get, option_map};
-ghost use Rattle.ls_budget.specs.declared.limits.TheConstants.{GREATEST_TICK};
+ghost use Rattle.ls_value.specs.declared.limits.TheConstants.{GREATEST_TICK};
 ghost use Rattle.ls_session.specs.Asking.{begun};
 ghost use Rattle.ls_subs.specs.Standing.{ref_of};
 ghost use Rattle.ls_session.specs.Record.{Record, turned, round_turned, round_asked, passed_over};
@@ -14,12 +14,12 @@ use ls_subs::SlotRef;
 use ls_value::GREATEST_NUMBER;
 
 impl Session {
-    /// A turn at a tick, in ms, which isn't before that of the last turn, for the stream of an epoch: an owed line,
-    /// else LOOP where the stream is over, which leaves the session without one, else the next numbered line that isn't
-    /// given, else the question what the next slot of the round has to tell, else nothing, before the least tick at
-    /// which one of the slots that wait is due. The round begins anew at another tick, and where a question wasn't
-    /// answered. A session that has ended gives END once, and nothing else. Nothing is given on an older stream, or
-    /// where none is bound. No memory is taken.
+    /// A turn at a tick, in ms, of at most [`GREATEST_TICK`](ls_value::GREATEST_TICK) and not below that of an earlier
+    /// call, for the stream of an epoch: an owed line, else LOOP where the stream is over, which leaves the session
+    /// without one, else the next numbered line that isn't given, else the question what the next slot of the round has
+    /// to tell, else nothing, before the least tick at which one of the slots that wait is due. The round begins anew
+    /// at another tick, and where a question wasn't answered. A session that has ended gives END once, and nothing
+    /// else. Nothing is given on an older stream, or where none is bound. No memory is taken.
     pub fn turn(&mut self, now: u64, epoch: u64) -> Turn
         ensures { (r : Record) → StandsSession self.old r → r.tick ≤ now → now ≤ GREATEST_TICK
             → AnswersTurn (turned now epoch r).gives result self.new

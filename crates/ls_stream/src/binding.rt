@@ -13,7 +13,6 @@ use crate::stream::Stream;
 use ls_keep::Keep;
 use ls_request::Bind;
 use ls_value::{GREATEST_NUMBER, NoMemory};
-use std::alloc::Global;
 use std::collections::VecDeque;
 
 impl Lines {
@@ -48,13 +47,13 @@ impl Lines {
     /// A new stream: the next numbered line that is given is the one behind the count that the client tells, and else
     /// the one behind the line given last. Its own first lines alone are owed to it, with the session's bandwidth in
     /// thousandths of a kbit per second. Its epoch is answered.
-    pub fn bind(&mut self, alloc: Global, bind: &Bind, limit: Option<u64>) -> Result<u64, NoMemory>
+    pub fn bind(&mut self, bind: &Bind, limit: Option<u64>) -> Result<u64, NoMemory>
         requires may { MayBind self.old bind.now }
         ensures ok { IfOk result (λ epoch. (s : Session) → StandsLines self.old s → limit ≡ s.rate.limit
             → (epoch ≡ length s.streams + 1) × StandsLines self.new (rebound bind.now.session bind.now s)) }
         ensures err { OnErr result (self.new ≡ self.old) }
     {
-        let owed = rebound_lines(alloc, bind, limit)?;
+        let owed = rebound_lines(self.alloc, bind, limit)?;
         resume(&mut self.keep, bind.recover);
         self.owed = VecDeque::from_vec(owed);
         self.stream = Stream::new(self.stream.epoch + 1, bind.length);

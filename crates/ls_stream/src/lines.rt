@@ -66,9 +66,11 @@ pub enum StreamTurn {
 
 /// The lines that are owed to a session's newest stream, the numbered lines that are kept, what is kept of that stream,
 /// the tick since which none is bound, the line given last where it isn't numbered, which line that was, whether the
-/// session has ended, and the texts of END: for each cause while it is alive, and then for the one that ended it.
+/// session has ended, and the texts of END: for each cause while it is alive, and then for the one that ended it. It
+/// keeps the allocator that its constructor took.
 #[derive(Drop)]
 pub struct Lines {
+    pub(crate) alloc: Global,
     pub(crate) owed: VecDeque<Bytes>,
     pub(crate) keep: Keep,
     pub(crate) stream: Stream,
@@ -93,6 +95,7 @@ impl Lines {
         let timed_out = timed_out_text(alloc)?;
         let keep = Keep::new(alloc)?;
         Ok(Lines {
+            alloc,
             owed,
             keep,
             stream: Stream::new(1, create.length),

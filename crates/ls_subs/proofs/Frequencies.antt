@@ -1,7 +1,7 @@
 -- The greatest frequency of an item, and the tick of its last update.
 use Rattle.std.proofs.Common.{◌≡◌, ◌≤◌, ℕ, refl, subst, cond, Bool, true, false, Option, Some}
 use Rattle.ls_budget.specs.Kept.{KeptFrequency, StandsFrequency}
-use Rattle.ls_budget.specs.declared.limits.TheConstants.{GREATEST_TICK}
+use Rattle.ls_value.specs.declared.limits.TheConstants.{GREATEST_TICK}
 use Rattle.ls_mirror.specs.Client.{What}
 use Rattle.ls_world.specs.Lines.{is_update}
 use Rattle.ls_subs.specs.Kept.{spent_by}

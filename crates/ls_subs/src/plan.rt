@@ -52,7 +52,7 @@ pub struct PlanItem {
 
 impl PlanItem {
     /// Appends the line that a cut makes at a tick, and answers which one. Then the client has it, and an update is the
-    /// item's last one. After `NoMemory` the item is as before.
+    /// item's last one. After `NoMemory` the item is as before, and a part of the line may be there.
     pub(crate) fn accept(
         &mut self,
         taken: Taken,

@@ -8,7 +8,7 @@ ghost use Rattle.ls_budget.specs.Budget.{frequency_tick};
 ghost use Rattle.ls_budget.specs.Due.{due_at};
 ghost use Rattle.ls_budget.specs.Kept.{StandsFrequency};
 ghost use Rattle.ls_budget.specs.declared.due.Due.TheVariants as due;
-ghost use Rattle.ls_budget.specs.declared.limits.TheConstants.{GREATEST_TICK};
+ghost use Rattle.ls_value.specs.declared.limits.TheConstants.{GREATEST_TICK};
 ghost use Rattle.ls_mirror.specs.declared.command.KeyPlaces.{KeyPlaces as Keys};
 ghost use Rattle.ls_event.specs.declared.event.Snap.{Snap};
 ghost use Rattle.ls_world.specs.Lines.{Line, Begins, Ends, Configures, updated};
@@ -190,7 +190,8 @@ impl Subs {
         Ok(())
     }
 
-    /// A subscription is live: its items, which `prepare` told, with these slots of theirs. Takes no memory.
+    /// A subscription is live, with these slots, one for each of its items. These are of the plan that the last
+    /// [`Subs::prepare`] told, and nothing changed since. Takes no memory.
     pub fn finish(&mut self, sub: u32, items: Vec<PlanItem>, slots: &[u32])
         requires room { 1 ≤ room_of self.old }
         requires new { has_sub self.old sub ≡ false }
@@ -286,7 +287,7 @@ fn set_all(items: &mut Vec<PlanItem>, frequency: Option<u64>)
 
 /// Appends the line that a cut of the item at a place makes at a tick, and answers which one; there is none where there
 /// is no such place. Then the client has it, and an update is the item's last one. After `NoMemory` the items are as
-/// before.
+/// before, and a part of the line may be there.
 fn accept_at(
     items: &mut Vec<PlanItem>,
     place: u32,

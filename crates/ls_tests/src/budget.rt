@@ -2,7 +2,8 @@
 //! ones, and tables of single budgets.
 ghost use Rattle.std.specs.Prelude.{◌<◌, ◌≤◌};
 ghost use Rattle.std.specs.Option.{ForSome};
-ghost use Rattle.ls_budget.specs.declared.limits.TheConstants.{GREATEST_TICK, MOST_BYTES};
+ghost use Rattle.ls_value.specs.declared.limits.TheConstants.{GREATEST_TICK};
+ghost use Rattle.ls_budget.specs.declared.limits.TheConstants.{MOST_BYTES};
 
 use ls_budget::{Bandwidth, Due, Frequency, GREATEST_TICK, MOST_BYTES, interval_of};
 use std::test::Fail;

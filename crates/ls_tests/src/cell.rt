@@ -469,20 +469,12 @@ fn distinct_slots_tell_the_last_updates(rt: HostRuntime) -> Result<(), Fail> {
 fn command_slots_tell_keys(rt: HostRuntime) -> Result<(), Fail> {
     let cases = [
         (
-            "+b1 +a2 jC1a t1 t1 t1 t1",
-            "1 2 1@2 a=a|#|2@2 b=b|#|1@2 end none",
-        ),
-        (
             "jC1- jR1- +a1 -a c1 t1 t1 e2 t2",
             "1@0 2@0 1 2 0 a=-@2 none 1 a|ADD|1@1",
         ),
         (
             "jC1- +k5 -k c1 t1 +k7 c1 t1 t1",
             "1@0 1 2 0 k=-@2 3 0 k=k|#|7@3 none",
-        ),
-        (
-            "+a1 +b2 jC1a ! +b9 c1 t1 t1 t1 t1",
-            "1 2 1@2 3 4 0 end cleared@3 b=b|#|9@4 none",
         ),
         (
             "jC1- +a1 +b1 c1 t1 -a +a2 c1 t1 t1 t1",
@@ -497,12 +489,33 @@ fn command_slots_tell_keys(rt: HostRuntime) -> Result<(), Fail> {
             "1@0 1 2 3 0 a=-@3 4 5 0 b=b|#|2@5 a=a|#|3@5 none",
         ),
         (
-            "+a1 +b2 +c3 jC1a +c9 +d4 c1 t1 t1 t1 t1 t1 t1",
-            "1 2 3 1@3 4 5 0 a=a|#|1@5 b=b|#|2@5 c=c|#|9@5 end d=d|#|4@5 none",
-        ),
-        (
             "jC1- +a1 ! +b1 ! +c1 c1 t1 t1 t1",
             "1@0 1 2 3 4 5 0 cleared@4 c=c|#|1@5 none",
+        ),
+    ];
+    for (script, answers) in cases {
+        assert!(rt;
+            holds(rt.alloc(), Kind::Command, script, answers)?,
+            "{script}"
+        );
+    }
+    Ok(())
+}
+
+#[test]
+fn command_slots_tell_their_snapshot_first(rt: HostRuntime) -> Result<(), Fail> {
+    let cases = [
+        (
+            "+b1 +a2 jC1a t1 t1 t1 t1",
+            "1 2 1@2 a=a|#|2@2 b=b|#|1@2 end none",
+        ),
+        (
+            "+a1 +b2 jC1a ! +b9 c1 t1 t1 t1 t1",
+            "1 2 1@2 3 4 0 end cleared@3 b=b|#|9@4 none",
+        ),
+        (
+            "+a1 +b2 +c3 jC1a +c9 +d4 c1 t1 t1 t1 t1 t1 t1",
+            "1 2 3 1@3 4 5 0 a=a|#|1@5 b=b|#|2@5 c=c|#|9@5 end d=d|#|4@5 none",
         ),
         (
             "+a1 +b2 jC1a t1 ! +a7 c1 t1 t1 t1 t1",

@@ -79,9 +79,9 @@ fn holds(buffer: &mut LineBuf, first: &[u8; 5], last: &[u8; 7]) -> bool {
 
 /// Whether a buffer holds a text of its length.
 fn holds_longest(alloc: Global, buffer: &mut LineBuf) -> Result<bool, NoMemory> {
-    let longest = vec![in alloc; b'a'; 16384]?;
+    let longest = vec![in alloc; b'a'; LONGEST_TEXT]?;
     buffer.fill(&longest);
-    Ok(buffer.text().len() == 16384)
+    Ok(buffer.text().len() == LONGEST_TEXT)
 }
 
 #[test]

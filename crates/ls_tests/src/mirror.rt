@@ -89,7 +89,8 @@ fn item_fed(alloc: Global, client: &mut Client, case: &str) -> Result<String, Li
     Ok(item_case(alloc, client, line, (sub, item), answer.as_str())?)
 }
 
-/// A case in words: a line, the answer to it, and the table of the first item of subscription 1 after it, with its keys.
+/// A case in words: a line, the answer to it, and the table of the first item of subscription 1 after it, with its
+/// keys.
 fn keyed_case(
     alloc: Global,
     client: &Client,

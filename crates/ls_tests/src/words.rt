@@ -4,7 +4,7 @@ use std::test::Fail;
 
 #[test]
 fn numbers_are_read(rt: HostRuntime) -> Result<(), Fail> {
-    let cases: [(&[u8], u64, u64, Option<u64>); 26] = [
+    let cases: [(&[u8], u64, u64, Option<u64>); 16] = [
         (b"0", 0, 9, Some(0)),
         (b"7", 0, 9, Some(7)),
         (b"9", 0, 9, Some(9)),
@@ -21,6 +21,16 @@ fn numbers_are_read(rt: HostRuntime) -> Result<(), Fail> {
         (b"7a", 0, 99, None),
         (b"/", 0, 99, None),
         (b":", 0, 99, None),
+    ];
+    for (text, low, high, number) in cases {
+        assert!(rt; number_in(text, low, high) == number);
+    }
+    Ok(())
+}
+
+#[test]
+fn great_numbers_are_read(rt: HostRuntime) -> Result<(), Fail> {
+    let cases: [(&[u8], u64, u64, Option<u64>); 10] = [
         (b"999999999", 1, 999999999, Some(999999999)),
         (b"1000000000", 1, 999999999, None),
         (

@@ -22,23 +22,23 @@ pub enum ReadRefused {
     /// The tokens end before the last field.
     TooFew {
         /// The number of fields that they say.
-        got: usize,
+        got: u64,
     },
     /// A token stands behind the last field.
     TooMany {
         /// The number of the first such token.
-        at: usize,
+        at: u64,
     },
     /// A token begins with `^`, and no number of fields from 1 to those left stands behind it, in digits without a
     /// leading zero.
     BadRun {
         /// The token's number.
-        at: usize,
+        at: u64,
     },
     /// The bytes of a value, percent-decoded, are not UTF-8.
     BadText {
         /// The number of the value's token.
-        at: usize,
+        at: u64,
     },
     /// Memory was refused.
     NoMemory,
@@ -86,7 +86,7 @@ fn read_after(alloc: Global, prev: &[Value], bytes: &[u8]) -> Result<Row, ReadRe
 {
     let mut values = Vec::new(alloc);
     let mut rest = Some(bytes);
-    let mut number: usize = 0;
+    let mut number: u64 = 0;
     while let Some(text) = rest {
         let (token, behind) = first_piece(b'|', text);
         number += 1;
@@ -96,7 +96,9 @@ fn read_after(alloc: Global, prev: &[Value], bytes: &[u8]) -> Result<Row, ReadRe
         rest = behind;
     }
     if values.len() < prev.len() {
-        return Err(ReadRefused::TooFew { got: values.len() });
+        return Err(ReadRefused::TooFew {
+            got: values.len() as u64,
+        });
     }
     Ok(Row::of(values))
 }
@@ -107,7 +109,7 @@ fn append_token(
     values: &mut Vec<Value>,
     prev: &[Value],
     token: &[u8],
-    number: usize,
+    number: u64,
 ) -> Result<(), ReadRefused>
     requires { length values.old.items ≤ length prev.now }
     ensures grows { OnOk result (Grows prev.now values.old.items token.now values.new.items) }

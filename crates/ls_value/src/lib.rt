@@ -23,7 +23,7 @@ mod reuse;
 mod row;
 mod text;
 
-pub use limits::{GREATEST_NUMBER, GREATEST_ORDINAL};
+pub use limits::{GREATEST_NUMBER, GREATEST_ORDINAL, GREATEST_TICK};
 pub use lists::{Names, Places};
 pub use projection::{
     cells_at, copy_cell_at, copy_value_at, is_projected, project, project_cells, set_value_at,

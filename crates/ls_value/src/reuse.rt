@@ -51,7 +51,8 @@ impl Value {
 }
 
 impl Row {
-    /// Becomes an equal row, in the room that it has.
+    /// Becomes an equal row, in the room that it has. After `NoMemory` the first of its fields may be new, the others
+    /// are old or null, and some may lack.
     pub fn set_from(&mut self, alloc: Global, other: &Row) -> Result<(), NoMemory>
         ensures { OnOk result (self.new ≡ other.now) }
     {
@@ -59,7 +60,8 @@ impl Row {
         set_all(alloc, &mut self.values, other.as_slice())
     }
 
-    /// Becomes the row after an update, in the room that it has. The row has a field for each cell.
+    /// Becomes the row after an update, in the room that it has. The row has a field for each cell. After `NoMemory`
+    /// the first of its fields may be new, the others are old or null, and some may lack.
     pub fn set_applied(&mut self, alloc: Global, row: &Row, cells: &Cells) -> Result<(), NoMemory>
         requires { length row.now ≡ length cells.now }
         ensures { OnOk result (self.new ≡ applied row.now cells.now) }
@@ -69,7 +71,7 @@ impl Row {
     }
 
     /// Becomes the row after the cells at the places of a schema, in the room that it has. The row has a field for each
-    /// place.
+    /// place. After `NoMemory` the first of its fields may be new, the others are old or null, and some may lack.
     pub fn set_applied_at(
         &mut self,
         alloc: Global,
@@ -90,7 +92,8 @@ impl Row {
         )
     }
 
-    /// Becomes the row at the places of a schema, in the room that it has: null past that row's last value.
+    /// Becomes the row at the places of a schema, in the room that it has: null past that row's last value. After
+    /// `NoMemory` the first of its fields may be new, the others are old or null, and some may lack.
     pub fn set_projected(
         &mut self,
         alloc: Global,

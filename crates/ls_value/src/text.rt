@@ -6,7 +6,7 @@ ghost use Rattle.ls_value.specs.Values.{text_eq};
 use std::alloc::{AllocError, AllocFailed, Global};
 use std::marker::Model;
 
-/// Memory was refused. The call that answers it has changed nothing.
+/// Memory was refused. The call that answers it has changed nothing, unless it says otherwise.
 #[derive(Clone, Copy, Debug, PartialEq, Eq)]
 pub struct NoMemory;
 

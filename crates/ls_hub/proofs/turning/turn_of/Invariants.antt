@@ -1,5 +1,5 @@
 use Rattle.std.proofs.Common.{◌++◌, ◌≤◌, List}
-use Rattle.ls_budget.specs.declared.limits.TheConstants.{GREATEST_TICK}
+use Rattle.ls_value.specs.declared.limits.TheConstants.{GREATEST_TICK}
 use Rattle.ls_world.specs.World.{Item, Live}
 use Rattle.ls_cells.specs.Cells.{StandsCells}
 use Rattle.ls_session.specs.Record.{Record}

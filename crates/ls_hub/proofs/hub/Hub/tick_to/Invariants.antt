@@ -1,5 +1,5 @@
 use Rattle.std.proofs.Common.{◌≤◌, ◌-◌, length}
-use Rattle.ls_budget.specs.declared.limits.TheConstants.{GREATEST_TICK}
+use Rattle.ls_value.specs.declared.limits.TheConstants.{GREATEST_TICK}
 use Rattle.ls_world.specs.World.{World}
 use Rattle.ls_hub.specs.Clock.{Clocked}
 use Rattle.ls_hub.specs.Hub.{StandsHub}
