@@ -1,5 +1,6 @@
 -- Short scripts, run in the definitions alone: the steps that their lines ask for, and what is printed for them.
-use Rattle.std.proofs.Common.{◌≡◌, ◌∙◌, sym, ◌==◌, arith, ℕ, List, [], ◌∷◌, ◌++◌, replicate, map, reverse, refl, codes, Bool, true, false, Option, None, Some}
+use Rattle.std.proofs.Common.{◌≡◌, ◌∙◌, sym, ◌==◌, ◌<◌, arith, ℕ, List, [], ◌∷◌, ◌++◌, replicate, map, reverse, refl, codes, Bool, true, false}
+use Rattle.std.proofs.Common.{Option, None, Some}
 use Rattle.std.proofs.lemmas.Bool.{eq-eqb}
 use Rattle.std.specs.Fmt.{digits}
 use Rattle.std.specs.List.{Contains}
@@ -15,7 +16,7 @@ use Rattle.ls_event.specs.declared.item.ItemDef.{ItemDef}
 use Rattle.ls_event.specs.declared.item.Kind.{Kind}
 use Rattle.ls_event.specs.declared.item.Kind.TheVariants as kind
 use Rattle.ls_event.specs.Joining.{plan_of, joined}
-use Rattle.ls_event.specs.Slots.{Slot, passed}
+use Rattle.ls_event.specs.Slots.{Plan, Slot, fresh, passed}
 use Rattle.ls_form.specs.declared.form.Pair.{Pair}
 use Rattle.ls_mirror.specs.Client.{Row, Lost}
 use Rattle.ls_request.specs.declared.request.LinkKind.TheVariants as link
@@ -24,7 +25,9 @@ use Rattle.ls_step.specs.declared.step.Step.{Step}
 use Rattle.ls_step.specs.declared.step.Repeat.{Repeat}
 use Rattle.ls_step.specs.declared.step.Step.TheVariants as step
 use Rattle.ls_step.specs.Adding.{are_utf8, all_pairs, parameter}
+use Rattle.ls_world.specs.Came.{Came}
 use Rattle.ls_world.specs.Cutting.{Wanted, turn}
+use Rattle.ls_world.specs.Lawful.{IsMergeLine, LawfulMerge}
 use Rattle.ls_world.specs.Lines.{Ends}
 use Rattle.ls_world.specs.Cases.{first_code}
 use Rattle.ls_world.specs.World.{World, Live, Session, is_used, empty, opened}
@@ -151,6 +154,35 @@ pub merge_no_events : printed (item kind.Merge (codes "x" ∷ []) ∷ opens ∷ 
 unfolding digits
 merge_no_events = refl
 
+-- a snapshot is the item's state when the slot joins, and without one nothing of it is told
+abbrev update : Entry
+update = record { adapter = 1; seq = 1; event = Update (text (codes "A") ∷ []) }
+
+abbrev one_field : Wanted
+one_field = record { places = 0 ∷ []; snapshot = None }
+
+abbrev with_snapshot : Wanted
+with_snapshot = record { places = 0 ∷ []; snapshot = Some 1 }
+
+abbrev merge_plan : Plan
+merge_plan = plan_of (record { kind = kind.Merge; fields = 1; key = 0; command = 0 }) (update ∷ []) mode.Merge 1
+
+abbrev row_a : Came
+row_a = record { what = Row (value.Text (codes "A") ∷ []); before = 0; upto = 1; at = 1 }
+
+pub merge_snapshot : (turn (update ∷ []) with_snapshot (joined merge_plan (update ∷ []) (Some 1)) []).came ≡ Some row_a
+merge_snapshot = refl
+
+pub merge_without : (turn (update ∷ []) one_field (joined merge_plan (update ∷ []) None) []).came ≡ None
+merge_without = refl
+
+-- so it isn't lawful that a snapshot doesn't come, and neither is a line of that state without one
+pub snapshot_comes : LawfulMerge (update ∷ []) with_snapshot (fresh merge_plan 1) [] → ⊥
+snapshot_comes l = (let x : 1 < 1 = l.waits refl (omega arith, omega arith) in omega arith)
+
+pub nothing_earlier : IsMergeLine merge_plan one_field (update ∷ []) row_a → ⊥
+nothing_earlier l = (let x : 1 < 1 = l.since in omega arith)
+
 -- mode RAW tells each update, an equal row in an empty list of fields
 pub raw_twice : printed (item kind.Merge (codes "x" ∷ []) ∷ opens ∷ add mode.Raw (codes "x") None None ∷ publish 1 (text (codes "1") ∷ [])
     ∷ publish 2 (text (codes "1") ∷ []) ∷ enqueue 2 ∷ take 9 ∷ [])
@@ -159,12 +191,6 @@ unfolding digits
 raw_twice = refl
 
 -- behind 300 updates the first 44 are counted, and the next one is told
-abbrev update : Entry
-update = record { adapter = 1; seq = 1; event = Update (text (codes "A") ∷ []) }
-
-abbrev one_field : Wanted
-one_field = record { places = 0 ∷ []; snapshot = None }
-
 abbrev raw_behind : Slot
 raw_behind = record (joined (plan_of (record { kind = kind.Merge; fields = 1; key = 0; command = 0 }) [] mode.Raw 1) [] None) { last = 300 }
 

@@ -309,14 +309,19 @@ joined_away items free sub rank [] v h = tt
 joined_away items free sub rank (a ∷ asks) v h =
     (and_false (v.sub == sub) (v.rank == rank) (eqb_swap v.sub sub ∙ h), joined_away items free sub (rank + 1) asks v h)
 
+pub added_apart : (items : List Item) (free : ℕ → ℕ) (sub : ℕ) (asks : List Ask) (round : List Live) → Apart round → is_used sub round ≡ false
+    → Apart (round ++ joined_all items free sub 1 asks)
+added_apart items free sub asks round apart new =
+    apart_append round (joined_all items free sub 1 asks) apart (joined_apart items free sub 1 asks)
+    (each_map (λ v. is_of sub v ≡ false) (λ v. Each (λ u. is_at v.sub v.rank u ≡ false) (joined_all items free sub 1 asks)) round
+    (λ v h. joined_away items free sub 1 asks v h) (unused_each sub round new))
+
 pub add_keeps : (items : List Item) (free : ℕ → ℕ) (sub fields : ℕ) (asks : List Ask) (b : Board) → is_used sub b.round ≡ false → Each (MayJoin items) asks
     → LawfulBoard items b → LawfulBoard items (added items free sub fields asks b)
 add_keeps items free sub fields asks b new may l =
     let away = unused_each sub b.round new in
     record {
-      apart = apart_append b.round (joined_all items free sub 1 asks) l.apart (joined_apart items free sub 1 asks)
-          (each_map (λ v. is_of sub v ≡ false) (λ v. Each (λ u. is_at v.sub v.rank u ≡ false) (joined_all items free sub 1 asks)) b.round
-          (λ v h. joined_away items free sub 1 asks v h) away);
+      apart = added_apart items free sub asks b.round l.apart new;
       slots = each_append (LawfulLive items (added items free sub fields asks b).lines) b.round (joined_all items free sub 1 asks)
           (each_map (λ v. (is_of sub v ≡ false) × LawfulLive items b.lines v) (LawfulLive items (added items free sub fields asks b).lines) b.round
           (λ v h. begun_keeps items b.lines sub (frequency_of asks) (are_filtered asks) (length asks) fields (keys_shown items asks) v h.0 h.1)

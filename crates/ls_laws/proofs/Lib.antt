@@ -31,6 +31,7 @@ pub mod Scripts
 pub mod Settled
 pub mod ClientTables
 pub mod DueSlots
+pub mod Rounds
 pub mod BoardRule
 pub mod Spends
 pub mod Spacing

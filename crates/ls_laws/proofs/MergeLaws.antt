@@ -1,6 +1,6 @@
 -- What is true of a slot of mode MERGE stays true.
 use Rattle.std.proofs.Common.{◌≡◌, ℕ, ◌+◌, ◌-◌, ◌<◌, ◌≤◌, List, [], ◌∷◌, ◌++◌, length, replicate, refl, sym, ◌∙◌, ap, arith, Bool, true, false, not, ◌&&◌, cond}
-use Rattle.std.proofs.Common.{subst, Some, None, is_some}
+use Rattle.std.proofs.Common.{subst, Option, Some, None, is_some}
 use Rattle.std.specs.Option.{option_map_or}
 use Rattle.std.proofs.lemmas.List.{length-append, length-replicate}
 use Rattle.ls_value.specs.declared.row.Value.{Value}
@@ -10,7 +10,7 @@ use Rattle.ls_value.proofs.Rows.{and_left, and_right, row_eq_true, applied-proje
 use Rattle.ls_event.specs.declared.event.Entry.{Entry}
 use Rattle.ls_event.specs.declared.event.Taken.{Taken}
 use Rattle.ls_event.specs.History.{merged, row_after_all, between}
-use Rattle.ls_event.specs.Slots.{Plan, Slot, fresh, enqueued}
+use Rattle.ls_event.specs.Slots.{Plan, Slot, enqueued}
 use Rattle.ls_mirror.specs.Client.{Row}
 use Rattle.ls_world.specs.Came.{Came}
 use Rattle.ls_event.specs.Cuts.{touched_after_all, flagged_cells, flags_to, change_to, next_cursor, merge_cut}
@@ -19,10 +19,15 @@ use Rattle.ls_event.proofs.Cuts.{touched_after_all_length, told_cells_length}
 use Rattle.ls_event.specs.Joining.{merge_joined}
 use Rattle.ls_world.specs.Lines.{last_row}
 use Rattle.ls_world.specs.Cutting.{Wanted, client_row, what_of_cut}
-use Rattle.ls_world.specs.Lawful.{MergeLines, LawfulMerge}
+use Rattle.ls_world.specs.Lawful.{MayTell, MergeLines, LawfulMerge}
 use Rattle.ls_laws.proofs.Agrees.{Agrees, agrees_same, agrees_all, agrees_after_all, applied-flagged}
 use Rattle.ls_world.proofs.Cuts.{IsMergeCut, merge_cut_is}
 use Rattle.ls_laws.proofs.Keeps.{Keeps, AfterCut}
+
+-- a later state may be told too
+may_later : (o : Option ℕ) (base m n : ℕ) → m ≤ n → MayTell o base m → MayTell o base n
+may_later None base m n le may = omega (arith, le, may)
+may_later (Some asked) base m n le may = (omega (arith, le, may.0), omega (arith, le, may.1))
 
 -- later entries leave the lines
 lines_longer : (p : Plan) (w : Wanted) (h more : List Entry) (top : ℕ) (cs : List Came) → MergeLines p w h top cs → MergeLines p w (h ++ more) top cs
@@ -33,6 +38,7 @@ lines_longer p w h more top (c ∷ cs) l = (
     row = l.1.row ∙ ap (λ r. Row (projected r w.places)) (sym (merged-append p.shape.fields h more c.upto (omega (arith, l.1.reached, l.1.within))));
     reached = l.1.reached;
     recent = l.1.recent;
+    since = l.1.since;
     within = omega (arith, l.1.within, length-append h more);
   },
   lines_longer p w h more c.upto cs l.2,
@@ -47,9 +53,12 @@ longer : (h more : List Entry) (w : Wanted) (s : Slot) (cs : List Came) → Lawf
 longer h more w s cs l =
     record {
       some = l.some;
+      joined = l.joined;
+      begun = l.begun;
       behind = l.behind;
       within = omega (arith, l.within, length-append h more);
       before = l.before;
+      waits = l.waits;
       row = λ g. l.row g ∙ ap (λ r. Some (projected r w.places)) (sym (merged-append s.plan.shape.fields h more s.cursor (omega (arith, l.behind, l.within))));
       lines = lines_longer s.plan w h more (s.cursor + 1) cs l.lines;
     }
@@ -58,9 +67,12 @@ enqueue : (h : List Entry) (w : Wanted) (s : Slot) (cs : List Came) → s.last <
 enqueue h w s cs more l =
     record {
       some = l.some;
+      joined = omega (arith, l.joined);
+      begun = l.begun;
       behind = omega (arith, l.behind);
       within = omega (arith, more);
       before = l.before;
+      waits = λ f may. omega (arith, l.behind);
       row = l.row;
       lines = l.lines;
     }
@@ -131,22 +143,34 @@ passed_by h w s cs old new true t has row behind l =
     let given : s.has_started ≡ true = and_left s.has_started (row_eq old new) t in
     record {
       some = l.some;
+      joined = l.joined;
+      begun = may_later w.snapshot s.plan.base (s.cursor + 1) (next_cursor s + 1) (omega arith) l.begun;
       behind = next_within s l.some behind;
       within = l.within;
       before = λ f. absurd (let x : true ≡ false = f in cc);
+      waits = λ f may. absurd (let x : true ≡ false = f in cc);
       row = λ g. l.row given ∙ ap Some (sym (client_has h w s cs l given) ∙ sym has ∙ row_eq_true old new (and_right s.has_started (row_eq old new) t) ∙ row);
       lines = lines_further s.plan w h (s.cursor + 1) (next_cursor s + 1) cs (omega arith) l.lines;
     }
 passed_by h w s cs old new false t has row behind l =
     record {
       some = l.some;
+      joined = l.joined;
+      begun = may_later w.snapshot s.plan.base (s.cursor + 1) (next_cursor s + 1) (omega arith) l.begun;
       behind = next_within s l.some behind;
       within = l.within;
       before = λ f. absurd (let x : true ≡ false = f in cc);
+      waits = λ f may. absurd (let x : true ≡ false = f in cc);
       row = λ g. ap Some row;
       lines = (
         omega arith,
-        record { row = ap Row row; reached = next_within s l.some behind; recent = omega (arith, l.some); within = l.within },
+        record {
+          row = ap Row row;
+          reached = next_within s l.some behind;
+          recent = omega (arith, l.some);
+          since = may_later w.snapshot s.plan.base (s.cursor + 1) (next_cursor s) (omega arith) l.begun;
+          within = l.within;
+        },
         lines_further s.plan w h (s.cursor + 1) (next_cursor s) cs (omega arith) l.lines,
       );
     }
@@ -166,25 +190,27 @@ pass h w s cs t is l =
 pub merge_keeps : Keeps merge_cut LawfulMerge
 merge_keeps = record { longer = longer; enqueue = enqueue; pass = pass }
 
+-- where a slot begins that joins behind so many events
+record Begins (o : Option ℕ) (base cursor : ℕ) : Type 0 where
+  low : cursor ≤ base
+  may : MayTell o base (cursor + 1)
+  waits : MayTell o base base → cursor < base
+
+begins : (o : Option ℕ) (base : ℕ) → Begins o base (cond (is_some o) (base - 1) base)
+begins None base = record { low = omega arith; may = omega arith; waits = λ may. absurd (omega (arith, may)) }
+begins (Some asked) base = record { low = omega arith; may = (omega arith, omega arith); waits = λ may. omega (arith, may.0) }
+
 pub merge_joins : (p : Plan) (h : List Entry) (w : Wanted) → p.base ≡ length h → 0 < p.size → LawfulMerge h w (merge_joined p w.snapshot) []
-merge_joins p h w base some = by_flag (is_some w.snapshot)
-  where
-    by_flag : (v : Bool) → LawfulMerge h w (fresh p (cond v (p.base - 1) p.base)) []
-    by_flag true = record {
+merge_joins p h w base some =
+    let b : Begins w.snapshot p.base (cond (is_some w.snapshot) (p.base - 1) p.base) = begins w.snapshot p.base in
+    record {
       some = some;
-      behind = omega arith;
+      joined = omega arith;
+      begun = b.may;
+      behind = b.low;
       within = omega (arith, base);
       before = λ f. refl;
-      row =
-          λ t. absurd (let x : false ≡ true = t in cc);
-      lines = tt;
-    }
-    by_flag false = record {
-      some = some;
-      behind = omega arith;
-      within = omega (arith, base);
-      before = λ f. refl;
-      row =
-          λ t. absurd (let x : false ≡ true = t in cc);
+      waits = λ f may. b.waits may;
+      row = λ t. absurd (let x : false ≡ true = t in cc);
       lines = tt;
     }

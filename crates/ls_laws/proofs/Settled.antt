@@ -1,5 +1,6 @@
 -- What came to a client of an item is true of the item, and a settled client has the item's state.
-use Rattle.std.proofs.Common.{◌≡◌, ℕ, ◌+◌, ◌<◌, ◌≤◌, refl, List, [], ◌∷◌, ◌++◌, length, sym, ◌∙◌, ap, arith, subst, true, false, ◌||◌, None, Some, nat_lt}
+use Rattle.std.proofs.Common.{◌≡◌, ℕ, ◌+◌, ◌<◌, ◌≤◌, refl, List, [], ◌∷◌, ◌++◌, length, sym, ◌∙◌, ap, arith, subst, Bool, true, false, ◌||◌, nat_lt}
+use Rattle.std.proofs.Common.{Option, None, Some}
 use Rattle.std.proofs.lemmas.Bool.{ltb-false}
 use Rattle.std.specs.List.{Contains}
 use Rattle.std.specs.Option.{option_map_or}
@@ -18,7 +19,7 @@ use Rattle.ls_event.specs.Cuts.{is_behind, is_pending, pending_of}
 use Rattle.ls_world.specs.Lines.{came, last_row}
 use Rattle.ls_world.specs.Cutting.{Wanted, client_row, schema_of}
 use Rattle.ls_world.specs.World.{World, Session, Live, history_of, shape_at}
-use Rattle.ls_world.specs.Lawful.{Each, IsMergeLine, MergeLines, LawfulMerge, LawfulOf, LawfulSlot, LawfulLive, LawfulSession, LawfulRecords, Lawful}
+use Rattle.ls_world.specs.Lawful.{Each, MayTell, IsMergeLine, MergeLines, LawfulMerge, LawfulOf, LawfulSlot, LawfulLive, LawfulSession, LawfulRecords, Lawful}
 use Rattle.ls_world.specs.CommandMode.{cursor_of_key, AgreesAt, NoTurn, IsKeyLine, AreUpTo, KeyLines, LawfulCommand}
 use Rattle.ls_laws.specs.Truths.{HadState, TellsOf, IsTrueOf}
 use Rattle.ls_world.proofs.Each.{each_contains, each_within}
@@ -42,6 +43,42 @@ settled_row h w s cs l merge none given =
 pub settled : (h : List Entry) (w : Wanted) (s : Slot) (cs : List Came) → LawfulSlot h w s cs → s.plan.mode ≡ mode.Merge → is_pending h s ≡ false
     → s.has_started ≡ true → client_row (length w.places) cs ≡ projected (merged s.plan.shape.fields h s.last) w.places
 settled h w s cs l merge none given = ap (λ o. option_map_or (λ r. r) o (nulls (length w.places))) (settled_row h w s cs l merge none given)
+
+-- where there is a state to tell, a line came once nothing waits
+settled_starts : (h : List Entry) (w : Wanted) (s : Slot) (cs : List Came) → LawfulMerge h w s cs → is_behind s ≡ false
+    → MayTell w.snapshot s.plan.base s.last → s.has_started ≡ true
+settled_starts h w s cs l none may = by_flag s.has_started refl
+  where
+    by_flag : (v : Bool) → s.has_started ≡ v → v ≡ true
+    by_flag true e = refl
+    by_flag false e =
+        absurd (omega (arith, l.waits e may, ltb-false s.cursor s.last (or_right (nat_lt 0 s.owed || s.ends) (nat_lt s.cursor s.last) none)))
+
+settled_told : (h : List Entry) (w : Wanted) (s : Slot) (cs : List Came) → LawfulMerge h w s cs → s.plan.mode ≡ mode.Merge → is_pending h s ≡ false
+    → MayTell w.snapshot s.plan.base s.last → last_row cs ≡ Some (projected (merged s.plan.shape.fields h s.last) w.places)
+settled_told h w s cs l merge none may =
+    let behind : is_behind s ≡ false = sym (ap (λ (m : Mode). pending_of m h s) merge) ∙ none in
+    settled_merge h w s cs l behind (settled_starts h w s cs l behind may)
+
+-- there is one with a snapshot of an item that had events, and where one came later
+snapshot_may : (o : Option ℕ) (base n : ℕ) → (o ≡ None → ⊥) → 0 < base → base ≤ n → MayTell o base n
+snapshot_may None base n asked some le = absurd (asked refl)
+snapshot_may (Some k) base n asked some le = (omega (arith, some, le), le)
+
+later_may : (o : Option ℕ) (base n : ℕ) → base < n → MayTell o base n
+later_may None base n later = later
+later_may (Some asked) base n later = (omega (arith, later), omega (arith, later))
+
+pub settled_snapshot : (h : List Entry) (w : Wanted) (s : Slot) (cs : List Came) → LawfulSlot h w s cs → s.plan.mode ≡ mode.Merge → is_pending h s ≡ false
+    → (w.snapshot ≡ None → ⊥) → 0 < s.plan.base → last_row cs ≡ Some (projected (merged s.plan.shape.fields h s.last) w.places)
+settled_snapshot h w s cs l merge none asked some =
+    let k : LawfulMerge h w s cs = subst (λ (m : Mode). LawfulOf m h w s cs) merge l in
+    settled_told h w s cs k merge none (snapshot_may w.snapshot s.plan.base s.last asked some k.joined)
+
+pub settled_later : (h : List Entry) (w : Wanted) (s : Slot) (cs : List Came) → LawfulSlot h w s cs → s.plan.mode ≡ mode.Merge → is_pending h s ≡ false
+    → s.plan.base < s.last → last_row cs ≡ Some (projected (merged s.plan.shape.fields h s.last) w.places)
+settled_later h w s cs l merge none later =
+    settled_told h w s cs (subst (λ (m : Mode). LawfulOf m h w s cs) merge l) merge none (later_may w.snapshot s.plan.base s.last later)
 
 -- and the cursor is the last number, except in mode COMMAND, where it is that of a Clear
 at_last : (s : Slot) → s.cursor ≤ s.last → is_behind s ≡ false → s.cursor ≡ s.last

@@ -3,3 +3,4 @@ pub mod ClientTables
 pub mod Alone
 pub mod Streams
 pub mod Budgets
+pub mod Rounds

@@ -2,7 +2,7 @@
 //! and so 1 to 64 distinct fields, is among the premises: a lawful world says it, and a step that declares an item
 //! keeps to it.
 ghost use Rattle.std.specs.Prelude.{◌≡◌, ◌+◌, ◌<◌, ◌≤◌, ◌++◌, ◌∷◌, ℕ, List, [], length, None, Some, false, true};
-ghost use Rattle.std.specs.Prelude.{slice_get, option_map, map, nat_le, ◌&&◌, ◌⊎◌};
+ghost use Rattle.std.specs.Prelude.{slice_get, option_map, map, nat_le, Bool, ◌&&◌, ◌⊎◌, Option};
 ghost use Rattle.std.specs.List.{Contains};
 ghost use Rattle.std.specs.Option.{ForSome};
 ghost use Rattle.ls_budget.specs.Budget.{frequency_tick};
@@ -19,9 +19,10 @@ ghost use Rattle.ls_event.specs.Slots.{Slot};
 ghost use Rattle.ls_world.specs.Came.{Came, whats};
 ghost use Rattle.ls_event.specs.Cuts.{cut, is_pending};
 ghost use Rattle.ls_world.specs.Lines.{came, last_row, texts, texts_behind, updated};
-ghost use Rattle.ls_world.specs.Cutting.{Wanted, client_row, schema_of, turn};
+ghost use Rattle.ls_world.specs.Cutting.{Wanted, Ask, client_row, schema_of, turn};
 ghost use Rattle.ls_world.specs.World.{World, Item, Session, Live, RoundLine, empty, history_of, shape_at};
-ghost use Rattle.ls_world.specs.World.{round_of, is_due, is_waiting, count_lines, ended, unless_timed_out};
+ghost use Rattle.ls_world.specs.World.{Board, round_of, taken_in, removed, is_due, is_waiting, count_lines, ended};
+ghost use Rattle.ls_world.specs.World.{unless_timed_out, is_used, joined_all, added, enqueued_in, reconfigured};
 ghost use Rattle.ls_step.specs.declared.step.Step.{Step};
 ghost use Rattle.ls_step.specs.declared.step.Step.TheVariants as step;
 ghost use Rattle.ls_step.specs.declared.step.Repeat.{Repeat};
@@ -30,7 +31,7 @@ ghost use Rattle.ls_step.specs.declared.out.Out.TheVariants as out;
 ghost use Rattle.ls_world.specs.Steps.{Idle, NotDue, loop_text, session_turn, name_of, binds, refuses_stream, does};
 ghost use Rattle.ls_world.specs.Steps.{does_all};
 ghost use Rattle.ls_world.specs.Script.{world_of};
-ghost use Rattle.ls_world.specs.Lawful.{Each, IsMergeLine, LawfulSlot, Lawful};
+ghost use Rattle.ls_world.specs.Lawful.{Each, Apart, IsMergeLine, LawfulSlot, Lawful};
 ghost use Rattle.std.specs.FinMap as finite;
 ghost use Rattle.ls_mirror.specs.declared.table.Table.{Table};
 ghost use Rattle.ls_mirror.specs.Client.{Row, Lost};
@@ -44,6 +45,8 @@ ghost use Rattle.ls_world.specs.Ranges.{InRange};
 ghost use Rattle.ls_laws.specs.Truths.{TellsOf, IsTrueOf};
 ghost use Rattle.ls_laws.specs.Alone.{seen, connection_of, is_own, lacks_slots, changes_items, sets_clock};
 ghost use Rattle.ls_laws.specs.Alone.{RunStep, firsts, seconds, told, DifferElsewhere};
+ghost use Rattle.ls_turns.specs.Moves.{Left};
+ghost use Rattle.ls_laws.specs.Rounds.{GivesBehind, MoveTo, joins_of};
 ghost use Rattle.ls_laws.specs.Budgets.{spends_of, IsOfDue, NumbersDue, IsLeastWait, is_any_due};
 ghost use Rattle.ls_laws.specs.Budgets.{WaitsForFirst, KeepsBandwidth, KeepsWindows, ClockRises, AreApart, AreToldOf};
 ghost use Rattle.ls_laws.specs.Streams.{HoldsAllLines, HasItsLines, given_on, GivesLine, GivesUpLittle, AreTooMuch};
@@ -63,8 +66,10 @@ pub fn each_script_is_lawful()
     ensures { (lines : List (List ℕ)) → Lawful (world_of empty lines) }
 {}
 
-/// In mode MERGE, once nothing waits behind a slot's first line, a row came, and the last one is the item's state after
-/// the last event that was enqueued, at the places of the schema: that is what the client has.
+/// In mode MERGE, once nothing is pending behind a slot's first line, a row came, and the last one is the item's state
+/// after the last event that was enqueued, at the places of the schema: that is what the client has. Of a slot that was
+/// asked a snapshot of an item with events, and of one that enqueued an event since it joined, this is true once
+/// nothing is pending: its first line came. Of another slot there is nothing to tell before such an event.
 pub fn settled_clients_have_the_items_state()
     ensures came { (h : List Entry) (w : Wanted) (s : Slot) (cs : List Came) → LawfulSlot h w s cs
         → s.plan.mode ≡ mode.Merge → is_pending h s ≡ false → s.has_started ≡ true
@@ -72,6 +77,12 @@ pub fn settled_clients_have_the_items_state()
     ensures has { (h : List Entry) (w : Wanted) (s : Slot) (cs : List Came) → LawfulSlot h w s cs
         → s.plan.mode ≡ mode.Merge → is_pending h s ≡ false → s.has_started ≡ true
         → client_row (length w.places) cs ≡ projected (merged s.plan.shape.fields h s.last) w.places }
+    ensures snapshot { (h : List Entry) (w : Wanted) (s : Slot) (cs : List Came) → LawfulSlot h w s cs
+        → s.plan.mode ≡ mode.Merge → is_pending h s ≡ false → (w.snapshot ≡ None → ⊥) → 0 < s.plan.base
+        → last_row cs ≡ Some (projected (merged s.plan.shape.fields h s.last) w.places) }
+    ensures later { (h : List Entry) (w : Wanted) (s : Slot) (cs : List Came) → LawfulSlot h w s cs
+        → s.plan.mode ≡ mode.Merge → is_pending h s ≡ false → s.plan.base < s.last
+        → last_row cs ≡ Some (projected (merged s.plan.shape.fields h s.last) w.places) }
 {}
 
 /// In a lawful world each row that came to a client is a state that the item had, at a number that its history reached,
@@ -121,7 +132,8 @@ pub fn only_old_rows_are_left_out()
 {}
 
 /// In mode MERGE each row is the item's merged state at a number among the last n that had been enqueued then, where n
-/// is the size of the buffer.
+/// is the size of the buffer, and at none before the subscription: it is that of a later event or, where a snapshot was
+/// asked, of the last one that the item had when the slot joined.
 pub fn each_row_is_among_the_last_states()
     ensures { (h : List Entry) (w : Wanted) (s : Slot) (cs : List Came) → LawfulSlot h w s cs → s.plan.mode ≡ mode.Merge
         → (c : Came) → Contains cs c → IsMergeLine s.plan w h c }
@@ -189,6 +201,25 @@ pub fn settled_slots_are_at_the_last_event()
 pub fn the_turn_ends_its_cuts()
     ensures { (h : List Entry) (w : Wanted) (s : Slot) (cs : List Came) → (turn h w s cs).came ≡ None
         → cut h (turn h w s cs).slot ≡ None }
+{}
+
+/// A turn that numbers a line makes the move of which `no_slot_is_passed_over` of ls_turns speaks: the line's slot
+/// gives, and each slot before it in the session's round was asked in vain or wasn't due. The slots of a new
+/// subscription join one after another, and as one ends, its slots leave. A turn that numbers no line, an enqueue and
+/// another frequency move none.
+pub fn turns_move_the_round()
+    ensures gives { (due : Live → Bool) (now : ℕ) (items : List Item) (b : Board) (t : RoundLine) → Apart b.round
+        → (round_of due items b.lines b.round).came ≡ Some t → GivesBehind due now items b t }
+    ensures waits { (due : Live → Bool) (now : ℕ) (items : List Item) (b : Board)
+        → (round_of due items b.lines b.round).came ≡ None → MoveTo b.round [] (taken_in due now items b).round }
+    ensures joins { (items : List Item) (free : ℕ → ℕ) (sub fields : ℕ) (asks : List Ask) (b : Board) → Apart b.round
+        → is_used sub b.round ≡ false
+        → MoveTo b.round (joins_of (joined_all items free sub 1 asks)) (added items free sub fields asks b).round }
+    ensures leaves { (sub : ℕ) (b : Board) → MoveTo b.round (Left sub ∷ []) (removed sub b).round }
+    ensures enqueues { (items : List Item) (sub rank : ℕ) (b : Board)
+        → MoveTo b.round [] (enqueued_in items sub rank b).round }
+    ensures configures { (sub : ℕ) (frequency : Option ℕ) (b : Board)
+        → MoveTo b.round [] (reconfigured sub frequency b).round }
 {}
 
 /// A step changes one session at most, the one that it means: an enqueue, a take, a loss or a request that names no

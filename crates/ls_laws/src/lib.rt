@@ -5,7 +5,8 @@
 //! lines are states that its item had, and it never goes back. The others say for each mode what a lawful slot's client
 //! has: `each_row_is_among_the_last_states` of MERGE, `each_update_is_told_or_counted` of RAW,
 //! `only_old_rows_are_left_out` of DISTINCT, `no_key_goes_back` of COMMAND, and what a client has once nothing waits.
-//! `a_session_is_told_nothing_of_others` says that what one session is told doesn't depend on what others do.
+//! `a_session_is_told_nothing_of_others` says that what one session is told doesn't depend on what others do, and
+//! `turns_move_the_round` that a session's round moves as those of `ls_turns` do.
 //! `only_due_slots_give_lines`, `a_wait_ends_at_the_first_due_tick`, `updates_of_a_window_are_bounded` and
 //! `updates_of_a_slot_are_apart` say what frequencies and bandwidths come to.
 //! `a_client_that_binds_with_its_count_holds_all_lines`, `a_new_stream_goes_on_behind_its_count` and
@@ -31,6 +32,6 @@ pub use law::{
     only_due_slots_give_lines, only_old_rows_are_left_out, settled_clients_have_the_items_rows,
     settled_clients_have_the_items_state, settled_clients_know_of_each_update,
     settled_slots_are_at_the_last_event, settled_tables_are_the_items,
-    streams_have_their_lines_without_a_gap, the_turn_ends_its_cuts, updates_of_a_slot_are_apart,
-    updates_of_a_window_are_bounded,
+    streams_have_their_lines_without_a_gap, the_turn_ends_its_cuts, turns_move_the_round,
+    updates_of_a_slot_are_apart, updates_of_a_window_are_bounded,
 };

@@ -4,3 +4,4 @@ pub mod Leaving
 pub mod Joining
 pub mod Rounds
 pub mod Passing
+pub mod Moving

@@ -2,6 +2,7 @@
 use Rattle.std.specs.Prelude.{◌≡◌, ℕ, List, [], ◌∷◌, ◌++◌, Bool, not, ◌==◌, ◌&&◌, true, false}
 use Rattle.std.specs.List.{filter, list_any, Contains}
 use Rattle.ls_turns.specs.declared.slot_ref.SlotRef.{SlotRef}
+use Rattle.ls_turns.specs.Round.{Round, slots_of}
 
 -- a slot gave a line, in a turn that asked these before it in vain; a slot joined; a subscription's slots left
 pub data Move : Type 0 where
@@ -24,6 +25,18 @@ abbrev pub after_move : List SlotRef → Move → List SlotRef
 after_move round (Gave a asked) = filter (λ b. not (is_same a b)) round ++ a ∷ []
 after_move round (Joined a) = round ++ a ∷ []
 after_move round (Left sub) = filter (λ b. not (b.sub == sub)) round
+
+-- a move may be made of a round's slots, and makes those of another of them
+abbrev pub IsMoved : Move → Round → Round → Type 0
+IsMoved m r q = MayMove (slots_of r) m × (slots_of q ≡ after_move (slots_of r) m)
+
+-- the slot of a place in a subscription gave, behind those that stood before it
+pub record GivesAt (sub place : ℕ) (r q : Round) : Type 0 where
+  pub slot : SlotRef
+  pub asked : List SlotRef
+  pub sub_is : slot.sub ≡ sub
+  pub place_is : slot.place ≡ place
+  pub moved : IsMoved (Gave slot asked) r q
 
 -- these moves may be made one after another
 abbrev pub MayMoveAll : List SlotRef → List Move → Type 0

@@ -4,6 +4,7 @@ ghost use Rattle.std.specs.Prelude.{true, false, nat_eq, Some};
 ghost use Rattle.ls_links.specs.Chains.{list_of};
 ghost use Rattle.ls_turns.specs.Round.{Seat, IsSeated, AreApart, Joins, seat_at, slot_of_place, node_of_place};
 ghost use Rattle.ls_turns.specs.Round.{link_of, slot_of_value, has_slot, left, left_one, gave, cleared, HasPlacesTo};
+ghost use Rattle.ls_turns.specs.Moves.{Joined, Left, IsMoved, GivesAt};
 
 use crate::row::{Row, SlotName};
 use crate::rows::{add_seats, make_rooms, set_row, take_last};
@@ -86,7 +87,8 @@ impl Turns {
     pub fn join(&mut self, slot: SlotRef)
         requires room { 0 < self.old.spare }
         requires absent { has_slot slot.sub slot.place self.old ≡ false }
-        ensures { Joins slot self.old self.new }
+        ensures seats { Joins slot self.old self.new }
+        ensures moved { IsMoved (Joined slot) self.old self.new }
     {
         let seat = take_last(&mut self.free);
         let node = self.links.push_back(0, seat);
@@ -107,7 +109,8 @@ impl Turns {
     /// The slots of a subscription leave; the others keep their order. It looks for each place up to the greatest one
     /// that a slot had.
     pub fn leave(&mut self, sub: u32)
-        ensures { self.new ≡ left sub self.old }
+        ensures seats { self.new ≡ left sub self.old }
+        ensures moved { IsMoved (Left sub) self.old self.new }
     {
         let places = self.places();
         for place in 0..places {
@@ -138,10 +141,12 @@ impl Turns {
         self.free.push_reserved(seat);
     }
 
-    /// A slot gave a line: it is asked last. It is in the round.
+    /// A slot gave a line: it is asked last. It is in the round. With `join` and `leave` this makes the moves of which
+    /// [`no_slot_is_passed_over`](crate::no_slot_is_passed_over) speaks.
     pub fn gave(&mut self, slot: &SlotRef)
         requires { has_slot slot.now.sub slot.now.place self.old ≡ true }
-        ensures { self.new ≡ gave slot.now.sub slot.now.place self.old }
+        ensures seats { self.new ≡ gave slot.now.sub slot.now.place self.old }
+        ensures moved { GivesAt slot.now.sub slot.now.place self.old self.new }
     {
         let name = SlotName {
             sub: slot.sub,

@@ -1,6 +1,6 @@
 -- What is true of each world: each client is at a state of its item that the item had, and never goes back (the
 -- headline).
-use Rattle.std.specs.Prelude.{◌≡◌, ◌+◌, ◌-◌, ◌<◌, ◌≤◌, length, ℕ, List, [], ◌∷◌, true, false, Some}
+use Rattle.std.specs.Prelude.{◌≡◌, ◌+◌, ◌-◌, ◌<◌, ◌≤◌, length, ℕ, List, [], ◌∷◌, true, false, Option, None, Some}
 use Rattle.ls_value.specs.Values.{projected}
 use Rattle.ls_event.specs.declared.event.Entry.{Entry}
 use Rattle.ls_event.specs.declared.event.Mode.{Mode}
@@ -28,11 +28,19 @@ abbrev pub Each : {A : Type 0} → (A → Type 0) → List A → Type 0
 Each P [] = Unit {0}
 Each P (x ∷ xs) = P x × Each P xs
 
--- a line of mode MERGE: the item's state at a number among the last of the slot's size then
+-- a number of an event behind which the item's state may be told to a slot that joined behind so many events: that of a
+-- later one, and with a snapshot that of the last one before, where there was one
+abbrev pub MayTell : Option ℕ → ℕ → ℕ → Type 0
+MayTell None base n = base < n
+MayTell (Some asked) base n = (0 < n) × (base ≤ n)
+
+-- a line of mode MERGE: the item's state at a number among the last of the slot's size then, and at none before the
+-- subscription
 pub record IsMergeLine (p : Plan) (w : Wanted) (h : List Entry) (c : Came) : Type 0 where
   pub row : c.what ≡ Row (projected (merged p.shape.fields h c.upto) w.places)
   pub reached : c.upto ≤ c.at
   pub recent : c.at - p.size < c.upto
+  pub since : MayTell w.snapshot p.base c.upto
   pub within : c.at ≤ length h
 
 -- each is such a line, and their numbers rise, all below a top
@@ -40,13 +48,17 @@ abbrev pub MergeLines : Plan → Wanted → List Entry → ℕ → List Came →
 MergeLines p w h top [] = Unit {0}
 MergeLines p w h top (c ∷ cs) = (c.upto < top) × IsMergeLine p w h c × MergeLines p w h c.upto cs
 
--- a slot of mode MERGE: before its first line the client has nothing of it, and from then on the last row that came is
--- the item's state at the slot's cursor
+-- a slot of mode MERGE: no state that it is still to tell is one before the subscription. Before its first line the
+-- client has nothing of it, and where there is a state to tell, something is pending; from then on the last row that
+-- came is the item's state at the slot's cursor
 pub record LawfulMerge (h : List Entry) (w : Wanted) (s : Slot) (cs : List Came) : Type 0 where
   pub some : 0 < s.plan.size
+  pub joined : s.plan.base ≤ s.last
+  pub begun : MayTell w.snapshot s.plan.base (s.cursor + 1)
   pub behind : s.cursor ≤ s.last
   pub within : s.last ≤ length h
   pub before : s.has_started ≡ false → cs ≡ []
+  pub waits : s.has_started ≡ false → MayTell w.snapshot s.plan.base s.last → s.cursor < s.last
   pub row : s.has_started ≡ true → last_row cs ≡ Some (projected (merged s.plan.shape.fields h s.cursor) w.places)
   pub lines : MergeLines s.plan w h (s.cursor + 1) cs
 

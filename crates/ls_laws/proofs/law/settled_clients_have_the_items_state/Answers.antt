@@ -1,4 +1,4 @@
-use Rattle.ls_laws.proofs.Settled.{settled, settled_row}
+use Rattle.ls_laws.proofs.Settled.{settled, settled_row, settled_snapshot, settled_later}
 use Rattle.ls_laws.proofs.law.settled_clients_have_the_items_state.Goals as goal
 
 pub returns-clause-came : goal.returns-clause-came
@@ -6,3 +6,9 @@ returns-clause-came c = settled_row
 
 pub returns-clause-has : goal.returns-clause-has
 returns-clause-has c = settled
+
+pub returns-clause-snapshot : goal.returns-clause-snapshot
+returns-clause-snapshot c = settled_snapshot
+
+pub returns-clause-later : goal.returns-clause-later
+returns-clause-later c = settled_later

@@ -8,7 +8,7 @@ invariant_of-self c = (
   held_anew c.gave.new.self _ _ c.first-self-inside.ensures
       (omega (
         arith,
-        ap (λ (t : Round). length t.seats) c.gave.ensures,
+        ap (λ (t : Round). length t.seats) c.gave.ensures.seats,
         gave_few c.args.slot.now.sub c.args.slot.now.place c.self.inside.turns,
         c.self.invariant.0.room,
       )),

@@ -7,14 +7,14 @@ use Rattle.ls_session.proofs.asking.Asking.join.Goals as goal
 
 pub join_slots-requires-clause-absent : goal.join_slots-requires-clause-absent
 join_slots-requires-clause-absent c =
-    subst (λ (t : Round). list_any (is_of c.args.sub) t.seats ≡ false) (sym c.leave.ensures) (none_left c.args.sub c.self.inside.turns.seats)
+    subst (λ (t : Round). list_any (is_of c.args.sub) t.seats ≡ false) (sym c.leave.ensures.seats) (none_left c.args.sub c.self.inside.turns.seats)
 
 pub invariant_of-self : goal.invariant_of-self
 invariant_of-self c = (
   held_anew c.join_slots.new.turns _ _ c.first-self-inside.ensures
       (omega (
         arith,
-        joined_few c.args.sub c.self.inside.turns c.leave.new.self c.join_slots.new.turns c.args.items.now c.args.slots.now c.leave.ensures
+        joined_few c.args.sub c.self.inside.turns c.leave.new.self c.join_slots.new.turns c.args.items.now c.args.slots.now c.leave.ensures.seats
             c.join_slots.ensures,
         c.requires.room,
         ap (λ (a : Asking). length a.turns.seats) c.self.view_is,

@@ -6,6 +6,6 @@ use Rattle.ls_session.proofs.asking.Asking.leave.Goals as goal
 pub invariant_of-self : goal.invariant_of-self
 invariant_of-self c = (
   held_anew c.leave.new.self _ _ c.first-self-inside.ensures
-      (omega (arith, ap (λ (t : Round). length t.seats) c.leave.ensures, left_few c.args.sub c.self.inside.turns, c.self.invariant.0.room)),
+      (omega (arith, ap (λ (t : Round). length t.seats) c.leave.ensures.seats, left_few c.args.sub c.self.inside.turns, c.self.invariant.0.room)),
   c.self.invariant.1,
 )
