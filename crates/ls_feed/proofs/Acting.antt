@@ -11,9 +11,16 @@ use Rattle.ls_feed.specs.declared.feed.Fed.{Fed}
 use Rattle.ls_feed.specs.declared.feed.Fed.TheVariants as fed
 use Rattle.ls_feed.specs.declared.reply.Reply.{Reply}
 use Rattle.ls_feed.specs.Lines.{hello_of}
-use Rattle.ls_feed.specs.Replies.{Replies, RepliesTo, texts_of, text_of}
-use Rattle.ls_feed.specs.Feeding.{Feeder, Greeted, AnsweredSo, Wrote, WroteNone, Acts, Sends}
+use Rattle.ls_feed.specs.Replies.{ArePasses, Replies, RepliesTo, texts_of, text_of}
+use Rattle.ls_feed.specs.Feeding.{Feeder, IsFeeder, Greeted, AnsweredSo, Wrote, WroteNone, Acts, Sends}
 use Rattle.ls_feed.proofs.Replying.{greeted_on, texts_on}
+
+-- the passes of an adapter that said its hello
+pub passes_of : (items : List ItemDef) (f g : Feeder) (adapter : ℕ) → g ≡ f → g.adapter ≡ Some adapter
+    → IsFeeder items f.adapter f.passes → ArePasses items adapter g.passes
+passes_of items f g adapter same is ready =
+    (subst (λ (a : Option ℕ). IsFeeder items a g.passes) is
+    (subst (λ (x : Feeder). IsFeeder items x.adapter x.passes) (sym same) ready)).are
 
 -- a part of a text behind others
 pub prefix_behind : (front part all : List ℕ) → IsPrefix part all → IsPrefix (front ++ part) (front ++ all)

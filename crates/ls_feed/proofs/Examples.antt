@@ -6,9 +6,7 @@ use Rattle.std.specs.Str.{is_utf8, chars}
 use Rattle.percent_encoding.specs.Percent.{percent_decode}
 use Rattle.atomic_table.specs.Seated.{TableId}
 use Rattle.ls_value.specs.declared.row.Cell.TheVariants as cell
-use Rattle.ls_event.specs.declared.event.Event.{Event}
 use Rattle.ls_event.specs.declared.event.Event.TheVariants.{Update, Clear}
-use Rattle.ls_event.specs.declared.event.Entry.{Entry}
 use Rattle.ls_event.specs.declared.event.PublishRefused.TheVariants as refused
 use Rattle.ls_event.specs.declared.item.ItemDef.{ItemDef}
 use Rattle.ls_event.specs.declared.item.Kind.TheVariants as kind
@@ -93,6 +91,8 @@ no_words = refl
 abbrev seen : TableId → Pass
 seen table = record {
   adapter = 1;
+  item = 0;
+  place = None;
   table = table;
   shape = shape_of def;
   list = record { adapter = 1; seq = 1; event = Update (cell.Text (codes "x") ∷ []) } ∷ [];

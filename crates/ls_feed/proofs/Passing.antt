@@ -3,13 +3,12 @@ use Rattle.std.proofs.Common.{◌≡◌, ℕ, zero, suc, ◌<◌, List, [], ◌�
 use Rattle.std.proofs.Common.{arith, ◌⊎◌, inl, inr, ⊎_elim, append_assoc}
 use mathlib.Core.List.{IsPrefix}
 use Rattle.ls_event.specs.declared.item.ItemDef.{ItemDef}
-use Rattle.std.specs.Prelude.{IfSome, Ok}
+use Rattle.std.specs.Prelude.{Ok}
 use Rattle.ls_event.specs.declared.event.Event.{Event}
 use Rattle.ls_event.specs.declared.event.Entry.{Entry}
 use Rattle.ls_event.specs.declared.event.PublishRefused.{PublishRefused}
 use Rattle.ls_event.specs.EventText.{event_of}
 use Rattle.ls_event.specs.History.{HasFields}
-use Rattle.ls_event.specs.Shapes.{Shape, shape_of}
 use Rattle.ls_live.specs.Live.{Pass, IsCause, cause_in, entry_of}
 use Rattle.ls_feed.specs.declared.offer.Offer.{Offer}
 use Rattle.ls_feed.specs.declared.reply.Reply.{Reply}
@@ -98,29 +97,42 @@ fits_item items item seq e text fields l is read =
     let same : fields ≡ d.0.fields = is ∙ ap fields_of d.1 in
     record { def = d.0; declared = d.1; fits = subst (λ (fs : List (List ℕ)). HasFields (length fs) e) same (event_fits fields text e read) }
 
--- a pass of the item by what the server told of it
-pub made_pass : (items : List ItemDef) (adapter item : ℕ) (p : Pass) → item < length items → p.adapter ≡ adapter
-    → IfSome (slice_get items item) (λ d. p.shape ≡ shape_of d) → IsPassOf items adapter item p
-made_pass items adapter item p l mine shape =
-    let d = some_at items item l in
-    record { def = d.0; declared = d.1; shape = subst (λ (o : Option ItemDef). IfSome o (λ d. p.shape ≡ shape_of d)) d.1 shape; adapter_is = mine }
-
 -- a pass that has moved on is still that of its item
-same_pass : (items : List ItemDef) (adapter item : ℕ) (p q : Pass) → IsPassOf items adapter item p → q.adapter ≡ p.adapter → q.shape ≡ p.shape
-    → IsPassOf items adapter item q
-same_pass items adapter item p q is a s =
-    record { def = is.def; declared = is.declared; shape = s ∙ is.shape; adapter_is = a ∙ is.adapter_is }
+pub same_item : (p q : Pass) → q.adapter ≡ p.adapter
+    → (q.table ≡ p.table) × (q.shape ≡ p.shape) × (q.item ≡ p.item) × (q.place ≡ p.place)
+    → q ≡ record p { list = q.list }
+same_item p q a e = λ i. record {
+  adapter = a i;
+  item = e.2 i;
+  place = e.3 i;
+  table = e.0 i;
+  shape = e.1 i;
+  list = q.list;
+}
+
+same_pass : (items : List ItemDef) (adapter item : ℕ) (p q : Pass) → IsPassOf items adapter item p
+    → q ≡ record p { list = q.list } → IsPassOf items adapter item q
+same_pass items adapter item p q is same =
+    subst (λ (x : Pass). IsPassOf items adapter item x) (sym same) (record {
+      of = record {
+        number = is.of.number;
+        place = is.of.place;
+        place_is = is.of.place_is;
+        shows = is.of.shows;
+      };
+      adapter_is = is.adapter_is;
+    })
 
 -- a pass was taken out, has moved on, and was put in again
 pub offered_so : (items : List ItemDef) (adapter : ℕ) (o : Offer) (r : Reply) (ps ms qs : List (Option Pass)) (p q : Pass) → o.item < length ps
     → IsPassOf items adapter o.item p → IsPrefix (seen_by (pass_at ps o.item)) p.list → ms ≡ set ps o.item None → IsPrefix p.list q.list
-    → q.adapter ≡ p.adapter → q.shape ≡ p.shape → TrueOf o q r → qs ≡ set ms o.item (Some q) → Offered items adapter o r ps qs
-offered_so items adapter o r ps ms qs p q l is seen out grows a s says in' =
+    → q ≡ record p { list = q.list } → TrueOf o q r → qs ≡ set ms o.item (Some q) → Offered items adapter o r ps qs
+offered_so items adapter o r ps ms qs p q l is seen out grows same says in' =
     let all : qs ≡ set (set ps o.item None) o.item (Some q) = in' ∙ ap (λ (x : List (Option Pass)). set x o.item (Some q)) out in
     record {
       pass = q;
       is = ap (λ (x : List (Option Pass)). pass_at x o.item) all ∙ at_put ps o.item q l;
-      of = same_pass items adapter o.item p q is a s;
+      of = same_pass items adapter o.item p q is same;
       grows = prefix_trans (seen_by (pass_at ps o.item)) p.list q.list seen grows;
       says = says;
       others = λ j n. ap (λ (x : List (Option Pass)). pass_at x j) all ∙ others_put ps o.item q j n;
@@ -132,11 +144,10 @@ pub are_offered : (items : List ItemDef) (adapter : ℕ) (o : Offer) (r : Reply)
 are_offered items adapter o r ps qs are one = are_put items adapter ps qs o.item one.pass are one.of one.is one.others
 
 -- a cause behind a pass that has moved on
-pub caused : (o : Offer) (p q : Pass) (cause : PublishRefused) → q.adapter ≡ p.adapter → q.shape ≡ p.shape
+pub caused : (o : Offer) (p q : Pass) (cause : PublishRefused) → q ≡ record p { list = q.list }
     → IsCause (cause_in p.shape q.list (entry_of p.adapter o.seq o.event)) cause → IsCause (cause_of o q) cause
-caused o p q cause a s h =
-    subst (λ n. IsCause (cause_in q.shape q.list (entry_of n o.seq o.event)) cause) (sym a)
-    (subst (λ (x : Shape). IsCause (cause_in x q.list (entry_of p.adapter o.seq o.event)) cause) (sym s) h)
+caused o p q cause same is =
+    subst (λ (x : Pass). IsCause (cause_in x.shape q.list (entry_of x.adapter o.seq o.event)) cause) (sym same) is
 
 -- where there was no pass, nothing was seen
 pub from_none : (ps : List (Option Pass)) (item : ℕ) (list : List Entry) → pass_at ps item ≡ None → IsPrefix (seen_by (pass_at ps item)) list

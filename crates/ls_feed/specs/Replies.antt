@@ -7,8 +7,7 @@ use Rattle.ls_event.specs.declared.event.Entry.{Entry}
 use Rattle.ls_event.specs.declared.event.PublishRefused.{PublishRefused}
 use Rattle.ls_event.specs.declared.event.PublishRefused.TheVariants as refused
 use Rattle.ls_event.specs.declared.item.ItemDef.{ItemDef}
-use Rattle.ls_event.specs.Shapes.{shape_of}
-use Rattle.ls_live.specs.Live.{Pass, cause_in, entry_of}
+use Rattle.ls_live.specs.Live.{Pass, IsPassFor, cause_in, entry_of}
 use Rattle.ls_shared.specs.Offers.{HasOnce}
 use Rattle.ls_feed.specs.declared.offer.Offer.{Offer}
 use Rattle.ls_feed.specs.declared.reply.Bad.{Bad}
@@ -76,11 +75,9 @@ TrueOf o p (reply.Bad bad.TooLong) = (bytes : ℕ) × (cause_of o p ≡ Some (re
 TrueOf o p (reply.Bad bad.Spent) = cause_of o p ≡ Some refused.Spent
 TrueOf o p (reply.Bad bad.NoMemory) = ⊤
 
--- a pass of an item, by an adapter
+-- an adapter's pass of the item of a number, which the register shows at the pass's place
 pub record IsPassOf (items : List ItemDef) (adapter item : ℕ) (p : Pass) : Type 0 where
-  pub def : ItemDef
-  pub declared : slice_get items item ≡ Some def
-  pub shape : p.shape ≡ shape_of def
+  pub of : IsPassFor items item p
   pub adapter_is : p.adapter ≡ adapter
 
 -- each pass is that of its item, by the adapter

@@ -129,8 +129,7 @@ fn offer_by<N: House, R: Wait, G: Gate>(
 ) -> Reply
     requires { HasFields pass.old.shape.fields offer.event }
     ensures begins { IsPrefix pass.old.list pass.new.list }
-    ensures adapter { pass.new.adapter ≡ pass.old.adapter }
-    ensures shape { pass.new.shape ≡ pass.old.shape }
+    ensures same { pass.new ≡ record pass.old { list = pass.new.list } }
     ensures says { TrueOf offer pass.new result }
 {
     let Offer { seq, event, .. } = offer;

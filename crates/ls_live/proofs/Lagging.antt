@@ -1,5 +1,5 @@
 -- Slots that lag are caught up one by one.
-use Rattle.std.proofs.Common.{◌≡◌, ℕ, zero, suc, ◌+◌, ◌-◌, ◌<◌, ◌≤◌, List, [], ◌∷◌, refl, sym, ◌∙◌, ap, subst, arith}
+use Rattle.std.proofs.Common.{◌≡◌, ℕ, zero, suc, ◌+◌, ◌-◌, ◌<◌, ◌≤◌, List, [], ◌∷◌, refl, ◌∙◌, ap, subst, arith}
 use Rattle.std.proofs.Common.{Bool, true, false, cond, Option, Some, None, IsSome, get_or, set, Result, Ok, Err}
 use Rattle.std.proofs.Common.{IfErr, OnOk, nat_le}
 use Rattle.std.proofs.lemmas.Bool.{le-leb, lt-leb}
@@ -14,11 +14,11 @@ use Rattle.ls_event.specs.Slots.{Slot}
 use Rattle.ls_cell.specs.declared.any.AnyBuffer.{AnyBuffer}
 use Rattle.ls_cell.specs.Any.{any_last}
 use Rattle.ls_cell.specs.Numbered.{slot_at, set_slot, live_slots, lags, first_lagging}
-use Rattle.ls_cell.specs.Standing.{StandsSlot, last_at}
+use Rattle.ls_cell.specs.Standing.{last_at}
 use Rattle.ls_cell.specs.Cell.{Held, StandsCell, HasSlot, refusal_of, last_in}
-use Rattle.ls_cell.proofs.Recorded.{same_has}
-use Rattle.ls_live.specs.Live.{StandsFor, IsCause, cause_in, entry_of, lagging_in}
+use Rattle.ls_live.specs.Live.{StandsFor, KeepsSlots, IsCause, cause_in, entry_of, lagging_in}
 use Rattle.ls_live.proofs.Causes.{far_slot, lagging_is, cause_near, none_near, spent_near}
+use Rattle.ls_live.proofs.Keeping.{keeps_same, keeps_on, keeps_caught, stands_kept}
 
 module _ {B : Type 0} (last : B → ℕ) (number : ℕ) where
   -- how many slots lag
@@ -98,32 +98,22 @@ far_live c adapter seq event slot is =
 pub record Goes (c d : Held) (i : ℕ) : Type 0 where
   pub shape : d.item.shape ≡ c.item.shape
   pub fewer : far_count any_last d.number d.slots + i ≤ live_slots c.slots
-  pub stands : (h : List Entry) → StandsFor c h → StandsFor d h
+  pub keeps : (h : List Entry) → KeepsSlots c h d h
 
 pub goes_first : (c : Held) (i : ℕ) → i ≡ 0 → Goes c c i
 goes_first c i is =
-    record { shape = refl; fewer = omega (arith, is, far_few any_last c.number c.slots); stands = λ h st. st }
+    record { shape = refl; fewer = omega (arith, is, far_few any_last c.number c.slots); keeps = λ h. keeps_same c h }
 
-some_value : {A : Type 0} (o : Option A) → IsSome o → (a : A) × (o ≡ Some a)
-some_value None some = absurd cc
-some_value (Some a) some = (a, refl)
-
--- a call on one slot, which goes on standing for its record
-pub caught_stands : (d e : Held) (slot : ℕ) (h : List Entry) → HasSlot d slot
-    → ((ss : List (Option Slot)) (h : List Entry) (s : Slot) → StandsCell d ss h → slot_at ss slot ≡ Some s
-    → StandsCell e (set_slot ss slot (Some (record s { last = last_in e slot }))) h) → StandsFor d h → StandsFor e h
-caught_stands d e slot h live step st =
-    let some : IsSome (slot_at st.0 slot) =
-    sym (same_has (StandsSlot d.item.shape) d.slots st.0 h slot st.1.slots) ∙ live in
-    let s = some_value (slot_at st.0 slot) some in
-    (set_slot st.0 slot (Some (record s.0 { last = last_in e slot })), step st.0 h s.0 st.1 s.1)
+-- a cell that stood for a history stands for it
+goes_for : (c d : Held) (i : ℕ) (h : List Entry) → Goes c d i → StandsFor c h → StandsFor d h
+goes_for c d i h g st = stands_kept c h d h (g.keeps h) st
 
 pub goes_next : (c d e : Held) (adapter seq : ℕ) (event : Event) (slot i : ℕ) → Goes c d i
     → refusal_of d (entry_of adapter seq event) ≡ Some (refused.Backlog slot)
     → e ≡ record d { slots = set_slot d.slots slot (slot_at e.slots slot) } → last_in e slot ≡ d.number
-    → ((ss : List (Option Slot)) (h : List Entry) (s : Slot) → StandsCell d ss h → slot_at ss slot ≡ Some s
+    → last_in d slot ≤ last_in e slot → ((ss : List (Option Slot)) (h : List Entry) (s : Slot) → StandsCell d ss h → slot_at ss slot ≡ Some s
     → StandsCell e (set_slot ss slot (Some (record s { last = last_in e slot }))) h) → Goes c e (i + 1)
-goes_next c d e adapter seq event slot i g is rest all step =
+goes_next c d e adapter seq event slot i g is rest all more step =
     let l = far_found any_last d.number d.slots 1 slot (far_slot d adapter seq event slot is) in
     let index : l.index ≡ slot - 1 = omega (arith, l.number_is) in
     let less : far_count any_last d.number (set_slot d.slots slot (slot_at e.slots slot)) + 1
@@ -137,7 +127,7 @@ goes_next c d e adapter seq event slot i g is rest all step =
     record {
       shape = ap (λ (v : Held). v.item.shape) rest ∙ g.shape;
       fewer = omega (arith, g.fewer, less, same);
-      stands = λ h st. caught_stands d e slot h (far_live d adapter seq event slot is) step (g.stands h st);
+      keeps = λ h. keeps_on c h d h e h (g.keeps h) (keeps_caught d e slot h (far_live d adapter seq event slot is) more step);
     }
 
 -- after as many as are live none lags
@@ -168,7 +158,7 @@ pub refused_all : (c d : Held) (i : ℕ) (adapter seq : ℕ) (event : Event) (r 
 refused_all c d i adapter seq event (Ok a) g range free err = tt
 refused_all c d i adapter seq event (Err e) g range free err = λ h st.
     subst (λ (p : Shape). IsCause (cause_in p h (entry_of adapter seq event)) e) g.shape
-    (cause_near d h adapter seq event e (g.stands h st) range free err)
+    (cause_near d h adapter seq event e (goes_for c d i h g st) range free err)
 
 pub admitted_all : (c d : Held) (i : ℕ) (adapter seq : ℕ) (event : Event) (r : Result (Unit {0}) PublishRefused)
     → Goes c d i → adapter ≤ MOST_ADAPTERS → OnOk r (refusal_of d (entry_of adapter seq event) ≡ None)
@@ -176,7 +166,7 @@ pub admitted_all : (c d : Held) (i : ℕ) (adapter seq : ℕ) (event : Event) (r
 admitted_all c d i adapter seq event (Err e) g range ok = tt
 admitted_all c d i adapter seq event (Ok a) g range ok = λ h st.
     subst (λ (p : Shape). cause_in p h (entry_of adapter seq event) ≡ None) g.shape
-    (none_near d h adapter seq event (g.stands h st) range ok)
+    (none_near d h adapter seq event (goes_for c d i h g st) range ok)
 
 -- where a slot lags, the cause without slots is by the number of events alone
 pub far_all : (c d : Held) (i : ℕ) (adapter seq : ℕ) (event : Event) (slot : ℕ) (h : List Entry)
@@ -186,7 +176,7 @@ pub far_all : (c d : Held) (i : ℕ) (adapter seq : ℕ) (event : Event) (slot :
 far_all c d i adapter seq event slot h g range is st =
     subst (λ (p : Shape). cause_in p h (entry_of adapter seq event)
     ≡ cond (nat_le GREATEST_NUMBER d.number) (Some refused.Spent) None) g.shape
-    (spent_near d h adapter seq event slot (g.stands h st) range is)
+    (spent_near d h adapter seq event slot (goes_for c d i h g st) range is)
 
 pub spent_all : (number : ℕ) → GREATEST_NUMBER ≤ number
     → cond (nat_le GREATEST_NUMBER number) (Some refused.Spent) None ≡ Some refused.Spent

@@ -1,3 +1,4 @@
 pub mod Causes
+pub mod Keeping
+pub mod Knowing
 pub mod Lagging
-pub mod Histories

@@ -1,25 +1,36 @@
 -- An item with its history, and what an adapter has seen of it (this project's profile).
-use Rattle.std.specs.Prelude.{◌≡◌, ℕ, List, Option, None, Some, Result, Ok, Err}
+use Rattle.std.specs.Prelude.{◌≡◌, ℕ, ◌≤◌, ◌==◌, Bool, false, List, Option, None, Some, Result, Ok, Err}
 use Rattle.atomic_table.specs.Seated.{TableId}
 use Rattle.ls_event.specs.declared.event.Event.{Event}
 use Rattle.ls_event.specs.declared.event.Entry.{Entry}
 use Rattle.ls_event.specs.declared.event.PublishRefused.{PublishRefused}
 use Rattle.ls_event.specs.declared.event.PublishRefused.TheVariants as refused
+use Rattle.ls_event.specs.declared.item.ItemDef.{ItemDef}
 use Rattle.ls_event.specs.Shapes.{Shape}
 use Rattle.ls_event.specs.Publishes.{refusal}
 use Rattle.ls_event.specs.Slots.{Slot}
 use Rattle.ls_cell.specs.Cell.{Held, StandsCell}
+use Rattle.ls_cell.specs.Numbered.{slot_at}
+use Rattle.ls_register.specs.Items.{ShowsItem}
+use Rattle.ls_register.specs.Places.{Placed}
 use Rattle.ls_live.specs.declared.shape.ItemShape.{ItemShape}
 
--- an item: the table on which its history stands, its shape, and the history
+-- an item: its number and its place in the register, where it has one, what is kept of it, the table on which its
+-- history stands, its shape, and the history
 pub record Live : Type 0 where
+  pub item : ℕ
+  pub place : Option Placed
+  pub cell : Held
   pub table : TableId
   pub shape : Shape
   pub history : List Entry
 
--- a pass: its adapter, its item's table and shape, and a beginning of the item's history
+-- a pass: its adapter, its item's number, place in the register, where it knows one, table and shape, and a beginning
+-- of the item's history
 pub record Pass : Type 0 where
   pub adapter : ℕ
+  pub item : ℕ
+  pub place : Option Placed
   pub table : TableId
   pub shape : Shape
   pub list : List Entry
@@ -28,6 +39,32 @@ pub record Pass : Type 0 where
 pub record IsOf (p : Pass) (i : Live) : Type 0 where
   pub table : p.table ≡ i.table
   pub shape : p.shape ≡ i.shape
+
+-- whether both know a place in the register, and it is one
+abbrev pub are_one : Option Placed → Option Placed → Bool
+are_one None q = false
+are_one (Some p) None = false
+are_one (Some p) (Some q) = p.at == q.at
+
+-- an adapter's pass that has seen an item's whole history
+abbrev pub whole_pass : Live → ℕ → Pass
+whole_pass i adapter =
+    record {
+      adapter = adapter;
+      item = i.item;
+      place = i.place;
+      table = i.table;
+      shape = i.shape;
+      list = i.history;
+    }
+
+-- a pass is of the declared item of this number, from 0: the register shows that item at the pass's place, with the
+-- pass's shape and table
+pub record IsPassFor (config : List ItemDef) (item : ℕ) (p : Pass) : Type 0 where
+  pub number : p.item ≡ item
+  pub place : Placed
+  pub place_is : p.place ≡ Some place
+  pub shows : ShowsItem config place item p.shape p.table
 
 -- an adapter's event
 abbrev pub entry_of : ℕ → ℕ → Event → Entry
@@ -57,6 +94,23 @@ lagging_in (Err refused.NoMemory) = None
 -- what is kept of an item stands for a history, and for the records of its slots, whichever they are
 abbrev pub StandsFor : Held → List Entry → Type 0
 StandsFor c h = (ss : List (Option Slot)) × StandsCell c ss h
+
+-- a slot's record is as before, but that more events may be enqueued; a number without a slot stays free
+abbrev pub IsCaughtUp : Option Slot → Option Slot → Type 0
+IsCaughtUp None None = Unit {0}
+IsCaughtUp None (Some t) = ⊥
+IsCaughtUp (Some s) None = ⊥
+IsCaughtUp (Some s) (Some t) = (s.last ≤ t.last) × (t ≡ record s { last = t.last })
+
+-- each slot is so, by its number
+abbrev pub OnlyCaughtUp : List (Option Slot) → List (Option Slot) → Type 0
+OnlyCaughtUp ss ts = (slot : ℕ) → IsCaughtUp (slot_at ss slot) (slot_at ts slot)
+
+-- whichever slots what was kept stood for with a history, what is kept now stands for them with this one, at most
+-- caught up
+abbrev pub KeepsSlots : Held → List Entry → Held → List Entry → Type 0
+KeepsSlots c h d k =
+    (ss : List (Option Slot)) → StandsCell c ss h → (ts : List (Option Slot)) × OnlyCaughtUp ss ts × StandsCell d ts k
 
 -- a shape as it is kept
 abbrev pub shape_kept : ItemShape → Shape

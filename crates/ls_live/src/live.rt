@@ -1,13 +1,14 @@
 //! An item with its history, and the passes of those who publish on it.
-ghost use Rattle.std.specs.Prelude.{◌≡◌, ◌≤◌, ◌++◌, ◌∷◌, [], Some, IsTrue, IfOk, IfErr, IfSome, length, slice_get};
+ghost use Rattle.std.specs.Prelude.{◌≡◌, ◌≤◌, ◌++◌, ◌∷◌, [], ℕ, None, Some, IsTrue, IfOk, IfErr, length};
+ghost use Rattle.std.specs.Prelude.{◌&&◌, ◌==◌, is_some};
 ghost use mathlib.Core.List.{IsPrefix};
-ghost use Rattle.ls_event.specs.declared.item.ItemDef.{ItemDef as Def};
 ghost use Rattle.ls_event.specs.declared.limits.TheConstants.{MOST_ADAPTERS as MOST};
 ghost use Rattle.ls_event.specs.History.{HasFields};
 ghost use Rattle.ls_event.specs.Publishes.{IsHistory};
 ghost use Rattle.ls_event.specs.Shapes.{IsShape, shape_of};
+ghost use Rattle.ls_cell.specs.Cell.{StandsCell};
 ghost use Rattle.ls_register.specs.Items.{ShowsItem};
-ghost use Rattle.ls_live.specs.Live.{IsOf, IsCause, cause_in, entry_of};
+ghost use Rattle.ls_live.specs.Live.{IsOf, IsPassFor, KeepsSlots, IsCause, are_one, cause_in, entry_of, whole_pass};
 
 use crate::shape::ItemShape;
 use crate::weighing::weigh;
@@ -19,9 +20,9 @@ use ls_value::NoMemory;
 use std::alloc::Global;
 use std::marker::Model;
 
-/// An item with publishers: a cell, and its history's writer. Contracts see the history's table, the item's shape and
-/// the whole history, for which the cell stands. A lone item has no place in a register. It keeps the allocator that
-/// its constructor took.
+/// An item with publishers: a cell, and its history's writer. Contracts see the item's number and its place in the
+/// register, the cell, the history's table, the item's shape and the whole history, for which the cell stands. A lone
+/// item has no place. It keeps the allocator that its constructor took.
 #[derive(Drop)]
 pub struct LiveItem<N: House> {
     alloc: Global,
@@ -40,7 +41,14 @@ impl<N: House> Model for LiveItem<N> {
 
     ghost Value = { Live };
 
-    ghost view = { λ i. record { table = i.chron; shape = i.cell.item.shape; history = i.writer.list } };
+    ghost view = { λ i. record {
+      item = i.item;
+      place = i.place;
+      cell = i.cell;
+      table = i.chron;
+      shape = i.cell.item.shape;
+      history = i.writer.list;
+    } };
 
     ghost invariant = { λ i. (i.writer.table ≡ i.chron) × (shape_kept i.shape ≡ i.cell.item.shape)
         × StandsFor i.cell i.writer.list
@@ -48,7 +56,8 @@ impl<N: House> Model for LiveItem<N> {
 }
 
 /// An adapter's pass to an item: by it events are published, and it has seen what was published through it. Contracts
-/// see the adapter, from 1, the table and the shape of the item, and a beginning of its history.
+/// see the adapter, from 1, the item's number, its place in the register, where the pass knows it, its table and shape,
+/// and a beginning of its history.
 #[derive(Drop)]
 pub struct PubPass<N: House> {
     item: u32,
@@ -66,19 +75,26 @@ impl<N: House> Model for PubPass<N> {
 
     ghost Value = { Pass };
 
-    ghost view = { λ p. record
-        { adapter = p.adapter; table = p.reader.table; shape = shape_kept p.shape; list = p.reader.list } };
+    ghost view = { λ p. record {
+      adapter = p.adapter;
+      item = p.item;
+      place = p.place;
+      table = p.reader.table;
+      shape = shape_kept p.shape;
+      list = p.reader.list;
+    } };
 
     ghost invariant = { λ p. (1 ≤ p.adapter) × (p.adapter ≤ MOST_ADAPTERS)
         × IfSome p.place (λ q. ShowsItem N.deed.config q p.item (shape_kept p.shape) p.reader.table) };
 }
 
 impl<N: House> LiveItem<N> {
-    /// A lone item as declared, with an empty history. It has 1 to [`MOST_FIELDS`](ls_event::MOST_FIELDS) fields, and
-    /// in kind COMMAND a key and a command among them.
+    /// A lone item as declared, with an empty history and without a slot. It has 1 to
+    /// [`MOST_FIELDS`](ls_event::MOST_FIELDS) fields, and in kind COMMAND a key and a command among them.
     pub fn new(alloc: Global, item: &ItemDef) -> Result<LiveItem<N>, NoMemory>
         requires { IsShape (shape_of item.now) }
-        ensures { IfOk result (λ i. (i.shape ≡ shape_of item.now) × (i.history ≡ [])) }
+        ensures made { IfOk result (λ i. (i.shape ≡ shape_of item.now) × (i.history ≡ []) × (i.place ≡ None)) }
+        ensures slots { IfOk result (λ i. StandsCell i.cell [] []) }
     {
         let (chron, writer) = Chron::start(alloc)?;
         let cell = ItemCell::new(alloc, item)?;
@@ -103,7 +119,7 @@ impl<N: House> LiveItem<N> {
     /// The item at its place in the register, which shows the declared item of this number, from 0.
     pub fn at(self, place: Place<N>, item: u32) -> LiveItem<N>
         requires { ShowsItem N.deed.config place item self.shape self.table }
-        ensures { result ≡ self }
+        ensures { result ≡ record self { item = item; place = Some place } }
     {
         let LiveItem {
             alloc,
@@ -131,8 +147,7 @@ impl<N: House> LiveItem<N> {
         requires some { 1 ≤ adapter }
         requires most { adapter ≤ MOST }
         ensures same { self.new ≡ self.old }
-        ensures pass { result ≡ record
-            { adapter = adapter; table = self.old.table; shape = self.old.shape; list = self.old.history } }
+        ensures pass { result ≡ record (whole_pass self.old adapter) { place = None } }
     {
         let reader = self.chron.note(&mut self.writer);
         PubPass {
@@ -150,8 +165,7 @@ impl<N: House> LiveItem<N> {
         requires some { 1 ≤ adapter }
         requires most { adapter ≤ MOST }
         ensures same { self.new ≡ self.old }
-        ensures pass { result ≡ record
-            { adapter = adapter; table = self.old.table; shape = self.old.shape; list = self.old.history } }
+        ensures pass { result ≡ whole_pass self.old adapter }
     {
         let reader = self.chron.note(&mut self.writer);
         let place = match &mut self.place {
@@ -167,14 +181,13 @@ impl<N: House> LiveItem<N> {
         }
     }
 
-    /// Whether the item has a place in the register, and is the declared item of this number there, from 0.
+    /// Whether the item has a place in the register, and is the declared item of this number there, from 0. Then each
+    /// pass that knows its place is of that item.
     pub fn has_item(&self, item: u32) -> bool
-        ensures { IsTrue result → (d : Def) → slice_get N.deed.config item ≡ Some d → self.now.shape ≡ shape_of d }
+        ensures exact { result ≡ (is_some self.now.place && (self.now.item == item)) }
+        ensures of { IsTrue result → (adapter : ℕ) → IsPassFor N.deed.config item (whole_pass self.now adapter) }
     {
-        match &self.place {
-            Some(_) => self.item == item,
-            None => false,
-        }
+        self.place.is_some() && self.item == item
     }
 
     /// Whether the pass is of this item, by their places in the register. A lone item, and a pass that knows no place,
@@ -182,6 +195,7 @@ impl<N: House> LiveItem<N> {
     pub fn is_of(&mut self, register: &Chron<Made>, pass: &mut PubPass<N>) -> bool
         requires { register.now ≡ N.deed.register }
         ensures same { (self.new ≡ self.old) × (pass.new ≡ pass.old) }
+        ensures exact { result ≡ are_one self.old.place pass.old.place }
         ensures one { IsTrue result → IsOf pass.old self.old }
     {
         let Some(mine) = &mut self.place else {
@@ -190,13 +204,17 @@ impl<N: House> LiveItem<N> {
         let Some(theirs) = &mut pass.place else {
             return false;
         };
-        mine.is_that(register, theirs)
+        let mut mine = mine.again(register);
+        let mut theirs = theirs.again(register);
+        mine.is_that(register, &mut theirs)
     }
 }
 
 impl<N: House> PubPass<N> {
     /// The number of its item, from 0, where it knows a place.
-    pub fn item(&self) -> u32 {
+    pub fn item(&self) -> u32
+        ensures { result ≡ self.now.item }
+    {
         self.item
     }
 
@@ -210,25 +228,23 @@ impl<N: House> PubPass<N> {
     }
 }
 
-/// A copy of an adapter's event with its seq, `None` where there is no memory.
-pub fn copied_entry(alloc: Global, adapter: u8, seq: u64, event: &Event) -> Option<Entry>
-    ensures { IfSome result (λ e. e ≡ entry_of adapter seq event.now) }
+/// A copy of an adapter's event with its seq.
+pub fn copied_entry(alloc: Global, adapter: u8, seq: u64, event: &Event) -> Result<Entry, NoMemory>
+    ensures { IfOk result (λ e. e ≡ entry_of adapter seq event.now) }
 {
-    match event.copy(alloc) {
-        Ok(event) => Some(Entry {
-            adapter,
-            seq,
-            event,
-        }),
-        Err(_) => None,
-    }
+    let event = event.copy(alloc)?;
+    Ok(Entry {
+        adapter,
+        seq,
+        event,
+    })
 }
 
 /// Adds an event to the end of the item's history by the pass, which then has seen the whole history. It answers the
 /// event's number, or the first cause of [`ItemCell::publish`]'s order that stands against it. A slot that lags by
 /// [`MOST_LAG`](ls_event::MOST_LAG) is caught up and keeps nothing back, so `Backlog` is never answered. After a
-/// refusal the history is as before; some slots may have been caught up. The pass is of the item, and an update has a
-/// cell for each field.
+/// refusal the history is as before; some slots may have been caught up. Nothing else becomes of a slot. The pass is of
+/// the item, and an update has a cell for each field.
 pub fn publish_into<N: House>(
     item: &mut LiveItem<N>,
     pass: &mut PubPass<N>,
@@ -237,7 +253,8 @@ pub fn publish_into<N: House>(
 ) -> Result<u64, PublishRefused>
     requires of { IsOf pass.old item.old }
     requires fields { HasFields item.old.shape.fields event }
-    ensures item { item.new ≡ record item.old { history = item.new.history } }
+    ensures item { item.new ≡ record item.old { cell = item.new.cell; history = item.new.history } }
+    ensures slots { KeepsSlots item.old.cell item.old.history item.new.cell item.new.history }
     ensures pass { pass.new ≡ record pass.old { list = item.new.history } }
     ensures begins { IsPrefix pass.old.list item.old.history }
     ensures done { IfOk result (λ number.
@@ -260,12 +277,13 @@ pub fn publish_copied<N: House>(
     pass: &mut PubPass<N>,
     seq: u64,
     event: Event,
-    entry: &Option<Entry>,
+    entry: &Result<Entry, NoMemory>,
 ) -> Result<u64, PublishRefused>
     requires of { IsOf pass.old item.old }
     requires fields { HasFields item.old.shape.fields event }
-    requires copy { IfSome entry.now (λ e. e ≡ entry_of pass.old.adapter seq event) }
-    ensures item { item.new ≡ record item.old { history = item.new.history } }
+    requires copy { IfOk entry.now (λ e. e ≡ entry_of pass.old.adapter seq event) }
+    ensures item { item.new ≡ record item.old { cell = item.new.cell; history = item.new.history } }
+    ensures slots { KeepsSlots item.old.cell item.old.history item.new.cell item.new.history }
     ensures pass { pass.new ≡ record pass.old { list = item.new.history } }
     ensures begins { IsPrefix pass.old.list item.old.history }
     ensures done { IfOk result (λ number.
@@ -288,7 +306,7 @@ pub fn publish_copied<N: House>(
         Ok(()) => {}
         Err(cause) => return Err(cause),
     }
-    let Some(entry) = entry else {
+    let Ok(entry) = entry else {
         return Err(PublishRefused::NoMemory);
     };
     let Ok(()) = cell.add(pass.adapter, seq, event) else {

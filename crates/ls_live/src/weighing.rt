@@ -4,7 +4,7 @@ ghost use Rattle.ls_event.specs.declared.event.Entry.{Entry};
 ghost use Rattle.ls_event.specs.declared.limits.TheConstants.{MOST_ADAPTERS as MOST};
 ghost use Rattle.ls_event.specs.History.{HasFields};
 ghost use Rattle.ls_cell.specs.Cell.{refusal_of};
-ghost use Rattle.ls_live.specs.Live.{StandsFor, IsCause, cause_in, entry_of, lagging_in};
+ghost use Rattle.ls_live.specs.Live.{StandsFor, KeepsSlots, IsCause, cause_in, entry_of, lagging_in};
 
 use ls_cell::ItemCell;
 use ls_event::{Event, PublishRefused};
@@ -12,7 +12,7 @@ use ls_value::GREATEST_NUMBER;
 
 /// The first cause that stands against an event of an adapter with this seq, in the order of
 /// [`publish_into`](crate::publish_into) (this project's profile). A slot that lags by [`MOST_LAG`](ls_event::MOST_LAG)
-/// events is caught up, and is no cause: `Backlog` is never answered.
+/// events is caught up, and is no cause: `Backlog` is never answered. Nothing else becomes of a slot.
 ///
 /// # Errors
 ///
@@ -26,7 +26,7 @@ pub fn weigh(
     requires adapter { adapter ≤ MOST }
     requires fields { HasFields cell.old.item.shape.fields event.now }
     ensures shape { cell.new.item.shape ≡ cell.old.item.shape }
-    ensures stands { (h : List Entry) → StandsFor cell.old h → StandsFor cell.new h }
+    ensures slots { (h : List Entry) → KeepsSlots cell.old h cell.new h }
     ensures ok { OnOk result (refusal_of cell.new (entry_of adapter seq event.now) ≡ None) }
     ensures admitted { OnOk result ((h : List Entry) → StandsFor cell.old h
         → cause_in cell.old.item.shape h (entry_of adapter seq event.now) ≡ None) }

@@ -21,6 +21,7 @@
 mod cross;
 mod shared;
 
-pub use ls_live::PubPass;
-pub use ls_register::{Blank, House, View};
+pub use ls_event::PublishRefused;
+pub use ls_live::{LiveItem, PubPass, publish_into};
+pub use ls_register::{Blank, House, Made, View, one_table};
 pub use shared::Shared;

@@ -9,7 +9,7 @@ ghost use Rattle.ls_event.specs.declared.limits.TheConstants.{MOST_ADAPTERS};
 ghost use Rattle.ls_config.specs.Items.{are_items};
 ghost use Rattle.ls_config.specs.declared.items.TheConstants.{MOST_ITEMS};
 ghost use Rattle.ls_register.specs.Items.{items_of, facts_of, fact_of};
-ghost use Rattle.ls_live.specs.Live.{IsCause, cause_in, entry_of};
+ghost use Rattle.ls_live.specs.Live.{IsCause, IsPassFor, cause_in, entry_of};
 ghost use Rattle.ls_shared.specs.Offers.{HasOnce};
 
 use crossbeam_utils::CachePadded;
@@ -60,13 +60,15 @@ impl<N: House> Shared<N> {
         })
     }
 
-    /// An adapter's pass of an item, whose list is the item's history as it stands under the item's lock. The item is
-    /// one of the config's, by its number from 0; the adapter is 1 to 64. It takes no memory, and may wait.
+    /// An adapter's pass of an item, whose list is the item's history as it stands under the item's lock: the register
+    /// shows that item at the pass's place. The item is one of the config's, by its number from 0; the adapter is 1 to
+    /// 64. It takes no memory, and may wait.
     pub fn pass<R: Wait>(&self, rt: &R, item: u32, adapter: u8) -> PubPass<N>
         requires item { item < length N.deed.config }
         requires some { 1 ≤ adapter }
         requires most { adapter ≤ MOST_ADAPTERS }
         ensures adapter { result.adapter ≡ adapter }
+        ensures of { IsPassFor N.deed.config item result }
         ensures shape { IfSome (slice_get N.deed.config item) (λ d. result.shape ≡ shape_of d) }
     {
         let lock: &Mutex<LiveItem<N>> = &self.items[item as usize];
@@ -90,8 +92,8 @@ impl<N: House> Shared<N> {
     }
 
     /// Adds an event to the history of the pass's item, under the item's lock, and answers its number, from 1. An
-    /// update has a cell for each of the item's fields. The pass then has the history as it stood when the lock was let
-    /// go, and of that list the answer is true:
+    /// update has a cell for each of the item's fields. The pass stays one of that item. It then has the history as it
+    /// stood when the lock was let go, and of that list the answer is true:
     /// - a number: the event stands there at it, and no other one of this adapter has this seq;
     /// - a refusal: it is the first cause that stands against the event behind that list, in the order of
     ///   [`PublishRefused`]. `NoMemory` may come where there is none. `Backlog` never comes.
@@ -108,7 +110,8 @@ impl<N: House> Shared<N> {
         requires { HasFields pass.old.shape.fields event }
         ensures begins { IsPrefix pass.old.list pass.new.list }
         ensures adapter { pass.new.adapter ≡ pass.old.adapter }
-        ensures item { (pass.new.table ≡ pass.old.table) × (pass.new.shape ≡ pass.old.shape) }
+        ensures item { (pass.new.table ≡ pass.old.table) × (pass.new.shape ≡ pass.old.shape)
+            × (pass.new.item ≡ pass.old.item) × (pass.new.place ≡ pass.old.place) }
         ensures done { IfOk result (λ no. HasOnce pass.new.list no pass.old.adapter seq event) }
         ensures refused { IfErr result
             (IsCause (cause_in pass.old.shape pass.new.list (entry_of pass.old.adapter seq event))) }
@@ -209,6 +212,7 @@ fn pass_of<N: House, R: Wait>(
     requires some { 1 ≤ adapter }
     requires most { adapter ≤ MOST_ADAPTERS }
     ensures adapter { result.adapter ≡ adapter }
+    ensures of { IsPassFor N.deed.config item result }
     ensures shape { IfSome (slice_get N.deed.config item) (λ d. result.shape ≡ shape_of d) }
 {
     if !live.has_item(item) {
@@ -225,14 +229,15 @@ fn offer_to<N: House, R: Wait>(
     pass: &mut PubPass<N>,
     seq: u64,
     event: Event,
-    copied: &Option<Entry>,
+    copied: &Result<Entry, NoMemory>,
 ) -> Result<u64, PublishRefused>
     requires register { register.now ≡ N.deed.register }
     requires fields { HasFields pass.old.shape.fields event }
-    requires copied { IfSome copied.now (λ e. e ≡ entry_of pass.old.adapter seq event) }
+    requires copied { IfOk copied.now (λ e. e ≡ entry_of pass.old.adapter seq event) }
     ensures begins { IsPrefix pass.old.list pass.new.list }
     ensures adapter { pass.new.adapter ≡ pass.old.adapter }
-    ensures item { (pass.new.table ≡ pass.old.table) × (pass.new.shape ≡ pass.old.shape) }
+    ensures item { (pass.new.table ≡ pass.old.table) × (pass.new.shape ≡ pass.old.shape)
+        × (pass.new.item ≡ pass.old.item) × (pass.new.place ≡ pass.old.place) }
     ensures done { IfOk result (λ no. HasOnce pass.new.list no pass.old.adapter seq event) }
     ensures refused { IfErr result
         (IsCause (cause_in pass.old.shape pass.new.list (entry_of pass.old.adapter seq event))) }

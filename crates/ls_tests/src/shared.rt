@@ -20,14 +20,14 @@ const MOST_LOOKS: u64 = 100_000_000;
 /// How many events each of two publishers offers.
 const EVENTS: u64 = 1000;
 
-/// A config with two items.
+/// A config with two items of one shape.
 fn two_items(alloc: Global) -> Result<Config, Fail>
     ensures { IfOk result (λ c. are_items c.items ≡ true) }
 {
-    Ok(read(alloc, b"first MERGE last,time\nsecond DISTINCT text\n")?)
+    Ok(read(alloc, b"first MERGE last,time\nsecond MERGE bid,ask\n")?)
 }
 
-/// Whether a Clear with this seq, which adapter 3 offers to an item, is answered this.
+/// Whether a Clear with this seq, which adapter 3 offers to an item by a pass of it, is answered this.
 fn is_answered<N: House, R: Wait>(
     rt: &R,
     shared: &Shared<N>,
@@ -39,10 +39,11 @@ fn is_answered<N: House, R: Wait>(
         return false;
     }
     let mut pass = shared.pass(rt, item, 3);
-    shared.offer(rt, &mut pass, seq, Event::Clear, &OpenGate) == answer
+    let is_of = pass.item() == item;
+    is_of && shared.offer(rt, &mut pass, seq, Event::Clear, &OpenGate) == answer
 }
 
-/// Whether each call answers as it has to, for two items.
+/// Whether each call answers as it has to, for two items: what is offered to one isn't in the other's history.
 fn is_served<N: House, R: Wait>(
     rt: &R,
     alloc: Global,
@@ -57,8 +58,8 @@ fn is_served<N: House, R: Wait>(
     let view = shared.view(rt);
     drop(view);
     Ok(
-        is_answered(rt, &shared, 0, 7, Ok(1))
-            && is_answered(rt, &shared, 1, 7, Ok(1))
+        is_answered(rt, &shared, 1, 7, Ok(1))
+            && is_answered(rt, &shared, 0, 7, Ok(1))
             && is_answered(rt, &shared, 0, 7, Err(PublishRefused::Repeated { last: 7 }))
             && is_answered(rt, &shared, 0, 8, Ok(2)),
     )

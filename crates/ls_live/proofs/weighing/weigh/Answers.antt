@@ -3,7 +3,8 @@ use Rattle.ls_event.specs.declared.event.PublishRefused.TheVariants as refused
 use Rattle.ls_cell.specs.Cell.{refusal_of}
 use Rattle.ls_live.specs.Live.{entry_of, lagging_in}
 use Rattle.ls_live.proofs.Causes.{lagging_is}
-use Rattle.ls_live.proofs.Lagging.{goes_first, goes_next, goes_last, far_live, caught_stands, none_lagging}
+use Rattle.ls_live.proofs.Keeping.{keeps_on, keeps_caught}
+use Rattle.ls_live.proofs.Lagging.{goes_first, goes_next, goes_last, far_live, none_lagging}
 use Rattle.ls_live.proofs.Lagging.{refused_all, admitted_all, far_all, spent_all, few_all}
 use Rattle.ls_live.proofs.weighing.weigh.Goals as goal
 
@@ -38,7 +39,7 @@ loop-preserved c =
     let far : refusal_of c.loop.cell (entry_of c.args.adapter c.args.seq c.args.event.now) ≡ Some (refused.Backlog c.in-Some.slot) =
     lagging_is c.check-found.result _ c.in-Some.slot c.check-found.ensures.err (sym c.lagging.ensures ∙ c.in-Some.is) in
     goes_next _ c.loop.cell c.catch_up.new.self _ _ _ c.in-Some.slot _ c.loop.invariant far c.catch_up.ensures.rest
-    c.in-Ok.ensures.last c.catch_up.ensures.stands
+    c.in-Ok.ensures.last c.catch_up.ensures.some c.catch_up.ensures.stands
 
 pub returns-clause-admitted : goal.returns-clause-admitted
 returns-clause-admitted c =
@@ -52,12 +53,13 @@ returns-clause-refused c =
     none_lagging c.loop.cell _ _ _ c.check.result c.check.ensures.err none in
     refused_all _ c.loop.cell _ _ _ _ c.check.result c.loop.invariant c.requires.adapter free c.check.ensures.err
 
-pub returns-in_default-catch_up-clause-stands : goal.returns-in_default-catch_up-clause-stands
-returns-in_default-catch_up-clause-stands c = λ h st.
+pub returns-in_default-catch_up-clause-slots : goal.returns-in_default-catch_up-clause-slots
+returns-in_default-catch_up-clause-slots c = λ h.
     let far : refusal_of c.loop.cell (entry_of c.args.adapter c.args.seq c.args.event.now) ≡ Some (refused.Backlog c.in-Some.slot) =
     lagging_is c.check-found.result _ c.in-Some.slot c.check-found.ensures.err (sym c.lagging.ensures ∙ c.in-Some.is) in
-    caught_stands c.loop.cell c.catch_up.new.self c.in-Some.slot h (far_live c.loop.cell _ _ _ c.in-Some.slot far)
-    c.catch_up.ensures.stands (c.loop.invariant.stands h st)
+    keeps_on _ h c.loop.cell h c.catch_up.new.self h (c.loop.invariant.keeps h)
+    (keeps_caught c.loop.cell c.catch_up.new.self c.in-Some.slot h (far_live c.loop.cell _ _ _ c.in-Some.slot far)
+    c.catch_up.ensures.some c.catch_up.ensures.stands)
 
 pub returns-in_default-catch_up-clause-refused : goal.returns-in_default-catch_up-clause-refused
 returns-in_default-catch_up-clause-refused c = λ h st.

@@ -8,15 +8,16 @@ use Rattle.ls_live.proofs.live.LiveItem.is_of.Goals as goal
 pub returns-clause-one : goal.returns-clause-one
 returns-clause-one g c is =
     let same = c.is_that.ensures in
-    let mine = c.in-Some.mine in
-    let theirs = c.in-Some-place.theirs in
+    let mine = c.again-mine.result in
+    let theirs = c.again-theirs.result in
     let config = g.N.House.deed.config in
     let i = c.self.inside in
     let p = c.pass.inside in
-    let mine_shows = subst (λ o. IfSome o (λ q. ShowsItem config q i.item i.cell.item.shape i.chron)) c.in-Some.is
-    c.self.invariant.3 in
-    let theirs_shows = subst (λ o. IfSome o (λ q. ShowsItem config q p.item (shape_kept p.shape) p.reader.table))
-    c.in-Some-place.is c.pass.invariant.2 in
+    let mine_shows = subst (λ q. ShowsItem config q i.item i.cell.item.shape i.chron) (sym c.again-mine.ensures.0)
+    (subst (λ o. IfSome o (λ q. ShowsItem config q i.item i.cell.item.shape i.chron)) c.in-Some.is c.self.invariant.3) in
+    let theirs_shows = subst (λ q. ShowsItem config q p.item (shape_kept p.shape) p.reader.table) (sym c.again-theirs.ensures.0)
+    (subst (λ o. IfSome o (λ q. ShowsItem config q p.item (shape_kept p.shape) p.reader.table)) c.in-Some-place.is
+    c.pass.invariant.2) in
     let one = shows_same config mine theirs c.is_that.new.self c.is_that.new.other i.item p.item i.cell.item.shape
     (shape_kept p.shape) i.chron p.reader.table mine_shows theirs_shows same.first same.second same.lists same.same.0
     same.same.1 (eqb-true mine.at theirs.at (sym same.one ∙ is)) in
