@@ -1,5 +1,5 @@
 -- One item's history grows, and one more item is declared.
-use Rattle.std.proofs.Common.{◌≡◌, ℕ, zero, suc, ◌+◌, ◌<◌, List, [], ◌∷◌, ◌++◌, length, refl, sym, ◌∙◌, ap, arith, subst, false}
+use Rattle.std.proofs.Common.{◌≡◌, ℕ, zero, suc, ◌+◌, ◌-◌, ◌<◌, List, [], ◌∷◌, ◌++◌, length, take, refl, sym, ◌∙◌, ap, arith, subst, false}
 use Rattle.std.proofs.Common.{Option, Some, None, Result, slice_get, get_or, set}
 use Rattle.std.specs.Option.{option_map_or}
 use Rattle.std.proofs.lemmas.List.{length-append}
@@ -19,7 +19,7 @@ use Rattle.ls_world.proofs.Each.{each_map}
 use Rattle.ls_cells.specs.Cells.{StandsItem, StandsItems, StandsCells, far_in}
 use Rattle.ls_cells.proofs.Numbers.{numbered_none, none_on, free_past}
 use Rattle.ls_cells.proofs.Least.{far_is}
-use Rattle.ls_cells.proofs.Items.{same_self, items_set, ItemHere, item_here, length_change}
+use Rattle.ls_cells.proofs.Items.{same_self, items_set, ItemHere, item_here, length_change, as_many}
 
 -- an item's history grows
 module _ (cells : List Held) (j : ℕ) (c : Held) (low : j < length cells) (is : c ≡ get_or cells j c) where
@@ -96,6 +96,26 @@ cells_declared cells live c d cell shape items lives st =
           live = λ m. none_at m ∙ sym (numbered_none (length items) m lives (free_past (length items) m lives st.within));
           count = sym (ap length (none_on (length items) lives st.within));
         }
+
+-- the last item is taken back
+items_taken : (lives : List Live) (n : ℕ) (cells : List Held) (items : List Item) (i : Item) → StandsItems lives n cells (items ++ i ∷ [])
+    → StandsItems lives n (take (length items) cells) items
+items_taken lives n [] [] i st = absurd st
+items_taken lives n (c ∷ cells) [] i st = tt
+items_taken lives n [] (y ∷ items) i st = absurd st
+items_taken lives n (c ∷ cells) (y ∷ items) i st = (st.0, items_taken lives (n + 1) cells items i st.1)
+
+pub cells_taken : (cells : List Held) (live m : ℕ) (items : List Item) (i : Item) (lives : List Live) → m ≡ length cells
+    → StandsCells (record { cells = cells; live = live }) (items ++ i ∷ []) lives → Each (λ v. v.item < length items) lives
+    → StandsCells (record { cells = take (m - 1) cells; live = live }) items lives
+cells_taken cells live m items i lives many st within =
+    let e : length items ≡ m - 1 = omega (arith, many, as_many lives 0 cells (items ++ i ∷ []) st.cells, length-append items (i ∷ [])) in
+    record {
+      cells = subst (λ (n : ℕ). StandsItems lives 0 (take n cells) items) e (items_taken lives 0 cells items i st.cells);
+      unlike = st.unlike;
+      within = within;
+      live = st.live;
+    }
 
 -- an event that an item takes
 pub takes_is : (lives : List Live) (event : Event) (n j : ℕ) (cells : List Held) (items : List Item) → StandsItems lives n cells items

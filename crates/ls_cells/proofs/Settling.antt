@@ -1,5 +1,5 @@
 -- The slots that are marked as settled stay so by each call.
-use Rattle.std.proofs.Common.{◌≡◌, ℕ, zero, suc, ◌<◌, List, [], ◌∷◌, ◌++◌, length, refl, sym, ◌∙◌, ap, arith, subst, Bool, true, false}
+use Rattle.std.proofs.Common.{◌≡◌, ℕ, zero, suc, ◌-◌, ◌<◌, List, [], ◌∷◌, ◌++◌, length, take, refl, sym, ◌∙◌, ap, arith, subst, Bool, true, false}
 use Rattle.std.proofs.Common.{Option, Some, None, not, get_or, set, slice_get, IsSome, ◌==◌, Result, Ok, Err, OnOk, OnErr}
 use Rattle.std.specs.Option.{option_map_or}
 use Rattle.std.proofs.lemmas.Bool.{eqb-true, eq-eqb}
@@ -68,6 +68,21 @@ one_more [] [] c k = (λ n marked. absurd (let x : true ≡ false = sym marked �
 one_more [] (x ∷ cells) c k = absurd k
 one_more (m ∷ rows) [] c k = absurd k
 one_more (m ∷ rows) (x ∷ cells) c k = (k.0, one_more rows cells c k.1)
+
+-- the last item is taken back
+taken : (n : ℕ) (rows : List (List Bool)) (cells : List Held) → KnowsSettled rows cells → KnowsSettled (take n rows) (take n cells)
+taken zero [] [] k = tt
+taken (suc n) [] [] k = tt
+taken n [] (c ∷ cells) k = absurd k
+taken n (m ∷ rows) [] k = absurd k
+taken zero (m ∷ rows) (c ∷ cells) k = tt
+taken (suc n) (m ∷ rows) (c ∷ cells) k = (k.0, taken n rows cells k.1)
+
+pub one_less : (rows : List (List Bool)) (cells : List Held) (m n : ℕ) → m ≡ length rows → n ≡ length cells → KnowsSettled rows cells
+    → KnowsSettled (take (m - 1) rows) (take (n - 1) cells)
+one_less rows cells m n many more k =
+    let e : n - 1 ≡ m - 1 = omega (arith, many, more, as_many_rows rows cells k) in
+    subst (λ (j : ℕ). KnowsSettled (take j rows) (take (n - 1) cells)) e (taken (n - 1) rows cells k)
 
 -- no slot is marked
 pub unmarked : (m : List Bool) (c : Held) → ((number : ℕ) → is_marked m number ≡ false) → AreAllSettled m c

@@ -12,6 +12,7 @@ ghost use Rattle.ls_event.specs.Shapes.{IsShape, shape_of};
 ghost use Rattle.ls_event.specs.Slots.{Slot, passed};
 ghost use Rattle.ls_cell.specs.Cell.{StandsCell, AnswersFirst, enqueue_answer, enqueued_at, cut_at, pending_at};
 ghost use Rattle.ls_cell.specs.Numbered.{slot_at, set_slot, put_slot, free_number, live_slots};
+ghost use Rattle.ls_world.specs.Lawful.{Each};
 ghost use Rattle.ls_world.specs.Steps.{grown, is_whole};
 ghost use Rattle.ls_world.specs.World.{Item, Live, history_of, shape_at, change, enqueue_slot};
 ghost use Rattle.ls_cells.specs.Cells.{StandsCells, MayJoin, slot_numbered, free_in, far_in, takes_of, fields_of};
@@ -78,6 +79,15 @@ impl Cells {
         self.cells.push_reserved(cell);
         self.settled.push_reserved(Marks::new(self.alloc));
         Ok(())
+    }
+
+    /// Takes the last item back, on which no slot is. It takes no memory.
+    pub fn take_back(&mut self)
+        ensures { (items : List Item) (i : Item) (lives : List Live) → StandsCells self.old (items ++ i ∷ []) lives
+            → Each (λ v. v.item < length items) lives → StandsCells self.new items lives }
+    {
+        self.cells.pop();
+        self.settled.pop();
     }
 
     /// Whether there is an item of this number, and an update has a cell for each of its fields.
@@ -176,8 +186,8 @@ impl Cells {
     }
 
     /// Whether a slot on an item is known to be settled: then nothing of it is pending. It is known where the last call
-    /// on the slot was a [`pass`](Cells::pass) that left nothing pending, and no slot joined the item since. It takes no
-    /// memory, and less time than [`look`](Cells::look) and [`pending`](Cells::pending).
+    /// on the slot was a [`pass`](Cells::pass) that left nothing pending, and no slot joined the item since. It takes
+    /// no memory, and less time than [`look`](Cells::look) and [`pending`](Cells::pending).
     pub fn is_settled(&self, item: u32, slot: u32) -> bool
         ensures { result ≡ true → (items : List Item) (a b : List Live) (v : Live)
             → StandsCells self.now items (a ++ v ∷ b) → v.item ≡ item → v.number ≡ slot

@@ -1,21 +1,23 @@
 -- A create_session: why it is refused, and the hub with a session more.
-use Rattle.std.proofs.Common.{◌≡◌, ℕ, ◌+◌, ◌<◌, ◌≤◌, List, [], ◌∷◌, ◌++◌, length, map, refl, sym, ◌∙◌, ap, arith, subst, cond, Bool, true, false, not}
+use Rattle.std.proofs.Common.{◌≡◌, ℕ, zero, suc, ◌+◌, ◌<◌, ◌≤◌, List, [], ◌∷◌, ◌++◌, length, map, take, refl, sym, ◌∙◌, ap, arith, subst, cond, Bool, true, false, not}
 use Rattle.std.proofs.Common.{Some, None, nat_le}
 use Rattle.std.proofs.lemmas.Bool.Decides.{nat_tests}
-use Rattle.std.proofs.lemmas.List.{length-map}
+use Rattle.std.proofs.lemmas.List.{length-map, take_at}
 use Rattle.ls_value.specs.declared.limits.TheConstants.{GREATEST_NUMBER}
 use Rattle.ls_request.specs.declared.request.Create.{Create}
+use Rattle.ls_request.specs.declared.request.LinkKind.{LinkKind}
 use Rattle.ls_world.specs.World.{World, Live, alive, all_live, opened, change}
 use Rattle.ls_world.specs.Acting.{create_code, is_set_of}
 use Rattle.ls_world.specs.Cases.{with_found}
-use Rattle.ls_world.specs.Steps.{Stepped, stays, creates, created, refuses_stream}
+use Rattle.ls_world.specs.Steps.{Stepped, stays, connects, creates, created, refuses_stream}
 use Rattle.ls_world.specs.declared.TheConstants.{MOST_SESSIONS}
 use Rattle.ls_cells.specs.Cells.{StandsCells}
 use Rattle.ls_cells.proofs.Lives.{all_live_more}
 use Rattle.ls_session.specs.Record.{begun_anew}
 use Rattle.ls_session.specs.Session.{StandsSession}
 use Rattle.ls_session.specs.declared.session.Session.{Session as Kept}
-use Rattle.ls_hub.specs.Hub.{StandsHub, Prints, seen, living_from}
+use Rattle.ls_hub.specs.Hub.{StandsHub, StandsAsBefore, Prints, seen, living_from}
+use Rattle.ls_hub.specs.declared.hub.Connection.{Connection as Linked}
 use Rattle.ls_hub.specs.declared.hub.Hub.{Hub}
 use Rattle.ls_hub.proofs.Alive.{living_count, living_next}
 use Rattle.ls_hub.proofs.Connected.{linked_to}
@@ -79,3 +81,48 @@ begun h h' w n c place k st config tick cells living last more stands given =
 -- the place of a new connection
 pub connected_many : (h : Hub) (w : World) (n : ℕ) → StandsHub h w → n ≡ length h.connections.items → n ≡ length w.connections
 connected_many h w n st is = is ∙ sym (length-map h.connections.items seen) ∙ ap length st.connections
+
+-- a hub that differs in no list
+pub record SameHub (h h' : Hub) : Type 0 where
+  pub config : h'.config ≡ h.config
+  pub tick : h'.tick ≡ h.tick
+  pub cells : h'.cells ≡ h.cells
+  pub connections : h'.connections.items ≡ h.connections.items
+  pub sessions : h'.sessions.items ≡ h.sessions.items
+  pub living : h'.living.items ≡ h.living.items
+
+pub same_hub : (h h' : Hub) → SameHub h h' → StandsAsBefore h h'
+same_hub h h' same w st =
+    record {
+      set = ap (λ x. x.set) same.config ∙ st.set;
+      tick = same.tick ∙ st.tick;
+      in_range = st.in_range;
+      definitions = ap (λ x. x.items) same.config ∙ st.definitions;
+      cells = subst (λ x. StandsCells x w.items (all_live w.sessions)) (sym same.cells) st.cells;
+      sessions = rw same.sessions st.sessions;
+      living = same.living ∙ st.living;
+      connections = ap (map seen) same.connections ∙ st.connections;
+    }
+
+-- a hub whose last connection is gone again
+seen_first : (n : ℕ) (cs : List Linked) → map seen (take n cs) ≡ take n (map seen cs)
+seen_first zero [] = refl
+seen_first (suc n) [] = refl
+seen_first zero (c ∷ cs) = refl
+seen_first (suc n) (c ∷ cs) = ap (λ t. seen c ∷ t) (seen_first n cs)
+
+pub disconnected : (h h' : Hub) (w : World) (name : List ℕ) (l : LinkKind) (n : ℕ) → StandsHub h (connects w name l) → n ≡ length w.connections
+    → h'.config ≡ h.config → h'.tick ≡ h.tick → h'.cells ≡ h.cells → h'.sessions ≡ h.sessions → h'.living ≡ h.living
+    → h'.connections.items ≡ take n h.connections.items → StandsHub h' w
+disconnected h h' w name l n st many config tick cells sessions living is =
+    record {
+      set = ap (λ x. x.set) config ∙ st.set;
+      tick = tick ∙ st.tick;
+      in_range = st.in_range;
+      definitions = ap (λ x. x.items) config ∙ st.definitions;
+      cells = subst (λ x. StandsCells x w.items (all_live w.sessions)) (sym cells) st.cells;
+      sessions = rw sessions st.sessions;
+      living = ap (λ x. x.items) living ∙ st.living;
+      connections = ap (map seen) is ∙ seen_first n h.connections.items ∙ ap (take n) st.connections
+          ∙ take_at w.connections (record { name = name; link = l; session = None; epoch = 0 } ∷ []) n (sym many);
+    }

@@ -1,9 +1,10 @@
 -- A hub's turns on a connection's session are those of the world.
 use Rattle.std.proofs.Common.{◌≡◌, ℕ, zero, suc, ◌+◌, ◌<◌, ◌≤◌, List, [], ◌∷◌, ◌++◌, length, map, get_or, set, refl, sym, ◌∙◌, ap, subst, cond}
-use Rattle.std.proofs.Common.{Bool, true, false, append_assoc, Result, Ok, Err, OnErr, arith, nat_lt, nat_le, ◌&&◌, slice_get, Option, Some, None}
+use Rattle.std.proofs.Common.{Bool, true, false, append_assoc, arith, nat_lt, nat_le, ◌&&◌, slice_get, Option, Some, None}
 use Rattle.std.specs.List.{list_any}
 use Rattle.ls_value.specs.declared.limits.TheConstants.{GREATEST_TICK}
 use Rattle.ls_value.specs.declared.limits.TheConstants.{GREATEST_NUMBER}
+pub use Rattle.ls_words.proofs.Decimals.{on_failed}
 use Rattle.ls_step.specs.declared.out.Out.TheVariants as out
 use Rattle.ls_step.specs.Notes.{text_of_out}
 use Rattle.ls_world.specs.Cases.{with_found}
@@ -394,11 +395,6 @@ take_did h h' w connection epoch place k' name t text last st linked newest same
     (took_did h' w connection place s (session_turn w.tick w.items epoch s).session (session_turn w.tick w.items epoch s).gives name (current_of k') t text
     last x.found (turn_stays w.tick w.items epoch s) x.ended.ends (named ∙ name_is h.connections.items w connection st.connections) said
     (turned_stands h h' w epoch place k' t st same x))
-
--- what is true is so where a call failed
-pub on_failed : {A E P : Type 0} (r : Result A E) → P → OnErr r P
-on_failed (Ok a) p = tt
-on_failed (Err e) p = p
 
 -- one that failed: no line was numbered or given. Nothing was done; or its line found no room; or the session or the slot
 -- wanted memory

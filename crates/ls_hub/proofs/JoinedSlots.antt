@@ -1,87 +1,84 @@
--- One item joins, and then each behind those before it.
-use Rattle.std.proofs.Common.{◌≡◌, ℕ, zero, suc, ◌+◌, ◌<◌, ◌≤◌, List, [], ◌∷◌, ◌++◌, length, map, drop, refl, sym, ◌∙◌, ap, arith, subst, true}
-use Rattle.std.proofs.Common.{Option, Some, None, IfSome, slice_index_or, append_assoc, append-nil}
-use Rattle.std.proofs.lemmas.List.{length-map, map-append}
+-- The items of a plan join, each behind those before it, and leave again where one can't.
+use Rattle.std.proofs.Common.{◌≡◌, ℕ, ◌<◌, ◌≤◌, List, [], ◌∷◌, ◌++◌, length, map, refl, sym, ◌∙◌, ap, arith, subst, true}
+use Rattle.std.proofs.Common.{Option, Some, None, append_assoc, append-nil}
+use Rattle.std.proofs.lemmas.List.{length-map}
 use Rattle.ls_event.specs.declared.limits.TheConstants.{MOST_BUFFER_SIZE, MOST_SLOTS}
 use Rattle.ls_event.specs.Joining.{plan_of, joined, rows_asked, is_mode_of}
 use Rattle.ls_world.specs.World.{Item, Live, shape_at, history_of}
-use Rattle.ls_cells.specs.Cells.{AllCells, StandsCells, free_in}
+use Rattle.ls_cells.specs.Cells.{AllCells, StandsCells, MayJoin, free_in}
 use Rattle.ls_subs.specs.declared.plan.PlanItem.{PlanItem}
-use Rattle.ls_hub.specs.Requests.{Joins, JoinInOrder, JoinedSoFar}
+use Rattle.ls_hub.specs.Requests.{Joins, JoinInOrder, JoinedAs}
 
--- a call of join, of each slot by which an item joins
-pub joins_is : (k k' : AllCells) (p : PlanItem) (o : Option ℕ)
-    → ((items : List Item) (a b : List Live) (v : Live) → StandsCells k items (a ++ b) → v.item ≡ p.item → p.item < length items
+-- what a call of join says of a slot that joins, by what it answers
+abbrev pub JoinDid : AllCells → AllCells → PlanItem → Option ℕ → Type 0
+JoinDid k k' p o =
+    (items : List Item) (a b : List Live) (v : Live) → StandsCells k items (a ++ b) → v.item ≡ p.item → p.item < length items
     → is_mode_of p.mode (shape_at items p.item).kind ≡ true → 0 < p.n → p.n ≤ MOST_BUFFER_SIZE → length (a ++ b) < MOST_SLOTS
     → v.number ≡ free_in (a ++ b) p.item
     → v.slot ≡ joined (plan_of (shape_at items p.item) (history_of items p.item) p.mode p.n) (history_of items p.item) (rows_asked p.snapshot)
-    → (o ≡ Some v.number) × StandsCells k' items (a ++ v ∷ b))
-    → IfSome o (λ number. (items : List Item) (a b : List Live) (v : Live) → StandsCells k items (a ++ b) → Joins items (a ++ b) p v
-    → (number ≡ v.number) × StandsCells k' items (a ++ v ∷ b))
-joins_is k k' p None did = tt
-joins_is k k' p (Some number) did = λ items a b v st j.
+    → (o ≡ Some v.number) × StandsCells k' items (a ++ v ∷ b)
+
+-- the slot by which an item is to join
+pub joins_is : (k k' : AllCells) (p : PlanItem) (o : Option ℕ) (number : ℕ) → o ≡ Some number → JoinDid k k' p o
+    → (items : List Item) (a b : List Live) (v : Live) → StandsCells k items (a ++ b) → Joins items (a ++ b) p v
+    → (number ≡ v.number) × StandsCells k' items (a ++ v ∷ b)
+joins_is k k' p o number is did items a b v st j =
     let d = did items a b v st j.item (omega (arith, j.may.declared, length-map items (λ (i : Item). i.definition))) j.may.allowed j.may.some j.may.most j.room
     j.number j.slot in
-    (let e : Some number ≡ Some v.number = d.0 in cc, d.1)
+    (let e : Some number ≡ Some v.number = sym is ∙ d.0 in cc, d.1)
 
--- none joined yet
-pub joined_first : (k : AllCells) (items : List Item) (a b vs : List Live) (ps : List PlanItem) → StandsCells k items (a ++ b) → JoinInOrder items a b ps vs
-    → JoinedSoFar k items a b vs [] ps
-joined_first k items a b vs ps st join =
-    record {
-      done = [];
-      rest = vs;
-      all = refl;
-      cells = subst (λ (xs : List Live). StandsCells k items (xs ++ b)) (sym (append-nil a)) st;
-      more = subst (λ (xs : List Live). JoinInOrder items xs b ps vs) (sym (append-nil a)) join;
-      numbers = refl;
-    }
+-- whatever slot joined
+pub joined_as : (k k' : AllCells) (p : PlanItem) (o : Option ℕ) (number : ℕ) → o ≡ Some number → JoinDid k k' p o
+    → ((items : List Item) (lives : List Live) → StandsCells k items lives → MayJoin items lives p.item p.mode p.n)
+    → (items : List Item) (lives : List Live) → StandsCells k items lives → JoinedAs k' items lives p.item number
+joined_as k k' p o number is did may items lives st =
+    let m : MayJoin items lives p.item p.mode p.n = may items lives st in
+    let v : Live = record {
+      sub = 0;
+      rank = 0;
+      item = p.item;
+      number = free_in lives p.item;
+      frequency = None;
+      wanted = record { places = []; snapshot = None };
+      slot = joined (plan_of (shape_at items p.item) (history_of items p.item) p.mode p.n) (history_of items p.item) (rows_asked p.snapshot);
+    } in
+    let d = did items [] lives v st refl m.item m.mode m.some m.most m.few refl refl in
+    record { live = v; item = refl; number = (let e : Some number ≡ Some v.number = sym is ∙ d.0 in cc); cells = d.1 }
 
--- one more
-pub joined_next : (k k' : AllCells) (items : List Item) (a b vs : List Live) (told : List ℕ) (p : PlanItem) (ps : List PlanItem) (number : ℕ)
-    → JoinedSoFar k items a b vs told (p ∷ ps)
+-- no item
+pub none_join : (k : AllCells) (items : List Item) (a b vs : List Live) (told : List ℕ) (ps : List PlanItem) → length ps ≡ 0
+    → StandsCells k items (a ++ b) → JoinInOrder items a b ps vs
+    → (told ≡ told ++ map (λ v. v.number) vs) × StandsCells k items ((a ++ vs) ++ b)
+none_join k items a b [] told [] none st join =
+    (sym (append-nil told), subst (λ (xs : List Live). StandsCells k items (xs ++ b)) (sym (append-nil a)) st)
+none_join k items a b (v ∷ vs) told [] none st join = absurd join
+none_join k items a b vs told (p ∷ ps) none st join = absurd (omega (arith, none))
+
+-- the first one, and then the others
+pub first_joins : (k k' k'' : AllCells) (items : List Item) (a b vs : List Live) (told last : List ℕ) (p : PlanItem) (ps all : List PlanItem) (number : ℕ)
+    → all ≡ p ∷ ps
     → ((its : List Item) (c d : List Live) (v : Live) → StandsCells k its (c ++ d) → Joins its (c ++ d) p v
-    → (number ≡ v.number) × StandsCells k' its (c ++ v ∷ d)) → JoinedSoFar k' items a b vs (told ++ number ∷ []) ps
-joined_next k k' items a b vs told p ps number so did = by_rest so.rest so.all so.more
+    → (number ≡ v.number) × StandsCells k' its (c ++ v ∷ d))
+    → ((its : List Item) (c d us : List Live) → StandsCells k' its (c ++ d) → JoinInOrder its c d ps us
+    → (last ≡ (told ++ number ∷ []) ++ map (λ v. v.number) us) × StandsCells k'' its ((c ++ us) ++ d))
+    → StandsCells k items (a ++ b) → JoinInOrder items a b all vs
+    → (last ≡ told ++ map (λ v. v.number) vs) × StandsCells k'' items ((a ++ vs) ++ b)
+first_joins k k' k'' items a b vs told last p ps all number is one rest st join =
+    by_slots vs (subst (λ (xs : List PlanItem). JoinInOrder items a b xs vs) is join)
   where
-    by_rest : (rest : List Live) → vs ≡ so.done ++ rest → JoinInOrder items (a ++ so.done) b (p ∷ ps) rest
-        → JoinedSoFar k' items a b vs (told ++ number ∷ []) ps
-    by_rest [] all more = absurd more
-    by_rest (v ∷ rest) all more =
-        let d = did items (a ++ so.done) b v so.cells more.0 in
-        record {
-          done = so.done ++ v ∷ [];
-          rest = rest;
-          all = all ∙ sym (append_assoc so.done (v ∷ []) rest);
-          cells = subst (λ (xs : List Live). StandsCells k' items xs)
-              (sym (append_assoc (a ++ so.done) (v ∷ []) b) ∙ ap (λ xs. xs ++ b) (append_assoc a so.done (v ∷ []))) d.1;
-          more = subst (λ (xs : List Live). JoinInOrder items xs b ps rest) (append_assoc a so.done (v ∷ [])) more.1;
-          numbers = ap (λ xs. xs ++ number ∷ []) so.numbers ∙ ap (λ n. map (λ (u : Live). u.number) so.done ++ n ∷ []) d.0
-              ∙ sym (map-append (λ (u : Live). u.number) so.done (v ∷ []));
-        }
-
--- all joined
-pub joined_all_of : (k : AllCells) (items : List Item) (a b vs : List Live) (told : List ℕ) → JoinedSoFar k items a b vs told []
-    → (told ≡ map (λ v. v.number) vs) × StandsCells k items ((a ++ vs) ++ b)
-joined_all_of k items a b vs told so = by_rest so.rest so.all so.more
-  where
-    by_rest : (rest : List Live) → vs ≡ so.done ++ rest → JoinInOrder items (a ++ so.done) b [] rest
-        → (told ≡ map (λ v. v.number) vs) × StandsCells k items ((a ++ vs) ++ b)
-    by_rest (v ∷ rest) all more = absurd more
-    by_rest [] all more =
-        let same : so.done ≡ vs = sym (append-nil so.done) ∙ sym all in (
-          so.numbers ∙ ap (map (λ (u : Live). u.number)) same,
-          subst (λ (xs : List Live). StandsCells k items ((a ++ xs) ++ b)) same so.cells,
+    by_slots : (vs : List Live) → JoinInOrder items a b (p ∷ ps) vs
+        → (last ≡ told ++ map (λ v. v.number) vs) × StandsCells k'' items ((a ++ vs) ++ b)
+    by_slots [] join = absurd join
+    by_slots (v ∷ us) join =
+        let d = one items a b v st join.0 in
+        let r = rest items (a ++ v ∷ []) b us (subst (λ (xs : List Live). StandsCells k' items xs) (sym (append_assoc a (v ∷ []) b)) d.1) join.1 in (
+          r.0 ∙ append_assoc told (number ∷ []) (map (λ (u : Live). u.number) us) ∙ ap (λ n. told ++ n ∷ map (λ (u : Live). u.number) us) d.0,
+          subst (λ (xs : List Live). StandsCells k'' items (xs ++ b)) (append_assoc a (v ∷ []) us) r.1,
         )
 
--- the item at a place, and those behind it
-pub items_at : (ps : List PlanItem) (n : ℕ) (p : PlanItem) → n < length ps → p ≡ slice_index_or ps n p → drop n ps ≡ p ∷ drop (n + 1) ps
-items_at [] n p low at = absurd (omega (arith, low))
-items_at (q ∷ ps) zero p low at = ap (λ x. x ∷ ps) (sym at)
-items_at (q ∷ ps) (suc n) p low at = items_at ps n p (omega (arith, low)) at ∙ ap (λ k. p ∷ drop k (q ∷ ps)) {x = suc (n + 1)} {y = suc n + 1} (omega arith)
-
-pub none_behind : (ps : List PlanItem) (n : ℕ) → length ps ≤ n → drop n ps ≡ []
-none_behind [] zero high = refl
-none_behind [] (suc n) high = refl
-none_behind (p ∷ ps) zero high = absurd (omega (arith, high))
-none_behind (p ∷ ps) (suc n) high = none_behind ps n (omega (arith, high))
+-- one that joined leaves again
+pub left_again : (k k' k'' : AllCells) (items : List Item) (lives : List Live) (at n : ℕ) → JoinedAs k items lives at n
+    → ((its : List Item) (vs : List Live) → StandsCells k its vs → StandsCells k' its vs)
+    → ((its : List Item) (a b : List Live) (v : Live) → StandsCells k' its (a ++ v ∷ b) → v.item ≡ at → v.number ≡ n → StandsCells k'' its (a ++ b))
+    → StandsCells k'' items lives
+left_again k k' k'' items lives at n j kept leave = leave items [] lives j.live (kept items (j.live ∷ lives) j.cells) j.item j.number

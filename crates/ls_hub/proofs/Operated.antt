@@ -7,7 +7,7 @@ use Rattle.ls_request.specs.declared.request.Add.{Add}
 use Rattle.ls_world.specs.Cases.{first_code}
 use Rattle.ls_world.specs.Acting.{add_refusals, add_code, subscribed, asks_of, free_slots, change_code, constrain_code}
 use Rattle.ls_world.specs.Lawful.{Each}
-use Rattle.ls_world.specs.World.{World, Live, Session, all_live, is_alive, change, definitions, numbered, removed, without, ended}
+use Rattle.ls_world.specs.World.{World, Item, Live, Session, all_live, is_alive, change, definitions, numbered, removed, without, ended}
 use Rattle.ls_world.specs.World.{joined_all, free_number, reconfigured, constrained, forced, frequency_in, mode_in}
 use Rattle.ls_cells.specs.Cells.{StandsCells}
 use Rattle.ls_cells.proofs.Frequencies.{cells_frequency}
@@ -27,7 +27,7 @@ use Rattle.ls_hub.specs.declared.hub.Hub.{Hub}
 use Rattle.ls_hub.proofs.Alive.{living_changed, living_ends}
 use Rattle.ls_hub.proofs.Asking.{CanJoin, can_join}
 use Rattle.ls_hub.proofs.Joining.{add_in_order, join_all, all_leave, sub_leaves}
-use Rattle.ls_hub.proofs.Sessions.{session_read, kept_changed, anew_is}
+use Rattle.ls_hub.proofs.Sessions.{KeptAt, kept_read, session_read, kept_changed, anew_is}
 
 -- a hub of which the session of a place is another one
 pub record Replaces (h h' : Hub) (n : ℕ) (k k' : Kept) : Type 0 where
@@ -64,6 +64,26 @@ changed_stands h h' w s n k k' f tick st l r early stands living cells =
       connections = ap (λ x. map seen x.items) r.connections ∙ st.connections;
     }
 
+-- the hub whose session of a place is another one that stands for the same, and whose cells stand for the same
+pub unchanged : (h h' : Hub) (w : World) (n : ℕ) (k k' : Kept) → StandsHub h w → Replaces h h' n k k' → h'.living ≡ h.living
+    → ((items : List Item) (lives : List Live) → StandsCells h.cells items lives → StandsCells h'.cells items lives)
+    → ((q : Record) → StandsSession k q → StandsSession k' q) → StandsHub h' w
+unchanged h h' w n k k' st r living cells same =
+    let i : KeptAt w.tick k w.sessions n = kept_read w.tick h.sessions.items w.sessions n k st.sessions r.low r.at in
+    let is : IsSession w.tick k i.session = i.stands in
+    record {
+      set = ap (λ x. x.set) r.config ∙ st.set;
+      tick = r.tick ∙ st.tick;
+      in_range = st.in_range;
+      definitions = ap (λ x. x.items) r.config ∙ st.definitions;
+      cells = cells w.items (all_live w.sessions) st.cells;
+      sessions = rw (r.sessions, sym (change_self n w.sessions))
+          (kept_changed w.tick h.sessions.items w.sessions n k' i.session (λ x. x) st.sessions i.found
+          (record { asking = is.asking; session = is.session; early = is.early; first = is.first; stands = same is.asking is.stands }));
+      living = ap (λ x. x.items) living ∙ st.living;
+      connections = ap (λ x. map seen x.items) r.connections ∙ st.connections;
+    }
+
 -- the hub after a refusal
 pub refused : (h h' : Hub) (w : World) (s : Session) (n : ℕ) (k k' : Kept) (expected : Session → Option ℕ) (code : ℕ) (f : Session → Session)
     → StandsHub h w → IsLiving w n s → Replaces h h' n k k' → h'.living ≡ h.living → h'.cells ≡ h.cells
@@ -76,18 +96,7 @@ refused h h' w s n k k' expected code f st l r living cells is same =
     record {
       answered = sym told;
       stands = subst (λ (o : Option ℕ). StandsHub h' (unless_refused o n f w)) (sym told)
-          (record {
-            set = ap (λ x. x.set) r.config ∙ st.set;
-            tick = r.tick ∙ st.tick;
-            in_range = st.in_range;
-            definitions = ap (λ x. x.items) r.config ∙ st.definitions;
-            cells = subst (λ x. StandsCells x w.items (all_live w.sessions)) (sym cells) st.cells;
-            sessions = rw (r.sessions, sym (change_self n w.sessions))
-                (kept_changed w.tick h.sessions.items w.sessions n k' s (λ x. x) st.sessions l.found
-                (record { asking = i.asking; session = i.session; early = i.early; first = i.first; stands = same i.asking i.stands }));
-            living = ap (λ x. x.items) living ∙ st.living;
-            connections = ap (λ x. map seen x.items) r.connections ∙ st.connections;
-          });
+          (unchanged h h' w n k k' st r living (λ items lives stands. rw cells stands) same);
     }
 
 -- what becomes of a session by a change that isn't refused: a tick that isn't to come, and what is kept then

@@ -14,7 +14,8 @@ use Rattle.ls_cell.specs.declared.cell.Enqueued.{Enqueued}
 use Rattle.ls_cell.specs.declared.cell.Enqueued.TheVariants as enqueued
 use Rattle.ls_step.specs.declared.out.Out.{Out}
 use Rattle.ls_step.specs.declared.out.Out.TheVariants as out
-use Rattle.ls_step.specs.Notes.{text_of_out}
+use Rattle.ls_step.specs.declared.limits.TheConstants.{LONGEST_NOTE}
+use Rattle.ls_step.specs.Notes.{text_of_out, room_for}
 use Rattle.ls_world.specs.Cases.{with_found}
 use Rattle.ls_world.specs.Lawful.{Apart}
 use Rattle.ls_world.specs.Script.{text_of_outs}
@@ -51,7 +52,7 @@ grown_definitions [] n e = refl
 grown_definitions (i ∷ items) zero e = refl
 grown_definitions (i ∷ items) (suc n) e = ap (λ ds. i.definition ∷ ds) (grown_definitions items n e)
 
-with_cells : (h h' : Hub) (w : World) → ChangedCells h h' → StandsHub h w → StandsCells h'.cells w.items (all_live w.sessions) → StandsHub h' w
+pub with_cells : (h h' : Hub) (w : World) → ChangedCells h h' → StandsHub h w → StandsCells h'.cells w.items (all_live w.sessions) → StandsHub h' w
 with_cells h h' w same st cells =
     record {
       set = ap (λ c. c.set) same.config ∙ st.set;
@@ -113,6 +114,13 @@ pub record PublishDid (c c' : AllCells) (n : ℕ) (e : Entry) (answer : Result �
       → AnswersFirst (refusal (shape_of i.definition) i.history (far_in n (length i.history) lives) e) (length i.history + 1) answer
   pub stands : OnOk answer ((items : List Item) (lives : List Live) → StandsCells c items lives → StandsCells c' (change n (grown e) items) lives)
   pub same : OnErr answer ((items : List Item) (lives : List Live) → StandsCells c items lives → StandsCells c' items lives)
+
+-- one that failed left all as it was, where its answer has room
+pub publish_failed : (h h' : Hub) (w : World) (answer : Result ℕ PublishRefused) → ChangedCells h h' → StandsHub h w
+    → OnErr answer ((items : List Item) (lives : List Live) → StandsCells h.cells items lives → StandsCells h'.cells items lives)
+    → ((answer ≡ Err refused.NoMemory → ⊥) → ⊥) → StandsHub h' w
+publish_failed h h' w (Ok n) same st kept room = absurd (room (λ e. let x : Ok n ≡ Err refused.NoMemory = e in cc))
+publish_failed h h' w (Err cause) same st kept room = with_cells h h' w same st (kept w.items (all_live w.sessions) st.cells)
 
 by_answer : (h h' : Hub) (w : World) (n : ℕ) (i : Item) (e : Entry) (answer : Result ℕ PublishRefused) (cause : Option PublishRefused) (before after : List ℕ)
     → ChangedCells h h' → StandsHub h w → PublishDid h.cells h'.cells n e answer → AnswersFirst cause (length i.history + 1) answer
@@ -232,6 +240,12 @@ abbrev pub EnqueueDid : AllCells → AllCells → ℕ → ℕ → Option Enqueue
 EnqueueDid c c' item slot answer = (items : List Item) (a b : List Live) (v : Live) → StandsCells c items (a ++ v ∷ b) → v.item ≡ item → v.number ≡ slot
     → (answer ≡ Some (enqueue_answer (length (history_of items v.item)) v.slot.last))
     × StandsCells c' items (a ++ enqueue_slot (history_of items v.item) v ∷ b)
+
+-- its note has room
+pub room_enqueued : (answer : Option Enqueued) → room_for (out_enqueued answer) ≡ LONGEST_NOTE
+room_enqueued None = refl
+room_enqueued (Some (enqueued.Moved n)) = refl
+room_enqueued (Some enqueued.UpToDate) = refl
 
 -- what is kept of a session stands for it, whatever its slots took
 keeps_enqueued : (now : ℕ) (items : List Item) (sub rank : ℕ) (s : Session) (k : Kept) → IsSession now k s

@@ -1,10 +1,12 @@
 -- Requests by the cases of their definitions: which session one names, and what it does.
-use Rattle.std.proofs.Common.{◌≡◌, ◌⊎◌, ℕ, ◌<◌, ◌≤◌, List, ◌++◌, length, refl, sym, ◌∙◌, ap, subst, cond, inl, inr}
+use Rattle.std.proofs.Common.{◌≡◌, ◌⊎◌, ℕ, zero, ◌<◌, ◌≤◌, List, ◌++◌, length, take, refl, sym, ◌∙◌, ap, subst, cond, inl, inr}
 use Rattle.std.proofs.Common.{Bool, true, false, Option, Some, None, slice_get, slice_index_or}
+use Rattle.std.proofs.lemmas.List.{take_at}
 use Rattle.ls_form.specs.declared.form.Pair.{Pair}
 use Rattle.ls_line.specs.Lines.{text_of_line}
 use Rattle.ls_request.specs.declared.request.LinkKind.{LinkKind}
 use Rattle.ls_request.specs.declared.request.Op.{Op}
+use Rattle.ls_request.specs.declared.request.Op.TheVariants as op
 use Rattle.ls_request.specs.declared.request.Request.{Request}
 use Rattle.ls_request.specs.declared.request.Request.TheVariants as request
 use Rattle.ls_request.specs.declared.request.RequestRefused.{RequestRefused}
@@ -21,7 +23,7 @@ use Rattle.ls_world.specs.Cases.{with_found}
 use Rattle.ls_world.specs.Steps.{Stepped, with_living, session_named, refuses, operates, operated, acts, malformed, request_over, requests}
 use Rattle.ls_world.proofs.Rules.{found_none}
 use Rattle.ls_hub.specs.Hub.{StandsHub, Prints, name_at}
-use Rattle.ls_hub.specs.Requests.{living_place, IsLiving, DidOperate, unless_refused, answer_line}
+use Rattle.ls_hub.specs.Requests.{living_place, IsLiving, DidOperate, unless_refused, answer_line, operation, operation_code}
 use Rattle.ls_hub.specs.declared.hub.Hub.{Hub}
 use Rattle.ls_hub.proofs.Connected.{line_printed}
 
@@ -80,6 +82,9 @@ living_some w (Some m) n none f is = by_found (slice_get w.sessions m) refl is
     by_found None at e = absurd (let x : None ≡ Some n = e in cc)
     by_found (Some s) at e = by_alive (is_alive s.life) s at refl e
 
+pub is_living : (w : World) (place : Option ℕ) (n : ℕ) → living_place w.sessions place ≡ Some n → (s : Session) × IsLiving w n s
+is_living w place n is = let l = living_some w place n zero (λ m s. m) is in (l.session, l.living)
+
 -- a control request that names no session
 pub unknown_printed : (h : Hub) (w : World) (n : ℕ) (req : List ℕ) (session : Option ℕ) (o : Op) (before after : List ℕ) → StandsHub h w
     → living_place w.sessions (session_named w n session) ≡ None
@@ -99,21 +104,43 @@ named_printed h' w n req session o place before after some did =
     let l = living_some w (session_named w n session) place (refuses w n req 20) (operates w n req o) some in
     subst (λ (s : Stepped). Prints s before after h') (sym l.is) (did l.session l.living)
 
--- an operation and its answer
-pub operated_printed : (h h' : Hub) (w : World) (n : ℕ) (req : List ℕ) (place : ℕ) (code : Option ℕ) (f : Session → Session) (answer : Option ℕ)
-    (before after : List ℕ) → StandsHub h w → h'.connections ≡ h.connections → DidOperate w place code f answer h'
-    → after ≡ before ++ text_of_out (out.Line (name_at h'.connections.items n) (text_of_line (answer_line req answer)))
-    → Prints (operated w n req place code f) before after h'
-operated_printed h h' w n req place code f answer before after st same did is = by_code code did.answered did.stands
-  where
-    text : after ≡ before ++ text_of_out (out.Line (name_at h.connections.items n) (text_of_line (answer_line req answer)))
-    text = is ∙ ap (λ cs. before ++ text_of_out (out.Line (name_at cs.items n) (text_of_line (answer_line req answer)))) same
+-- what an operation does, by its code and its change
+operates_is : (w : World) (n : ℕ) (req : List ℕ) (o : Op) (place : ℕ) (s : Session)
+    → operates w n req o place s ≡ operated w n req place (operation_code w s o) (operation w o)
+operates_is w n req (op.Add a) place s = refl
+operates_is w n req (op.Delete sub) place s = refl
+operates_is w n req (op.Reconf sub frequency) place s = refl
+operates_is w n req (op.Constrain limit) place s = refl
+operates_is w n req op.Destroy place s = refl
+operates_is w n req op.ForceRebind place s = refl
 
-    by_code : (o : Option ℕ) → answer ≡ o → StandsHub h' (unless_refused o place f w) → Prints (operated w n req place o f) before after h'
+-- an operation and its answer
+pub operation_printed : (h h' : Hub) (w : World) (n : ℕ) (req : List ℕ) (o : Op) (place : ℕ) (s : Session) (answer : Option ℕ)
+    (before after : List ℕ) → StandsHub h w → DidOperate w place (operation_code w s o) (operation w o) answer h'
+    → after ≡ before ++ text_of_out (out.Line (name_at h.connections.items n) (text_of_line (answer_line req answer)))
+    → Prints (operates w n req o place s) before after h'
+operation_printed h h' w n req o place s answer before after st did is =
+    subst (λ (x : Stepped). Prints x before after h') (sym (operates_is w n req o place s)) (by_code (operation_code w s o) did.answered did.stands)
+  where
+    f : Session → Session
+    f = operation w o
+
+    by_code : (code : Option ℕ) → answer ≡ code → StandsHub h' (unless_refused code place f w) → Prints (operated w n req place code f) before after h'
     by_code None e st' = line_printed h h' w (record w { sessions = change place f w.sessions }) n (text_of_line (answer_line req None)) before after st st'
-        (text ∙ ap (λ a. before ++ text_of_out (out.Line (name_at h.connections.items n) (text_of_line (answer_line req a)))) e)
+        (is ∙ ap (λ a. before ++ text_of_out (out.Line (name_at h.connections.items n) (text_of_line (answer_line req a)))) e)
     by_code (Some k) e st' = line_printed h h' w w n (text_of_line (answer_line req (Some k))) before after st st'
-        (text ∙ ap (λ a. before ++ text_of_out (out.Line (name_at h.connections.items n) (text_of_line (answer_line req a)))) e)
+        (is ∙ ap (λ a. before ++ text_of_out (out.Line (name_at h.connections.items n) (text_of_line (answer_line req a)))) e)
+
+-- one that was refused leaves the hub as it was
+pub refused_stands : (h : Hub) (w : World) (place : ℕ) (o : Option ℕ) (f : Session → Session) (code : ℕ) → DidOperate w place o f (Some code) h
+    → StandsHub h w
+refused_stands h w place o f code d = subst (λ (x : Option ℕ). StandsHub h (unless_refused x place f w)) (sym d.answered) d.stands
+
+-- a line gave way to another one
+pub gave_way : (before line between left other after : List ℕ) (n : ℕ) → n ≡ length before → between ≡ before ++ line → left ≡ take n between
+    → after ≡ left ++ other → after ≡ before ++ other
+gave_way before line between left other after n many more cut is =
+    is ∙ ap (λ xs. xs ++ other) (cut ∙ ap (take n) more ∙ take_at before line n (sym many))
 
 -- a request that is refused in reading
 pub unread_printed : (h : Hub) (w : World) (n : ℕ) (l : LinkKind) (name : List ℕ) (ps : List Pair) (e : RequestRefused) (req : Option (List ℕ))

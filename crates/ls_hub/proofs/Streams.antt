@@ -4,7 +4,8 @@ use Rattle.std.proofs.Common.{append-nil, append_assoc, nat_lt, slice_get, Optio
 use Rattle.ls_value.specs.declared.limits.TheConstants.{GREATEST_TICK}
 use Rattle.ls_request.specs.declared.request.Bind.{Bind}
 use Rattle.ls_step.specs.declared.out.Out.TheVariants as out
-use Rattle.ls_step.specs.Notes.{text_of_out}
+use Rattle.ls_step.specs.declared.limits.TheConstants.{LONGEST_NOTE}
+use Rattle.ls_step.specs.Notes.{text_of_out, room_for}
 use Rattle.ls_world.specs.Cases.{with_found}
 use Rattle.ls_world.specs.Acting.{bind_code}
 use Rattle.ls_world.specs.World.{World, Session, change, is_bound, rebound, unbound_at}
@@ -43,10 +44,6 @@ known_bound h w n b place before after some did =
     subst (λ (s : Stepped). Prints s before after h) (sym l.is) (did l.session l.living)
 
 -- one that is refused for the cause of a code
-pub refused_stands : (h : Hub) (w : World) (place : ℕ) (o : Option ℕ) (f : Session → Session) (code : ℕ) → DidOperate w place o f (Some code) h
-    → StandsHub h w
-refused_stands h w place o f code d = subst (λ (x : Option ℕ). StandsHub h (unless_refused x place f w)) (sym d.answered) d.stands
-
 pub bind_refused : (h : Hub) (w : World) (n : ℕ) (b : Bind) (place : ℕ) (s : Session) (f : Session → Session) (code : ℕ) (before after : List ℕ)
     → DidOperate w place (bind_code s b) f (Some code) h → Prints (refuses_stream w n code) before after h
     → Prints (binds_living w n b place s) before after h
@@ -129,6 +126,12 @@ lost_is w epoch place s = by_tests (nat_lt epoch (length s.streams)) (is_bound s
     by_tests true b = refl
     by_tests false true = refl
     by_tests false false = refl
+
+-- its note has room
+pub room_lost : (l : Lost) → room_for (out_of_loss l) ≡ LONGEST_NOTE
+room_lost lost.Unbound = refl
+room_lost (lost.Superseded epoch) = refl
+room_lost lost.NotBound = refl
 
 -- a session that stays, or has no stream from now on
 lost_stands : (h h' : Hub) (w : World) (place : ℕ) (k k' : Kept) (s : Session) (l : Lost) → StandsHub h w → slice_get w.sessions place ≡ Some s

@@ -64,6 +64,10 @@ pub record StandsHub (h : Hub) (w : World) : Type 0 where
   pub living : h.living.items ≡ living_from 0 w.sessions
   pub connections : map seen h.connections.items ≡ w.connections
 
+-- a hub stands for each world that it stood for
+abbrev pub StandsAsBefore : Hub → Hub → Type 0
+StandsAsBefore before after = (w : World) → StandsHub before w → StandsHub after w
+
 -- a hub did a step, whose text was appended, and stands for the world after it
 pub record Prints (s : Stepped) (before after : List ℕ) (h : Hub) : Type 0 where
   pub text : after ≡ before ++ text_of_outs s.outs

@@ -1,4 +1,5 @@
--- What a turn leaves that gave no line: slots may have moved past cuts that make none.
+-- What a turn leaves that gave no line: slots may have moved past cuts that make none; and what a step leaves that
+-- failed for want of memory.
 use Rattle.std.specs.Prelude.{◌≡◌, ◌<◌, ℕ, zero, suc, List, [], ◌∷◌, length, Bool, true, not, ◌&&◌, nat_lt, None, Some}
 use Rattle.ls_event.specs.declared.event.Taken.{Taken}
 use Rattle.ls_event.specs.Cuts.{cut}
@@ -6,7 +7,9 @@ use Rattle.ls_world.specs.Lines.{Line}
 use Rattle.ls_world.specs.World.{World, Item, Live, Session, history_of, on_board, is_alive, is_unsent}
 use Rattle.ls_world.specs.World.{is_bound, is_to_loop}
 use Rattle.ls_subs.specs.Standing.{what_of, passed_live}
-use Rattle.ls_world.specs.Steps.{Once}
+use Rattle.ls_step.specs.declared.step.Step.{Step}
+use Rattle.ls_step.specs.declared.step.Step.TheVariants as step
+use Rattle.ls_world.specs.Steps.{Once, take_once, enqueue_once}
 use Rattle.ls_hub.specs.Repeats.{nth_world, all_go_on}
 use Rattle.ls_hub.specs.Hub.{StandsHub}
 use Rattle.ls_hub.specs.declared.hub.Hub.{Hub}
@@ -51,6 +54,19 @@ pub record FailedBehind (f : World → Once) (w : World) (times : ℕ) (h : Hub)
   pub fewer : done < times
   pub goes : all_go_on f done w ≡ true
   pub quiet : StandsQuiet (nth_world f done w) h
+
+-- some of so many like steps were done, each of which asks for a next one, and of the one behind them nothing
+pub record DidFewer (f : World → Once) (w : World) (times : ℕ) (h : Hub) : Type 0 where
+  pub done : ℕ
+  pub fewer : done < times
+  pub goes : all_go_on f done w ≡ true
+  pub stands : StandsHub h (nth_world f done w)
+
+-- a step failed for want of memory: some of its turns were taken, or of its enqueues made; of another nothing was done
+abbrev pub FailedIn : World → Step → ℕ → Hub → Type 0
+FailedIn w (step.Take connection) times h = FailedBehind (take_once connection) w times h
+FailedIn w (step.Enqueue connection sub rank) times h = DidFewer (enqueue_once connection sub rank) w times h
+FailedIn w s times h = StandsHub h w
 
 -- whether a session is alive and gives lines on the stream of an epoch: it has no newer one, and this one is bound and
 -- isn't over

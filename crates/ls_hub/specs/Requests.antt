@@ -1,6 +1,6 @@
 -- What requests do to the sessions of a hub: which session one names, what it does to that, and which slots join and
 -- leave.
-use Rattle.std.specs.Prelude.{◌≡◌, ℕ, zero, suc, ◌<◌, List, [], ◌∷◌, ◌++◌, length, map, drop, true, Option, None, Some}
+use Rattle.std.specs.Prelude.{◌≡◌, ℕ, zero, suc, ◌<◌, List, [], ◌∷◌, ◌++◌, length, drop, true, Option, None, Some}
 use Rattle.std.specs.Prelude.{slice_get, if◌then◌else◌}
 use Rattle.ls_event.specs.Joining.{plan_of, joined, rows_asked}
 use Rattle.ls_event.specs.declared.limits.TheConstants.{MOST_SLOTS}
@@ -10,9 +10,12 @@ use Rattle.ls_world.specs.Cases.{with_found}
 use Rattle.ls_request.specs.declared.request.Bind.{Bind}
 use Rattle.ls_step.specs.declared.out.Out.{Out}
 use Rattle.ls_step.specs.declared.out.Out.TheVariants as out
-use Rattle.ls_world.specs.Acting.{message_of, bind_code}
+use Rattle.ls_request.specs.declared.request.Op.{Op}
+use Rattle.ls_request.specs.declared.request.Op.TheVariants as op
+use Rattle.ls_world.specs.Acting.{message_of, bind_code, add_code, change_code, constrain_code, subscribed, destroyed}
 use Rattle.ls_world.specs.Steps.{Stepped, stays, bound, refuses_stream, with_living, is_opening}
 use Rattle.ls_world.specs.World.{World, Item, Live, Session, definitions, shape_at, history_of, is_alive, change}
+use Rattle.ls_world.specs.World.{numbered, removed, reconfigured, constrained, ended, forced}
 use Rattle.ls_cells.specs.Cells.{StandsCells, AllCells, free_in}
 use Rattle.ls_session.specs.declared.session.Lost.{Lost}
 use Rattle.ls_session.specs.declared.session.Lost.TheVariants as lost
@@ -45,6 +48,23 @@ pub record DidOperate (w : World) (place : ℕ) (code : Option ℕ) (f : Session
     : Type 0 where
   pub answered : answer ≡ code
   pub stands : StandsHub h (unless_refused code place f w)
+
+-- what an operation is refused for, and what it makes of the session
+abbrev pub operation_code : World → Session → Op → Option ℕ
+operation_code w s (op.Add a) = add_code w s a
+operation_code w s (op.Delete sub) = change_code s sub
+operation_code w s (op.Reconf sub frequency) = change_code s sub
+operation_code w s (op.Constrain limit) = constrain_code s
+operation_code w s op.Destroy = None
+operation_code w s op.ForceRebind = None
+
+abbrev pub operation : World → Op → Session → Session
+operation w (op.Add a) = subscribed w a
+operation w (op.Delete sub) = numbered (removed sub)
+operation w (op.Reconf sub frequency) = numbered (reconfigured sub frequency)
+operation w (op.Constrain limit) = constrained limit
+operation w op.Destroy = ended destroyed
+operation w op.ForceRebind = forced
 
 -- a bind_session of the session of a place, which hasn't ended
 abbrev pub binds_living : World → ℕ → Bind → ℕ → Session → Stepped
@@ -84,15 +104,12 @@ JoinInOrder items a b [] (v ∷ vs) = ⊥
 JoinInOrder items a b (p ∷ ps) [] = ⊥
 JoinInOrder items a b (p ∷ ps) (v ∷ vs) = Joins items (a ++ b) p v × JoinInOrder items (a ++ v ∷ []) b ps vs
 
--- of these slots the first ones joined, by these numbers, and the others are to join by the rest of the items
-pub record JoinedSoFar (k : AllCells) (items : List Item) (a b vs : List Live) (told : List ℕ)
-    (left : List PlanItem) : Type 0 where
-  pub done : List Live
-  pub rest : List Live
-  pub all : vs ≡ done ++ rest
-  pub cells : StandsCells k items ((a ++ done) ++ b)
-  pub more : JoinInOrder items (a ++ done) b left rest
-  pub numbers : told ≡ map (λ v. v.number) done
+-- a slot joined an item by a number
+pub record JoinedAs (k : AllCells) (items : List Item) (lives : List Live) (at n : ℕ) : Type 0 where
+  pub live : Live
+  pub item : live.item ≡ at
+  pub number : live.number ≡ n
+  pub cells : StandsCells k items (live ∷ lives)
 
 -- slots leave one after another, each from among those that are left
 abbrev pub Leave : List Live → List Live → List Live → Type 0

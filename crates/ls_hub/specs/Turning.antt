@@ -14,7 +14,9 @@ use Rattle.ls_world.specs.World.{is_due, waits_of, least_of, numbered, is_to_loo
 use Rattle.ls_world.specs.Steps.{SessionTurn, TurnGives, Gave, Idle, NotDue, Spent, Superseded, Unbound, Over}
 use Rattle.ls_world.specs.Steps.{waits_until, next_given, turn_owing, turn_bound, loop_text, gives_unbound}
 use Rattle.ls_session.specs.Record.{Record, Question, Asks, from_place, wait_from, begun_anew, turned}
+use Rattle.ls_session.specs.declared.session.Ask.{Ask}
 use Rattle.ls_session.specs.declared.session.Session.{Session as Kept}
+use Rattle.ls_subs.specs.Standing.{ref_of}
 use Rattle.ls_cells.specs.Cells.{AllCells, StandsCells}
 use Rattle.ls_session.specs.Session.{StandsSession, AnswersTurn, current_of}
 use Rattle.ls_session.specs.declared.session.Turn.{Turn}
@@ -104,6 +106,19 @@ pub record GoesOn (now : ℕ) (items : List Item) (epoch : ℕ) (before behind :
   pub cells : StandsCells c items (before ++ asking.session.board.round ++ behind)
   pub turn : turn_from now items epoch asking ≡ turn_from now items epoch r
   pub quiet : has_line epoch asking.session ≡ false → IsQuiet items r.session asking.session
+
+-- an answer to what a session asks was taken, and its turn goes on
+abbrev pub TakesAnswer : Ask → Kept → AllCells → Kept → AllCells → Type 0
+TakesAnswer ask k c k' c' =
+    (now : ℕ) (items : List Item) (epoch : ℕ) (before behind : List Live) (r : Record) (q : Question)
+    → HasAsked now items epoch before behind r q k c → ask ≡ record { slot = ref_of q.live; due = q.due }
+    → GoesOn now items epoch before behind r k' c'
+
+-- whatever it asked it still asks
+abbrev pub KeepsQuestion : Kept → AllCells → Kept → AllCells → Type 0
+KeepsQuestion k c k' c' =
+    (now : ℕ) (items : List Item) (epoch : ℕ) (before behind : List Live) (r : Record) (q : Question)
+    → HasAsked now items epoch before behind r q k c → HasAsked now items epoch before behind r q k' c'
 
 -- it goes on so, and no question stands
 pub record Unasked (now : ℕ) (items : List Item) (epoch : ℕ) (before behind : List Live) (r : Record) (k : Kept)

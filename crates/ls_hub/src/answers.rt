@@ -14,9 +14,10 @@ const MALFORMED: u16 = 65;
 
 /// The answer to a control request of this name: REQOK where it was done, or REQERR where it was refused for the cause
 /// of a code.
-pub(crate) fn answer(alloc: Global, request: Text, code: Option<u16>) -> Result<Line, NoMemory>
-    ensures { IfOk result (λ l. l ≡ answer_line request code) }
+pub(crate) fn answer(alloc: Global, request: &Text, code: Option<u16>) -> Result<Line, NoMemory>
+    ensures { IfOk result (λ l. l ≡ answer_line request.now code) }
 {
+    let request = request.copy(alloc)?;
     match code {
         None => Ok(Line::ReqOk { request }),
         Some(code) => request_refused(alloc, request, code),

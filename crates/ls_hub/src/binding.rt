@@ -1,8 +1,8 @@
-//! Streams that begin anew, and streams that are lost (TLCP 2.1, bind_session and force_rebind).
-ghost use Rattle.std.specs.Prelude.{◌≡◌, ◌<◌, ◌++◌, length, None, IfOk, OnOk};
+//! Streams that begin anew or are lost (TLCP 2.1, bind_session, force_rebind). After `NoMemory` the hub is as before.
+ghost use Rattle.std.specs.Prelude.{◌≡◌, ◌<◌, ◌++◌, length, None, IfOk, OnOk, OnErr};
 ghost use Rattle.ls_world.specs.World.{World, Session as ASession, forced};
 ghost use Rattle.ls_world.specs.Steps.{binds, loses};
-ghost use Rattle.ls_hub.specs.Hub.{StandsHub, Prints};
+ghost use Rattle.ls_hub.specs.Hub.{StandsHub, StandsAsBefore, Prints};
 ghost use Rattle.ls_hub.specs.Requests.{IsLiving, DidOperate, binds_living, out_of_loss};
 
 use crate::controlling::UNKNOWN_SESSION;
@@ -10,7 +10,7 @@ use crate::creating::give_session;
 use crate::hub::Hub;
 use ls_request::Bind;
 use ls_session::Lost;
-use ls_step::{Out, append};
+use ls_step::{LONGEST_NOTE, Out, append};
 use ls_subs::Refusal;
 use ls_value::NoMemory;
 
@@ -23,8 +23,9 @@ impl Hub {
         bind: &Bind,
         text: &mut Vec<u8>,
     ) -> Result<(), NoMemory>
-        ensures { OnOk result ((w : World) → StandsHub self.old w
+        ensures ok { OnOk result ((w : World) → StandsHub self.old w
             → Prints (binds w connection bind.now) text.old.items text.new.items self.new) }
+        ensures err { OnErr result (StandsAsBefore self.old self.new) }
     {
         match self.living(self.named(connection, Some(bind.session))) {
             None => self.refuse_stream(connection, UNKNOWN_SESSION, text),
@@ -32,8 +33,7 @@ impl Hub {
         }
     }
 
-    /// A new stream of the session of a place, which hasn't ended, or CONERR on the connection. After `NoMemory` the
-    /// hub is as before.
+    /// A new stream of the session of a place, which hasn't ended, or CONERR on the connection.
     fn bind_living(
         &mut self,
         connection: usize,
@@ -42,8 +42,9 @@ impl Hub {
         text: &mut Vec<u8>,
     ) -> Result<(), NoMemory>
         requires { place < length self.old.sessions.items }
-        ensures { OnOk result ((w : World) (s : ASession) → StandsHub self.old w → IsLiving w place s
+        ensures ok { OnOk result ((w : World) (s : ASession) → StandsHub self.old w → IsLiving w place s
             → Prints (binds_living w connection bind.now place s) text.old.items text.new.items self.new) }
+        ensures err { OnErr result (StandsAsBefore self.old self.new) }
     {
         let now = self.tick;
         match self.sessions[place].bind(bind, now) {
@@ -63,6 +64,7 @@ impl Hub {
         ensures connections { self.new.connections ≡ self.old.connections }
         ensures did { IfOk result (λ code. (w : World) (s : ASession) → StandsHub self.old w → IsLiving w place s
             → DidOperate w place None forced code self.new) }
+        ensures err { OnErr result (StandsAsBefore self.old self.new) }
     {
         match self.sessions[place].force_rebind() {
             Err(Refusal::Code(code)) => Ok(Some(code)),
@@ -71,14 +73,16 @@ impl Hub {
         }
     }
 
-    /// The stream of a connection is lost, and a note says what comes of it.
+    /// The stream of a connection is lost, and a note, for which room is taken first, says what comes of it.
     pub(crate) fn lose(&mut self, connection: u32, text: &mut Vec<u8>) -> Result<(), NoMemory>
-        ensures { OnOk result ((w : World) → StandsHub self.old w
+        ensures ok { OnOk result ((w : World) → StandsHub self.old w
             → Prints (loses w connection) text.old.items text.new.items self.new) }
+        ensures err { OnErr result (StandsAsBefore self.old self.new) }
     {
         let Some(place) = self.session_place(connection as usize) else {
             return append(text, &Out::NoSession);
         };
+        text.reserve(LONGEST_NOTE)?;
         let epoch = self.epoch_of(connection as usize);
         let now = self.tick;
         let lost = self.sessions[place].lose(epoch, now);

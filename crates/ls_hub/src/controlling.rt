@@ -1,6 +1,6 @@
 //! Control requests: a subscription is added, ended or gets another frequency, and a session gets another bandwidth or
-//! is ended (TLCP 2.1, control).
-ghost use Rattle.std.specs.Prelude.{◌≡◌, ◌<◌, ◌⊎◌, ◌++◌, length, map, None, IfOk, IfSome, OnOk};
+//! is ended (TLCP 2.1, control). After `NoMemory` the hub is as before.
+ghost use Rattle.std.specs.Prelude.{◌≡◌, ◌<◌, ◌⊎◌, ◌++◌, length, map, None, IfOk, IfSome, OnOk, OnErr};
 ghost use Rattle.std.specs.Option.{ForSome};
 ghost use Rattle.ls_line.specs.Lines.{text_of_line};
 ghost use Rattle.ls_request.specs.Ranges.{OpFits, AddFits};
@@ -11,8 +11,9 @@ ghost use Rattle.ls_world.specs.World.{World, Session as ASession, numbered, rem
 ghost use Rattle.ls_world.specs.World.{timed_out};
 ghost use Rattle.ls_world.specs.Acting.{add_code, subscribed, change_code, constrain_code, destroyed};
 ghost use Rattle.ls_world.specs.Steps.{acts, operates, session_named};
-ghost use Rattle.ls_hub.specs.Hub.{StandsHub, Prints, name_at, seen};
+ghost use Rattle.ls_hub.specs.Hub.{StandsHub, StandsAsBefore, Prints, name_at, seen};
 ghost use Rattle.ls_hub.specs.Requests.{living_place, place_of_number, IsLiving, DidOperate, answer_line};
+ghost use Rattle.ls_hub.specs.Requests.{operation, operation_code};
 
 use crate::answers::answer;
 use crate::hub::Hub;
@@ -32,17 +33,17 @@ impl Hub {
     pub(crate) fn control(
         &mut self,
         connection: usize,
-        control: Control,
+        control: &Control,
         text: &mut Vec<u8>,
     ) -> Result<(), NoMemory>
-        requires { OpFits control.op }
-        ensures { OnOk result ((w : World) → StandsHub self.old w
-            → Prints (acts w connection (request.Control control)) text.old.items text.new.items self.new) }
+        requires { OpFits control.now.op }
+        ensures ok { OnOk result ((w : World) → StandsHub self.old w
+            → Prints (acts w connection (request.Control control.now)) text.old.items text.new.items self.new) }
+        ensures err { OnErr result (StandsAsBefore self.old self.new) }
     {
-        let Control { req, session, op } = control;
-        match self.living(self.named(connection, session)) {
-            None => self.answer(connection, req, Some(UNKNOWN_SESSION), text),
-            Some(place) => self.operate(connection, req, place, op, text),
+        match self.living(self.named(connection, control.session)) {
+            None => self.answer(connection, &control.req, Some(UNKNOWN_SESSION), text),
+            Some(place) => self.operate(connection, &control.req, place, &control.op, text),
         }
     }
 
@@ -71,45 +72,53 @@ impl Hub {
         }
     }
 
-    /// An operation on the session of a place, which hasn't ended, and its answer.
+    /// An operation on the session of a place, which hasn't ended, and its answer: REQOK is appended before anything is
+    /// done, and gives way to REQERR where the operation is refused.
     fn operate(
         &mut self,
         connection: usize,
-        req: Text,
+        req: &Text,
         place: usize,
-        op: Op,
+        op: &Op,
         text: &mut Vec<u8>,
     ) -> Result<(), NoMemory>
         requires place { place < length self.old.sessions.items }
-        requires fits { OpFits op }
-        ensures { OnOk result ((w : World) (s : ASession) → StandsHub self.old w → IsLiving w place s
-            → Prints (operates w connection req op place s) text.old.items text.new.items self.new) }
+        requires fits { OpFits op.now }
+        ensures ok { OnOk result ((w : World) (s : ASession) → StandsHub self.old w → IsLiving w place s
+            → Prints (operates w connection req.now op.now place s) text.old.items text.new.items self.new) }
+        ensures err { OnErr result ((w : World) (s : ASession) → StandsHub self.old w → IsLiving w place s
+            → StandsHub self.new w) }
+    {
+        let begin = text.len();
+        self.answer(connection, req, None, text)?;
+        match self.change(place, op)? {
+            None => Ok(()),
+            Some(code) => {
+                text.truncate(begin);
+                self.answer(connection, req, Some(code), text)
+            }
+        }
+    }
+
+    /// An operation on the session of a place, which hasn't ended, or the code that it is refused for.
+    fn change(&mut self, place: usize, op: &Op) -> Result<Option<u16>, NoMemory>
+        requires place { place < length self.old.sessions.items }
+        requires fits { OpFits op.now }
+        ensures connections { self.new.connections ≡ self.old.connections }
+        ensures did { IfOk result (λ code. (w : World) (s : ASession) → StandsHub self.old w → IsLiving w place s
+            → DidOperate w place (operation_code w s op.now) (operation w op.now) code self.new) }
+        ensures err { OnErr result (StandsAsBefore self.old self.new) }
     {
         match op {
-            Op::Add(add) => {
-                let code = self.subscribe(place, &add)?;
-                self.answer(connection, req, code, text)
-            }
-            Op::Delete { sub } => {
-                let code = self.unsubscribe(place, sub)?;
-                self.answer(connection, req, code, text)
-            }
-            Op::Reconf { sub, frequency } => {
-                let code = self.reconf(place, sub, frequency)?;
-                self.answer(connection, req, code, text)
-            }
-            Op::Constrain { bandwidth } => {
-                let code = self.constrain(place, bandwidth)?;
-                self.answer(connection, req, code, text)
-            }
+            Op::Add(add) => self.subscribe(place, add),
+            Op::Delete { sub } => self.unsubscribe(place, *sub),
+            Op::Reconf { sub, frequency } => self.reconf(place, *sub, *frequency),
+            Op::Constrain { bandwidth } => self.constrain(place, *bandwidth),
             Op::Destroy => {
                 self.end(place, DESTROYED);
-                self.answer(connection, req, None, text)
+                Ok(None)
             }
-            Op::ForceRebind => {
-                let code = self.force_rebind(place)?;
-                self.answer(connection, req, code, text)
-            }
+            Op::ForceRebind => self.force_rebind(place),
         }
     }
 
@@ -121,13 +130,15 @@ impl Hub {
         ensures connections { self.new.connections ≡ self.old.connections }
         ensures did { IfOk result (λ code. (w : World) (s : ASession) → StandsHub self.old w → IsLiving w place s
             → DidOperate w place (add_code w s add.now) (subscribed w add.now) code self.new) }
+        ensures err { OnErr result (StandsAsBefore self.old self.new) }
     {
         let free = self.cells.free();
         match self.sessions[place].prepare_add(add, &self.config, free) {
             Err(Refusal::Code(code)) => Ok(Some(code)),
             Err(Refusal::NoMemory) => Err(NoMemory),
             Ok(plan) => {
-                let numbers = join_all(self.alloc, &mut self.cells, &plan.items)?;
+                let mut numbers = Vec::with_capacity(self.alloc, plan.items.len())?;
+                join_all(&mut self.cells, &plan.items, &mut numbers)?;
                 self.sessions[place].finish_add(plan, &numbers);
                 Ok(None)
             }
@@ -140,6 +151,7 @@ impl Hub {
         ensures connections { self.new.connections ≡ self.old.connections }
         ensures did { IfOk result (λ code. (w : World) (s : ASession) → StandsHub self.old w → IsLiving w place s
             → DidOperate w place (change_code s sub) (numbered (removed sub)) code self.new) }
+        ensures err { OnErr result (StandsAsBefore self.old self.new) }
     {
         match self.sessions[place].delete(sub) {
             Err(Refusal::Code(code)) => Ok(Some(code)),
@@ -164,6 +176,7 @@ impl Hub {
         ensures connections { self.new.connections ≡ self.old.connections }
         ensures did { IfOk result (λ code. (w : World) (s : ASession) → StandsHub self.old w → IsLiving w place s
             → DidOperate w place (change_code s sub) (numbered (reconfigured sub frequency)) code self.new) }
+        ensures err { OnErr result (StandsAsBefore self.old self.new) }
     {
         match self.sessions[place].reconf(sub, frequency) {
             Err(Refusal::Code(code)) => Ok(Some(code)),
@@ -180,6 +193,7 @@ impl Hub {
         ensures connections { self.new.connections ≡ self.old.connections }
         ensures did { IfOk result (λ code. (w : World) (s : ASession) → StandsHub self.old w → IsLiving w place s
             → DidOperate w place (constrain_code s) (constrained bandwidth) code self.new) }
+        ensures err { OnErr result (StandsAsBefore self.old self.new) }
     {
         let now = self.tick;
         match self.sessions[place].constrain(bandwidth, now) {
@@ -207,12 +221,12 @@ impl Hub {
     fn answer(
         &self,
         connection: usize,
-        req: Text,
+        req: &Text,
         code: Option<u16>,
         text: &mut Vec<u8>,
     ) -> Result<(), NoMemory>
         ensures { OnOk result (text.new.items ≡ text.old.items ++ text_of_out
-            (out.Line (name_at self.now.connections.items connection) (text_of_line (answer_line req code)))) }
+            (out.Line (name_at self.now.connections.items connection) (text_of_line (answer_line req.now code)))) }
     {
         let line = answer(self.alloc, req, code)?;
         self.line(connection, &line, text)

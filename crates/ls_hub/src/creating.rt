@@ -1,12 +1,12 @@
-//! Sessions that begin (TLCP 2.1, create_session).
-ghost use Rattle.std.specs.Prelude.{◌≡◌, ◌<◌, length, map, Some, None, Option, ℕ, OnOk};
+//! Sessions that begin (TLCP 2.1, create_session). After `NoMemory` the hub is as before.
+ghost use Rattle.std.specs.Prelude.{◌≡◌, ◌<◌, length, map, Some, None, Option, ℕ, OnOk, OnErr};
 ghost use Rattle.std.specs.Option.{ForSome};
 ghost use Rattle.ls_value.specs.declared.limits.TheConstants.{GREATEST_NUMBER};
 ghost use Rattle.ls_world.specs.World.{World, change};
 ghost use Rattle.ls_world.specs.Acting.{is_set_of, create_code};
 ghost use Rattle.ls_world.specs.Steps.{creates, created, refuses_stream};
 ghost use Rattle.ls_world.specs.declared.TheConstants.{MOST_SESSIONS};
-ghost use Rattle.ls_hub.specs.Hub.{StandsHub, Prints, seen};
+ghost use Rattle.ls_hub.specs.Hub.{StandsHub, StandsAsBefore, Prints, seen};
 
 use crate::answers::session_refused;
 use crate::hub::{Connection, Hub};
@@ -24,8 +24,9 @@ impl Hub {
         text: &mut Vec<u8>,
     ) -> Result<(), NoMemory>
         requires { ForSome create.now.bandwidth (λ limit. 0 < limit) }
-        ensures { OnOk result ((w : World) → StandsHub self.old w
+        ensures ok { OnOk result ((w : World) → StandsHub self.old w
             → Prints (creates w connection create.now) text.old.items text.new.items self.new) }
+        ensures err { OnErr result (StandsAsBefore self.old self.new) }
     {
         match self.create_code(create) {
             Some(code) => self.refuse_stream(connection, code, text),
@@ -60,13 +61,14 @@ impl Hub {
         }
     }
 
-    /// A new session, which is the connection's. After `NoMemory` all is as before.
+    /// A new session, which is the connection's.
     fn begin(&mut self, connection: usize, create: &Create) -> Result<(), NoMemory>
         requires living { length self.old.living.items < MOST_SESSIONS }
         requires number { length self.old.sessions.items < GREATEST_NUMBER }
         requires bandwidth { ForSome create.now.bandwidth (λ limit. 0 < limit) }
         ensures ok { OnOk result ((w : World) → StandsHub self.old w
             → StandsHub self.new (created w connection create.now)) }
+        ensures err { OnErr result (StandsAsBefore self.old self.new) }
     {
         let place = self.sessions.len();
         self.living.reserve(1)?;

@@ -1,16 +1,20 @@
-//! Publishes and enqueues.
-ghost use Rattle.std.specs.Prelude.{◌≡◌, ◌≤◌, ◌++◌, IfOk, OnOk, Err, option_map};
+//! Publishes and enqueues. Room for a note is taken first, so that nothing is done where memory is refused.
+ghost use Rattle.std.specs.Prelude.{◌≡◌, ◌≤◌, ◌<◌, ◌+◌, ◌++◌, IfOk, OnOk, OnErr, Err, option_map};
+ghost use Rattle.std.specs.Vec.{vec_len, vec_capacity};
 ghost use Rattle.ls_event.specs.declared.limits.TheConstants.{MOST_ADAPTERS};
+ghost use Rattle.ls_step.specs.declared.limits.TheConstants.{LONGEST_NOTE};
 ghost use Rattle.ls_world.specs.World.{World};
 ghost use Rattle.ls_world.specs.Steps.{enqueue_once as one_enqueue, repeated, publishes};
 ghost use Rattle.ls_world.specs.Script.{text_of_outs};
 ghost use Rattle.ls_subs.specs.Standing.{ref_of};
-ghost use Rattle.ls_hub.specs.Hub.{StandsHub, Prints, DidOnce, slot_in, outs_published, out_enqueued, has_moved};
+ghost use Rattle.ls_hub.specs.Hub.{StandsHub, StandsAsBefore, Prints, DidOnce, slot_in, outs_published};
+ghost use Rattle.ls_hub.specs.Hub.{out_enqueued, has_moved};
+ghost use Rattle.ls_hub.specs.Quiet.{DidFewer};
 
 use crate::hub::Hub;
 use ls_cell::Enqueued;
 use ls_event::{Event, PublishRefused};
-use ls_step::{Out, append};
+use ls_step::{LONGEST_NOTE, Out, append};
 use ls_subs::SlotRef;
 use ls_value::NoMemory;
 
@@ -25,20 +29,22 @@ impl Hub {
         text: &mut Vec<u8>,
     ) -> Result<(), NoMemory>
         requires { adapter ≤ MOST_ADAPTERS }
-        ensures { OnOk result ((w : World) → StandsHub self.old w
+        ensures ok { OnOk result ((w : World) → StandsHub self.old w
             → Prints (publishes w item (record { adapter = adapter; seq = seq; event = event })) text.old.items
             text.new.items self.new) }
+        ensures err { OnErr result (StandsAsBefore self.old self.new) }
     {
         if !self.cells.takes(item, &event) {
             return Ok(());
         }
+        text.reserve(LONGEST_NOTE)?;
         let answer = self.cells.publish(item, adapter, seq, event);
         append_published(text, answer)?;
         Ok(())
     }
 
     /// Enqueues into the slot of a rank in a subscription of a connection's session: at most so many, up to the first
-    /// that doesn't move.
+    /// that doesn't move. After `NoMemory` some of them were made, fewer than so many.
     pub(crate) fn enqueue(
         &mut self,
         connection: u32,
@@ -47,8 +53,10 @@ impl Hub {
         times: u32,
         text: &mut Vec<u8>,
     ) -> Result<(), NoMemory>
-        ensures { OnOk result ((w : World) → StandsHub self.old w
+        ensures ok { OnOk result ((w : World) → StandsHub self.old w
             → Prints (repeated (one_enqueue connection sub rank) times w) text.old.items text.new.items self.new) }
+        ensures err { OnErr result ((w : World) → StandsHub self.old w
+            → DidFewer (one_enqueue connection sub rank) w times self.new) }
     {
         for _ in 0..times {
             let more = self.enqueue_once(connection as usize, sub, rank, text)?;
@@ -67,9 +75,11 @@ impl Hub {
         rank: u64,
         text: &mut Vec<u8>,
     ) -> Result<bool, NoMemory>
-        ensures { IfOk result (λ more. (w : World) → StandsHub self.old w
+        ensures ok { IfOk result (λ more. (w : World) → StandsHub self.old w
             → DidOnce (one_enqueue connection sub rank w) more text.old.items text.new.items self.new) }
+        ensures err { OnErr result (StandsAsBefore self.old self.new) }
     {
+        text.reserve(LONGEST_NOTE)?;
         let Some(slot) = self.slot_of(connection, sub, rank) else {
             append(text, &Out::NoSlot)?;
             return Ok(false);
@@ -108,17 +118,15 @@ fn out_enqueued(answer: Option<Enqueued>) -> Out
 fn has_moved(answer: Option<Enqueued>) -> bool
     ensures { result ≡ has_moved answer }
 {
-    match answer {
-        Some(Enqueued::Moved { no: _ }) => true,
-        Some(Enqueued::UpToDate) => false,
-        None => false,
-    }
+    matches!(answer, Some(Enqueued::Moved { no: _ }))
 }
 
-/// Appends what a publish prints; want of memory is handed on.
+/// Appends what a publish prints; want of memory is handed on. Where there is room for a note, nothing else wants it.
 fn append_published(text: &mut Vec<u8>, answer: Result<u64, PublishRefused>) -> Result<(), NoMemory>
     ensures some { OnOk result (answer ≡ Err PublishRefused.NoMemory → ⊥) }
     ensures text { OnOk result (text.new.items ≡ text.old.items ++ text_of_outs (outs_published answer)) }
+    ensures room { OnErr result ((answer ≡ Err PublishRefused.NoMemory → ⊥)
+        → vec_capacity text.old < vec_len text.old + LONGEST_NOTE) }
 {
     let out = match answer {
         Ok(no) => Out::Published { no },

@@ -1,15 +1,15 @@
 //! The hub, and its steps.
 ghost use Rattle.std.specs.Prelude.{◌≡◌, ◌<◌, ◌++◌, ℕ, [], ◌∷◌, length, IfOk, IfSome, OnOk, OnErr, true};
 ghost use Rattle.ls_step.specs.Ranges.{Fits};
-ghost use Rattle.ls_step.specs.declared.step.Step.TheVariants as steps;
 ghost use Rattle.ls_config.specs.Items.{may_follow};
 ghost use Rattle.ls_event.specs.Shapes.{IsShape, shape_of};
 ghost use Rattle.ls_world.specs.World.{World, empty, definitions};
-ghost use Rattle.ls_world.specs.Steps.{does, connects, take_once, session_of};
+ghost use Rattle.ls_world.specs.Steps.{does, connects, session_of};
 ghost use Rattle.ls_world.specs.Script.{known_of};
 ghost use Rattle.ls_world.specs.Ranges.{StepInRange};
-ghost use Rattle.ls_hub.specs.Hub.{StandsHub, Prints, HasAdapter, session_at, place_in, epoch_at, name_at, link_at};
-ghost use Rattle.ls_hub.specs.Quiet.{FailedBehind};
+ghost use Rattle.ls_hub.specs.Hub.{StandsHub, StandsAsBefore, Prints, HasAdapter, session_at, place_in, epoch_at};
+ghost use Rattle.ls_hub.specs.Hub.{name_at, link_at};
+ghost use Rattle.ls_hub.specs.Quiet.{FailedIn};
 
 use ls_cells::Cells;
 use ls_config::{Config, Items};
@@ -65,9 +65,9 @@ impl Hub {
     }
 
     /// Does a step of the script's line of this number, at most so often, and appends what it prints. After `NoMemory`
-    /// in a take some of its turns were taken, and in the one behind these no line was numbered or given, while slots
-    /// may have moved past cuts that make none. After another `NoMemory` nothing is known of the hub, and after each
-    /// nothing of the text.
+    /// nothing was done, but of enqueues some were made, and of a take some turns were taken, and in the one behind
+    /// these no line was numbered or given, while slots may have moved past cuts that make none. Of the text nothing is
+    /// known then.
     pub fn step(
         &mut self,
         line: u64,
@@ -80,8 +80,7 @@ impl Hub {
         requires times { 0 < times }
         ensures ok { OnOk result ((w : World) → StandsHub self.old w → line ≡ w.line → Fits (known_of w) step
             → Prints (does w step times) text.old.items text.new.items self.new) }
-        ensures take { OnErr result ((w : World) (connection : ℕ) → StandsHub self.old w
-            → step ≡ steps.Take connection → FailedBehind (take_once connection) w times self.new) }
+        ensures err { OnErr result ((w : World) → StandsHub self.old w → FailedIn w step times self.new) }
     {
         match step {
             Step::Set { name } => {
@@ -124,22 +123,29 @@ impl Hub {
         }
     }
 
-    /// A new item, whose name no other has; fewer than may be are declared.
+    /// A new item, whose name no other has; fewer than may be are declared. After `NoMemory` the hub is as before.
     fn declare(&mut self, definition: ItemDef) -> Result<(), NoMemory>
         requires { IsShape (shape_of definition) }
         ensures ok { OnOk result ((w : World) → StandsHub self.old w
             → may_follow (definitions w.items) definition.name ≡ true
             → StandsHub self.new
             (record w { items = w.items ++ record { definition = definition; history = [] } ∷ [] })) }
+        ensures err { OnErr result (StandsAsBefore self.old self.new) }
     {
         self.cells.declare(&definition)?;
-        self.config.items.add(definition)?;
-        Ok(())
+        match self.config.items.add(definition) {
+            Ok(_) => Ok(()),
+            Err(cause) => {
+                self.cells.take_back();
+                Err(cause)
+            }
+        }
     }
 
-    /// A new connection, which has no session.
+    /// A new connection, which has no session. After `NoMemory` the hub is as before.
     pub(crate) fn connect(&mut self, name: Text, link: LinkKind) -> Result<(), NoMemory>
-        ensures { OnOk result ((w : World) → StandsHub self.old w → StandsHub self.new (connects w name link)) }
+        ensures ok { OnOk result ((w : World) → StandsHub self.old w → StandsHub self.new (connects w name link)) }
+        ensures err { OnErr result (StandsAsBefore self.old self.new) }
     {
         self.connections.push(Connection {
             name,

@@ -7,8 +7,8 @@
 //!
 //! A session holds no items: its turn asks what a slot has to tell, the hub looks at the slot's cell, gives the session
 //! the answer, and moves the slot past what was taken. Of a slot whose frequency or whose session's bandwidth doesn't
-//! allow an update yet it only says whether something is pending. Behind a slot that has nothing it passes over those of
-//! which the cells know that nothing is pending. The tick is the last one of the script, in ms.
+//! allow an update yet it only says whether something is pending. Behind a slot that has nothing it passes over those
+//! of which the cells know that nothing is pending. The tick is the last one of the script, in ms.
 //!
 //! ```text
 //! take c 9

@@ -1,5 +1,5 @@
-//! Requests on a connection, by their names and parameters (TLCP 2.1, requests).
-ghost use Rattle.std.specs.Prelude.{◌≡◌, ◌++◌, length, IfOk, OnOk, codes};
+//! Requests on a connection, by their names and parameters (TLCP 2.1, requests). After `NoMemory` the hub is as before.
+ghost use Rattle.std.specs.Prelude.{◌≡◌, ◌++◌, length, IfOk, OnOk, OnErr, codes};
 ghost use Rattle.ls_form.specs.Forms.{form_of};
 ghost use Rattle.ls_line.specs.Lines.{text_of_line};
 ghost use Rattle.ls_request.specs.Ranges.{RequestFits};
@@ -9,20 +9,17 @@ ghost use Rattle.ls_step.specs.Notes.{text_of_out};
 ghost use Rattle.ls_step.specs.declared.out.Out.TheVariants as out;
 ghost use Rattle.ls_world.specs.World.{World};
 ghost use Rattle.ls_world.specs.Steps.{requests, link_of, malformed, acts, creates, connects, plain_create};
-ghost use Rattle.ls_hub.specs.Hub.{StandsHub, Prints, name_at};
+ghost use Rattle.ls_hub.specs.Hub.{StandsHub, StandsAsBefore, Prints, name_at};
 
 use crate::answers::malformed;
 use crate::hub::Hub;
 use ls_form::{FormRefused, Params, pairs};
 use ls_line::{Line, append};
-use ls_request::{Create, LinkKind, Request, RequestRefused, read_pairs};
+use ls_request::{Create, DEFAULT_KEEPALIVE, LinkKind, Request, RequestRefused, read_pairs};
 use ls_script::add_params;
 use ls_step::AddWords;
 use ls_value::{Bytes, NoMemory, Text};
 use std::alloc::Global;
-
-/// The keep-alive in milliseconds that is meant where none is said.
-const KEEPALIVE: u32 = 5000;
 
 impl Hub {
     /// The request that an `add` line stands for, which is read as over a WebSocket.
@@ -33,9 +30,10 @@ impl Hub {
         words: &AddWords,
         text: &mut Vec<u8>,
     ) -> Result<(), NoMemory>
-        ensures { OnOk result ((w : World) → StandsHub self.old w → line ≡ w.line
+        ensures ok { OnOk result ((w : World) → StandsHub self.old w → line ≡ w.line
             → Prints (requests w connection link.Ws (codes "control") (add_pairs w.line words.now)) text.old.items
             text.new.items self.new) }
+        ensures err { OnErr result (StandsAsBefore self.old self.new) }
     {
         let params = add_params(self.alloc, line, words)?;
         self.request(connection, LinkKind::Ws, b"control", params, text)
@@ -49,9 +47,10 @@ impl Hub {
         parameters: &Bytes,
         text: &mut Vec<u8>,
     ) -> Result<(), NoMemory>
-        ensures { OnOk result ((w : World) → StandsHub self.old w
+        ensures ok { OnOk result ((w : World) → StandsHub self.old w
             → Prints (requests w connection (link_of w connection) name.now (form_of parameters.now)) text.old.items
             text.new.items self.new) }
+        ensures err { OnErr result (StandsAsBefore self.old self.new) }
     {
         let params = form(self.alloc, parameters.as_slice())?;
         let link = self.link_of(connection as usize);
@@ -64,19 +63,26 @@ impl Hub {
         name: Text,
         text: &mut Vec<u8>,
     ) -> Result<(), NoMemory>
-        ensures { OnOk result ((w : World) → StandsHub self.old w
+        ensures ok { OnOk result ((w : World) → StandsHub self.old w
             → Prints (creates (connects w name LinkKind.Ws) (length w.connections) plain_create) text.old.items
             text.new.items self.new) }
+        ensures err { OnErr result (StandsAsBefore self.old self.new) }
     {
         let connection = self.connections.len();
         self.connect(name, LinkKind::Ws)?;
         let create = Create {
             set: None,
-            keepalive: KEEPALIVE,
+            keepalive: DEFAULT_KEEPALIVE,
             bandwidth: None,
             length: None,
         };
-        self.open(connection, &create, text)
+        match self.open(connection, &create, text) {
+            Ok(()) => Ok(()),
+            Err(cause) => {
+                self.connections.truncate(connection);
+                Err(cause)
+            }
+        }
     }
 
     /// A request by its name and its parameters, which are none where they are no form, as it is read over a link: it
@@ -89,8 +95,9 @@ impl Hub {
         params: Option<Params>,
         text: &mut Vec<u8>,
     ) -> Result<(), NoMemory>
-        ensures { OnOk result ((w : World) → StandsHub self.old w
+        ensures ok { OnOk result ((w : World) → StandsHub self.old w
             → Prints (requests w connection link name.now params) text.old.items text.new.items self.new) }
+        ensures err { OnErr result (StandsAsBefore self.old self.new) }
     {
         let Some(params) = params else {
             return self.refuse(connection, name, None, text);
@@ -110,13 +117,14 @@ impl Hub {
         text: &mut Vec<u8>,
     ) -> Result<(), NoMemory>
         requires { RequestFits request }
-        ensures { OnOk result ((w : World) → StandsHub self.old w
+        ensures ok { OnOk result ((w : World) → StandsHub self.old w
             → Prints (acts w connection request) text.old.items text.new.items self.new) }
+        ensures err { OnErr result (StandsAsBefore self.old self.new) }
     {
         match request {
             Request::Create(create) => self.open(connection, &create, text),
             Request::Bind(bind) => self.bind(connection, &bind, text),
-            Request::Control(control) => self.control(connection, control, text),
+            Request::Control(control) => self.control(connection, &control, text),
             Request::Wsok => self.line(connection, &Line::WsOk, text),
         }
     }

@@ -1,70 +1,59 @@
 //! Slots that join items, and leave them (General Concepts, subscriptions).
-ghost use Rattle.std.specs.Prelude.{◌≡◌, ◌≤◌, ◌+◌, ◌++◌, ◌∷◌, List, length, map, true, Some, IfOk, IfSome};
+ghost use Rattle.std.specs.Prelude.{◌≡◌, ◌≤◌, ◌+◌, ◌++◌, ◌∷◌, List, length, map, IfOk, OnOk, OnErr};
 ghost use Rattle.std.specs.Vec.{vec_len, vec_capacity};
 ghost use Rattle.ls_world.specs.World.{Item, Live};
 ghost use Rattle.ls_cells.specs.Cells.{StandsCells};
 ghost use Rattle.ls_subs.specs.Standing.{ref_of};
-ghost use Rattle.ls_hub.specs.Requests.{Joins, JoinInOrder, Leave};
+ghost use Rattle.ls_hub.specs.Requests.{Joins, JoinInOrder, JoinedAs, Leave};
 
 use ls_cells::Cells;
 use ls_subs::{PlanItem, SlotRef};
 use ls_value::NoMemory;
-use std::alloc::Global;
 
-/// The items of a plan join in their order; the numbers of their slots. Where one can't, those that joined leave again.
+/// The items of a plan join in their order; the numbers of their slots come behind others. Where one can't join, those
+/// before it leave again, and all is as before.
 pub(crate) fn join_all(
-    alloc: Global,
     cells: &mut Cells,
     items: &[PlanItem],
-) -> Result<Vec<u32>, NoMemory>
-    ensures count { IfOk result (λ numbers. length numbers.items ≡ length items.now) }
-    ensures joined { IfOk result (λ numbers. (declared : List Item) (a b vs : List Live)
+    numbers: &mut Vec<u32>,
+) -> Result<(), NoMemory>
+    requires room { vec_len numbers.old + length items.now ≤ vec_capacity numbers.old }
+    ensures count { OnOk result (length numbers.new.items ≡ length numbers.old.items + length items.now) }
+    ensures joined { OnOk result ((declared : List Item) (a b vs : List Live)
         → StandsCells cells.old declared (a ++ b) → JoinInOrder declared a b items.now vs
-        → (numbers.items ≡ map (λ v. v.number) vs) × StandsCells cells.new declared ((a ++ vs) ++ b)) }
+        → (numbers.new.items ≡ numbers.old.items ++ map (λ v. v.number) vs)
+        × StandsCells cells.new declared ((a ++ vs) ++ b)) }
+    ensures err { OnErr result ((declared : List Item) (lives : List Live) → StandsCells cells.old declared lives
+        → StandsCells cells.new declared lives) }
 {
-    let mut numbers = Vec::with_capacity(alloc, items.len())?;
-    if join_each(cells, items, &mut numbers) {
-        Ok(numbers)
-    } else {
-        leave_again(cells, items, &numbers);
-        Err(NoMemory)
-    }
-}
-
-/// Whether each item joins; the numbers of the slots up to the first that doesn't.
-fn join_each(cells: &mut Cells, items: &[PlanItem], numbers: &mut Vec<u32>) -> bool
-    requires room { length items.now ≤ vec_capacity numbers.old }
-    requires none { vec_len numbers.old ≡ 0 }
-    ensures count { result ≡ true → length numbers.new.items ≡ length items.now }
-    ensures joined { result ≡ true → (declared : List Item) (a b vs : List Live)
-        → StandsCells cells.old declared (a ++ b) → JoinInOrder declared a b items.now vs
-        → (numbers.new.items ≡ map (λ v. v.number) vs) × StandsCells cells.new declared ((a ++ vs) ++ b) }
-{
-    for item in items {
-        match join(cells, item) {
-            None => return false,
-            Some(number) => numbers.push_reserved(number),
+    let Some((item, rest)) = items.split_first() else {
+        return Ok(());
+    };
+    let number = join(cells, item)?;
+    numbers.push_reserved(number);
+    match join_all(cells, rest, numbers) {
+        Ok(()) => Ok(()),
+        Err(cause) => {
+            cells.leave(item.item, number);
+            Err(cause)
         }
     }
-    true
 }
 
-/// An item joins: its slot's number, or `None` where it can't.
-fn join(cells: &mut Cells, item: &PlanItem) -> Option<u32>
-    ensures { IfSome result (λ number. (declared : List Item) (a b : List Live) (v : Live)
+/// An item joins: its slot's number. Where it can't, all is as before.
+fn join(cells: &mut Cells, item: &PlanItem) -> Result<u32, NoMemory>
+    ensures joined { IfOk result (λ number. (declared : List Item) (a b : List Live) (v : Live)
         → StandsCells cells.old declared (a ++ b) → Joins declared (a ++ b) item.now v
         → (number ≡ v.number) × StandsCells cells.new declared (a ++ v ∷ b)) }
+    ensures one { IfOk result (λ number. (declared : List Item) (lives : List Live)
+        → StandsCells cells.old declared lives → JoinedAs cells.new declared lives item.now.item number) }
+    ensures err { OnErr result ((declared : List Item) (lives : List Live) → StandsCells cells.old declared lives
+        → StandsCells cells.new declared lives) }
 {
-    match cells.join(item.item, item.mode, item.n, item.snapshot) {
-        Ok(number) => number,
-        Err(_) => None,
-    }
-}
-
-/// Slots of these numbers leave the first of these items again.
-fn leave_again(cells: &mut Cells, items: &[PlanItem], numbers: &[u32]) {
-    for (item, number) in items.iter().zip(numbers) {
-        cells.leave(item.item, *number);
+    let joined = cells.join(item.item, item.mode, item.n, item.snapshot)?;
+    match joined {
+        Some(number) => Ok(number),
+        None => Err(NoMemory),
     }
 }
 

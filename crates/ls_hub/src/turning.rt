@@ -5,28 +5,27 @@ ghost use Rattle.std.specs.Prelude.{◌≡◌, ◌≤◌, ◌<◌, ◌+◌, ◌+
 ghost use Rattle.std.specs.Prelude.{true, false};
 ghost use Rattle.std.specs.Vec.{vec_len, vec_capacity};
 ghost use Rattle.ls_value.specs.declared.limits.TheConstants.{GREATEST_TICK};
-ghost use Rattle.ls_step.specs.declared.out.Out.TheVariants as out;
 ghost use Rattle.ls_step.specs.Notes.{text_of_out};
 ghost use Rattle.ls_event.specs.declared.event.Taken.{Taken as Cut};
 ghost use Rattle.ls_event.specs.Cuts.{cut};
 ghost use Rattle.ls_world.specs.World.{World, Item, Live, history_of};
 ghost use Rattle.ls_world.specs.Steps.{take_once as one_turn, repeated};
 ghost use Rattle.ls_cells.specs.Cells.{StandsCells, cut_of_slot};
-ghost use Rattle.ls_subs.specs.Standing.{ref_of, passed_live};
-ghost use Rattle.ls_session.specs.Record.{Record, Question};
+ghost use Rattle.ls_subs.specs.Standing.{passed_live};
+ghost use Rattle.ls_session.specs.Record.{Record};
 ghost use Rattle.ls_session.specs.Session.{StandsSession};
 ghost use Rattle.ls_session.specs.declared.session.Turn.TheVariants as given;
 ghost use Rattle.ls_hub.specs.Hub.{StandsHub, Prints, DidOnce};
 ghost use Rattle.ls_hub.specs.Quiet.{StandsQuiet, FailedBehind};
-ghost use Rattle.ls_hub.specs.Turning.{turn_from, HasAsked, GoesOn, Unasked, MaySkip, IsNextSettled, TurnEnded};
-ghost use Rattle.ls_hub.specs.Turning.{TurnFailed, out_of_turn, gave_line};
+ghost use Rattle.ls_hub.specs.Turning.{turn_from, TakesAnswer, KeepsQuestion, GoesOn, Unasked, MaySkip, IsNextSettled};
+ghost use Rattle.ls_hub.specs.Turning.{TurnEnded, TurnFailed, out_of_turn, gave_line};
 
 use crate::hub::Hub;
 use ls_cells::Cells;
+use ls_line::LONGEST_TEXT;
 use ls_session::{Ask, Reply, Session, Turn};
-use ls_step::{Out, append};
+use ls_step::{Out, append, append_line};
 use ls_value::{GREATEST_NUMBER, NoMemory};
-use ls_world::MOST_LINE;
 
 impl Hub {
     /// Turns on a connection: at most so many, up to the first that gives no line. After `NoMemory` some of them were
@@ -63,7 +62,7 @@ impl Hub {
             return Ok(false);
         };
         let epoch = self.epoch_of(connection);
-        text.reserve(self.name_of(connection).len() + (MOST_LINE + 2))?;
+        text.reserve(self.name_of(connection).len() + (LONGEST_TEXT + 2))?;
         let turn = turn_of(&mut self.cells, &mut self.sessions[place], self.tick, epoch)?;
         append_turn(
             text,
@@ -101,13 +100,8 @@ fn turn_of(cells: &mut Cells, session: &mut Session, now: u64, epoch: u64) -> Re
 
 /// Answers what a session asks of a slot. After `NoMemory` the question stands, and all is as before.
 fn tell(cells: &mut Cells, session: &mut Session, ask: Ask) -> Result<(), NoMemory>
-    ensures ok { OnOk result ((now : ℕ) (items : List Item) (epoch : ℕ) (before behind : List Live) (r : Record)
-        (q : Question) → HasAsked now items epoch before behind r q session.old cells.old
-        → ask ≡ record { slot = ref_of q.live; due = q.due }
-        → GoesOn now items epoch before behind r session.new cells.new) }
-    ensures err { OnErr result ((now : ℕ) (items : List Item) (epoch : ℕ) (before behind : List Live) (r : Record)
-        (q : Question) → HasAsked now items epoch before behind r q session.old cells.old
-        → HasAsked now items epoch before behind r q session.new cells.new) }
+    ensures ok { OnOk result (TakesAnswer ask session.old cells.old session.new cells.new) }
+    ensures err { OnErr result (KeepsQuestion session.old cells.old session.new cells.new) }
 {
     if ask.due {
         tell_cut(cells, session, ask)
@@ -120,13 +114,8 @@ fn tell(cells: &mut Cells, session: &mut Session, ask: Ask) -> Result<(), NoMemo
 /// question stands, and all is as before.
 fn tell_cut(cells: &mut Cells, session: &mut Session, ask: Ask) -> Result<(), NoMemory>
     requires { ask.due ≡ true }
-    ensures ok { OnOk result ((now : ℕ) (items : List Item) (epoch : ℕ) (before behind : List Live) (r : Record)
-        (q : Question) → HasAsked now items epoch before behind r q session.old cells.old
-        → ask ≡ record { slot = ref_of q.live; due = q.due }
-        → GoesOn now items epoch before behind r session.new cells.new) }
-    ensures err { OnErr result ((now : ℕ) (items : List Item) (epoch : ℕ) (before behind : List Live) (r : Record)
-        (q : Question) → HasAsked now items epoch before behind r q session.old cells.old
-        → HasAsked now items epoch before behind r q session.new cells.new) }
+    ensures ok { OnOk result (TakesAnswer ask session.old cells.old session.new cells.new) }
+    ensures err { OnErr result (KeepsQuestion session.old cells.old session.new cells.new) }
 {
     match cells.look(ask.slot.item, ask.slot.slot)? {
         None => {
@@ -145,13 +134,8 @@ fn tell_cut(cells: &mut Cells, session: &mut Session, ask: Ask) -> Result<(), No
 /// Answers whether a slot that isn't due waits. After `NoMemory` the question stands, and all is as before.
 fn tell_waiting(cells: &Cells, session: &mut Session, ask: Ask) -> Result<(), NoMemory>
     requires { ask.due ≡ false }
-    ensures ok { OnOk result ((now : ℕ) (items : List Item) (epoch : ℕ) (before behind : List Live) (r : Record)
-        (q : Question) → HasAsked now items epoch before behind r q session.old cells.now
-        → ask ≡ record { slot = ref_of q.live; due = q.due }
-        → GoesOn now items epoch before behind r session.new cells.now) }
-    ensures err { OnErr result ((now : ℕ) (items : List Item) (epoch : ℕ) (before behind : List Live) (r : Record)
-        (q : Question) → HasAsked now items epoch before behind r q session.old cells.now
-        → HasAsked now items epoch before behind r q session.new cells.now) }
+    ensures ok { OnOk result (TakesAnswer ask session.old cells.now session.new cells.now) }
+    ensures err { OnErr result (KeepsQuestion session.old cells.now session.new cells.now) }
 {
     if cells.pending(ask.slot.item, ask.slot.slot) {
         session.answer(ask, Reply::Waiting)?;
@@ -232,30 +216,9 @@ fn append_turn(text: &mut Vec<u8>, name: &[u8], current: &[u8], turn: Turn) -> R
     }
 }
 
-/// Appends a line on a connection of this name, ended by LF, without memory where there is room for it.
-fn append_line(text: &mut Vec<u8>, name: &[u8], line: &[u8]) -> Result<(), NoMemory>
-    ensures text { OnOk result (text.new.items ≡ text.old.items ++ text_of_out (out.Line name.now line.now)) }
-    ensures room { OnErr result (vec_capacity text.old < vec_len text.old + (length name.now + (length line.now + 2))) }
-{
-    text.extend_from_slice(name)?;
-    text.push(b':')?;
-    text.extend_from_slice(line)?;
-    text.push(b'\n')?;
-    Ok(())
-}
-
 /// Whether a turn gave a line.
 fn gave_line(turn: Turn) -> bool
     ensures { result ≡ gave_line turn }
 {
-    match turn {
-        Turn::Send => true,
-        Turn::Ask(_) => false,
-        Turn::Idle => false,
-        Turn::NotDue { at: _ } => false,
-        Turn::Ended { code: _ } => false,
-        Turn::Superseded { epoch: _ } => false,
-        Turn::Unbound => false,
-        Turn::Spent => false,
-    }
+    matches!(turn, Turn::Send)
 }

@@ -6,7 +6,7 @@ ghost use Rattle.ls_value.specs.declared.limits.TheConstants.{GREATEST_TICK};
 ghost use Rattle.ls_world.specs.Lines.{text_at};
 ghost use Rattle.ls_world.specs.World.{live_at, opened, ended, is_alive, timed_out};
 ghost use Rattle.ls_world.specs.Acting.{destroyed};
-ghost use Rattle.ls_world.specs.declared.TheConstants.{MOST_LINE};
+ghost use Rattle.ls_line.specs.declared.limits.TheConstants.{LONGEST_TEXT};
 ghost use Rattle.ls_subs.specs.Standing.{ref_of};
 ghost use Rattle.ls_session.specs.Record.{Record, begun_anew, ended_by};
 ghost use Rattle.ls_session.specs.Session.{StandsSession, current_of};
@@ -119,7 +119,7 @@ impl Session {
     /// The line that the last turn gave, without CR LF.
     pub fn current(&self) -> &[u8]
         ensures line { result.now ≡ current_of self.now }
-        ensures short { (r : Record) → StandsSession self.now r → length result.now ≤ MOST_LINE }
+        ensures short { (r : Record) → StandsSession self.now r → length result.now ≤ LONGEST_TEXT }
     {
         self.lines.current()
     }

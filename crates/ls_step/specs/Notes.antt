@@ -1,6 +1,7 @@
 -- The texts of printed lines (this project's profile).
-use Rattle.std.specs.Prelude.{ℕ, List, [], ◌∷◌, ◌++◌, codes}
+use Rattle.std.specs.Prelude.{ℕ, ◌+◌, List, [], ◌∷◌, ◌++◌, length, codes}
 use Rattle.std.specs.Fmt.{decimal}
+use Rattle.ls_step.specs.declared.limits.TheConstants.{LONGEST_NOTE}
 use Rattle.ls_step.specs.declared.out.Out.{Out}
 use Rattle.ls_step.specs.declared.out.Out.TheVariants as out
 
@@ -37,3 +38,8 @@ text_of_out out.Unbound = note (codes "-unbound")
 text_of_out out.NoSession = note (codes "-none")
 text_of_out out.Lost = note (codes "-lost")
 text_of_out (out.Line connection text) = line_on connection text
+
+-- room that is enough for it
+abbrev pub room_for : Out → ℕ
+room_for (out.Line connection text) = length connection + (length text + 2)
+room_for o = LONGEST_NOTE

@@ -12,6 +12,6 @@ mod limits;
 mod out;
 mod step;
 
-pub use limits::{GREATEST_IN_LINE, MOST_CONNECTIONS, MOST_TIMES};
-pub use out::{Out, append, print};
+pub use limits::{GREATEST_IN_LINE, LONGEST_NOTE, MOST_CONNECTIONS, MOST_TIMES};
+pub use out::{Out, append, append_line, print};
 pub use step::{AddWords, Extras, Repeat, Step};

@@ -1,6 +1,8 @@
 //! What a script prints (this project's profile).
-ghost use Rattle.std.specs.Prelude.{◌≡◌, ◌++◌, IfOk, OnOk};
-ghost use Rattle.ls_step.specs.Notes.{note, number_note, line_on, text_of_out};
+ghost use Rattle.std.specs.Prelude.{◌≡◌, ◌≤◌, ◌<◌, ◌+◌, ◌++◌, length, IfOk, OnOk, OnErr};
+ghost use Rattle.std.specs.Vec.{vec_len, vec_capacity};
+ghost use Rattle.ls_step.specs.declared.limits.TheConstants.{LONGEST_NOTE};
+ghost use Rattle.ls_step.specs.Notes.{note, number_note, line_on, text_of_out, room_for};
 
 use ls_value::{Bytes, NoMemory, Text};
 use ls_words::append_decimal;
@@ -58,9 +60,11 @@ pub fn print(alloc: Global, out: &Out) -> Result<Bytes, NoMemory>
     Ok(Bytes::from_vec(text))
 }
 
-/// Appends a printed line, ended by LF, to a text (this project's profile). After `NoMemory` a part of it may be there.
+/// Appends a printed line, ended by LF, to a text (this project's profile). Where there is room for it, or for
+/// `LONGEST_NOTE` bytes and it is a note, no memory is taken. After `NoMemory` a part of it may be there.
 pub fn append(text: &mut Vec<u8>, out: &Out) -> Result<(), NoMemory>
-    ensures { OnOk result (text.new.items ≡ text.old.items ++ text_of_out out.now) }
+    ensures text { OnOk result (text.new.items ≡ text.old.items ++ text_of_out out.now) }
+    ensures room { OnErr result (vec_capacity text.old < vec_len text.old + room_for out.now) }
 {
     match out {
         Out::Published { no } => number_note(text, b"-no", *no),
@@ -84,13 +88,15 @@ pub fn append(text: &mut Vec<u8>, out: &Out) -> Result<(), NoMemory>
         Out::Line {
             connection,
             text: line,
-        } => line_on(text, connection.as_bytes(), line.as_slice()),
+        } => append_line(text, connection.as_bytes(), line.as_slice()),
     }
 }
 
 /// A note of a word alone.
 fn note(text: &mut Vec<u8>, word: &[u8]) -> Result<(), NoMemory>
-    ensures { OnOk result (text.new.items ≡ text.old.items ++ note word.now) }
+    requires { length word.now ≤ 32 }
+    ensures text { OnOk result (text.new.items ≡ text.old.items ++ note word.now) }
+    ensures room { OnErr result (vec_capacity text.old < vec_len text.old + LONGEST_NOTE) }
 {
     text.extend_from_slice(word)?;
     text.push(b'\n')?;
@@ -99,7 +105,9 @@ fn note(text: &mut Vec<u8>, word: &[u8]) -> Result<(), NoMemory>
 
 /// A note of a word and a number.
 fn number_note(text: &mut Vec<u8>, word: &[u8], n: u64) -> Result<(), NoMemory>
-    ensures { OnOk result (text.new.items ≡ text.old.items ++ number_note word.now n) }
+    requires { length word.now ≤ 11 }
+    ensures text { OnOk result (text.new.items ≡ text.old.items ++ number_note word.now n) }
+    ensures room { OnErr result (vec_capacity text.old < vec_len text.old + LONGEST_NOTE) }
 {
     text.extend_from_slice(word)?;
     text.push(b' ')?;
@@ -108,9 +116,11 @@ fn number_note(text: &mut Vec<u8>, word: &[u8], n: u64) -> Result<(), NoMemory>
     Ok(())
 }
 
-/// A line on a connection.
-fn line_on(text: &mut Vec<u8>, connection: &[u8], line: &[u8]) -> Result<(), NoMemory>
-    ensures { OnOk result (text.new.items ≡ text.old.items ++ line_on connection.now line.now) }
+/// Appends a line on the connection of a name, ended by LF. Where there is room for it no memory is taken.
+pub fn append_line(text: &mut Vec<u8>, connection: &[u8], line: &[u8]) -> Result<(), NoMemory>
+    ensures text { OnOk result (text.new.items ≡ text.old.items ++ line_on connection.now line.now) }
+    ensures room { OnErr result (vec_capacity text.old < vec_len text.old
+        + (length connection.now + (length line.now + 2))) }
 {
     text.extend_from_slice(connection)?;
     text.push(b':')?;

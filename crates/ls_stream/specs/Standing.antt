@@ -10,7 +10,7 @@ use Rattle.ls_world.specs.Acting.{destroyed}
 use Rattle.ls_world.specs.Lawful.{Each}
 use Rattle.ls_world.specs.Steps.{SessionTurn, TurnGives, Gave, Idle, NotDue, Spent, Superseded, Unbound, Over}
 use Rattle.ls_world.specs.Steps.{loop_text, end_text}
-use Rattle.ls_world.specs.declared.TheConstants.{MOST_LINE}
+use Rattle.ls_line.specs.declared.limits.TheConstants.{LONGEST_TEXT}
 use Rattle.ls_stream.specs.declared.lines.Current.{Current}
 use Rattle.ls_stream.specs.declared.lines.Current.TheVariants as current
 use Rattle.ls_stream.specs.declared.lines.Life.{Life as KeptLife}
@@ -60,7 +60,7 @@ after_line bytes k = record k { left = option_map (λ most. most - (bytes + 2)) 
 
 -- a text is no longer than a line may be, and so is each that is kept
 abbrev pub IsShort : List ℕ → Type 0
-IsShort text = length text ≤ MOST_LINE
+IsShort text = length text ≤ LONGEST_TEXT
 
 pub record AreShort (k : Kept) : Type 0 where
   pub owed : Each IsShort k.owed.items

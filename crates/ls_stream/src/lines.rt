@@ -4,7 +4,7 @@ ghost use Rattle.std.specs.Prelude.{IfOk, OnOk, OnErr, IfSome};
 ghost use Rattle.ls_world.specs.Acting.{destroyed, unsent};
 ghost use Rattle.ls_world.specs.Lines.{text_at};
 ghost use Rattle.ls_world.specs.World.{Session, opened, ended, is_alive, timed_out};
-ghost use Rattle.ls_world.specs.declared.TheConstants.{MOST_LINE};
+ghost use Rattle.ls_line.specs.declared.limits.TheConstants.{LONGEST_TEXT};
 ghost use Rattle.ls_stream.specs.Standing.{StandsLines, NumbersLine, IsReadyFor, current_text, life_of, last_line};
 ghost use Rattle.ls_stream.specs.Standing.{room_of, IsRoomier};
 
@@ -155,7 +155,7 @@ impl Lines {
     /// The line that the last turn gave, without CR LF.
     pub fn current(&self) -> &[u8]
         ensures line { result.now ≡ current_text self.now }
-        ensures short { (s : Session) → StandsLines self.now s → length result.now ≤ MOST_LINE }
+        ensures short { (s : Session) → StandsLines self.now s → length result.now ≤ LONGEST_TEXT }
     {
         match self.current {
             Current::Owed => self.given.as_slice(),

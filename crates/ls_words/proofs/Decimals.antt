@@ -1,10 +1,10 @@
 -- Numbers above the highest one, and the last digit of a number.
 use Rattle.std.proofs.Common.{◌≡◌, ◌<◌, ◌≤◌, ◌^◌, ℕ, ◌+◌, ◌*◌, ◌-◌, ◌/◌, ◌%◌, List, [], ◌∷◌, ◌++◌, drop, length, get_or, Bool, true, false, ◌&&◌, nat_le, cond}
-use Rattle.std.proofs.Common.{None, Some, option_and_then, refl, sym, ap, ◌∙◌, arith, append_assoc}
+use Rattle.std.proofs.Common.{None, Some, option_and_then, refl, sym, ap, ◌∙◌, arith, append_assoc, Result, Ok, Err, OnErr}
 use Rattle.std.specs.Fmt.{decimal}
-use Rattle.std.proofs.lemmas.Fmt.{decimal_step, decimal_digit}
+use Rattle.std.proofs.lemmas.Fmt.{decimal_step, decimal_digit, length-decimal-le}
 use Rattle.std.proofs.lemmas.Bool.Decides.{nat_tests}
-use Rattle.std.proofs.lemmas.List.{at_drop_more}
+use Rattle.std.proofs.lemmas.List.{at_drop_more, length-append}
 use Rattle.std.specs.List.{list_all}
 use Rattle.ls_words.specs.Numbers.{value_from, has_form, is_digit, within, number_in}
 
@@ -42,3 +42,18 @@ decimal-more text n more small = append_assoc text (decimal (n / 10)) ((48 + n %
 
 pub decimal-one : (text : List ℕ) (n : ℕ) → n < 10 → text ++ (48 + n) ∷ [] ≡ text ++ decimal n
 decimal-one text n less = ap (λ (ds : List ℕ). text ++ ds) (sym (decimal_digit n less))
+
+-- how long a text is behind which all digits but the last one stand
+pub digits-before : (before after : List ℕ) (n : ℕ) → 10 ≤ n → n < 2 ^ 64 → after ≡ before ++ decimal (n / 10) → length after ≤ length before + 19
+digits-before before after n more small is =
+    omega (
+      arith,
+      ap length is,
+      length-append before (decimal (n / 10)),
+      length-decimal-le 19 (n / 10) (omega arith) (omega arith) (omega arith),
+    )
+
+-- what is true is so where a call failed
+pub on_failed : {A E P : Type 0} (r : Result A E) → P → OnErr r P
+on_failed (Ok a) p = tt
+on_failed (Err e) p = p

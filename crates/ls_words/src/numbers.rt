@@ -1,6 +1,7 @@
 //! Decimal numbers (TLCP 2.1, and this project's profile).
-ghost use Rattle.std.specs.Prelude.{◌≡◌, ◌≤◌, ◌++◌, IfSome, OnOk};
+ghost use Rattle.std.specs.Prelude.{◌≡◌, ◌≤◌, ◌<◌, ◌+◌, ◌++◌, IfSome, OnOk, OnErr};
 ghost use Rattle.std.specs.Fmt.{decimal};
+ghost use Rattle.std.specs.Vec.{vec_len, vec_capacity};
 ghost use Rattle.ls_words.specs.Numbers.{number_in};
 
 use ls_value::NoMemory;
@@ -29,9 +30,13 @@ pub fn number_in(text: &[u8], low: u64, high: u64) -> Option<u64>
     if low <= n { Some(n) } else { None }
 }
 
-/// Appends a number in decimal digits. After `NoMemory` some of them may be there.
+/// Appends a number in decimal digits, of which a `u64` has 20 at most: where there is room for so many no memory is
+/// taken. After `NoMemory` some of them may be there.
 pub fn append_decimal(text: &mut Vec<u8>, n: u64) -> Result<(), NoMemory>
-    ensures { OnOk result (text.new.items ≡ text.old.items ++ decimal n) }
+    ensures text { OnOk result (text.new.items ≡ text.old.items ++ decimal n) }
+    ensures most { OnOk result (vec_len text.new ≤ vec_len text.old + 20) }
+    ensures room { OnErr result (vec_capacity text.old < vec_len text.old + 20) }
+    ensures capacity { vec_capacity text.old ≤ vec_capacity text.new }
 {
     if n >= 10 {
         append_decimal(text, n / 10)?;

@@ -22,7 +22,7 @@ use Rattle.ls_update.specs.Fields.{escape, spell, is_escaped, is_escaped_first, 
 use Rattle.ls_update.specs.Reading.{HasFields}
 use Rattle.ls_mirror.specs.declared.command.KeyPlaces.{KeyPlaces}
 use Rattle.ls_mirror.specs.Client.{What, Row, Lost, Cleared, End, row_or}
-use Rattle.ls_world.specs.declared.TheConstants.{MOST_LINE}
+use Rattle.ls_line.specs.declared.limits.TheConstants.{LONGEST_TEXT}
 use Rattle.ls_world.specs.Came.{Came, whats}
 use Rattle.ls_world.specs.Lines.{last_row, tells_text}
 use Rattle.ls_world.specs.Tables.{with_word, delete_row, what_of_key, table_at, projected_row}
@@ -196,7 +196,7 @@ u_length prev sub rank row a b =
     )
 
 ov_length : (prev : Option (List Value)) (sub rank k : ℕ) → sub < 2 ^ 32 → rank < 2 ^ 32 → k ≤ GREATEST_NUMBER
-    → length (tells_text prev sub rank (Lost k)) ≤ MOST_LINE
+    → length (tells_text prev sub rank (Lost k)) ≤ LONGEST_TEXT
 ov_length prev sub rank k a b c =
     omega (
       arith,
@@ -208,7 +208,7 @@ ov_length prev sub rank k a b c =
       then_length ((codes "OV" ++ 44 ∷ decimal sub) ++ 44 ∷ decimal rank) (decimal k),
     )
 
-cs_length : (prev : Option (List Value)) (sub rank : ℕ) → sub < 2 ^ 32 → rank < 2 ^ 32 → length (tells_text prev sub rank Cleared) ≤ MOST_LINE
+cs_length : (prev : Option (List Value)) (sub rank : ℕ) → sub < 2 ^ 32 → rank < 2 ^ 32 → length (tells_text prev sub rank Cleared) ≤ LONGEST_TEXT
 cs_length prev sub rank a b =
     omega (
       arith,
@@ -218,7 +218,7 @@ cs_length prev sub rank a b =
       then_length (codes "CS" ++ 44 ∷ decimal sub) (decimal rank),
     )
 
-eos_length : (prev : Option (List Value)) (sub rank : ℕ) → sub < 2 ^ 32 → rank < 2 ^ 32 → length (tells_text prev sub rank End) ≤ MOST_LINE
+eos_length : (prev : Option (List Value)) (sub rank : ℕ) → sub < 2 ^ 32 → rank < 2 ^ 32 → length (tells_text prev sub rank End) ≤ LONGEST_TEXT
 eos_length prev sub rank a b =
     omega (
       arith,
@@ -232,14 +232,14 @@ eos_length prev sub rank a b =
 
 row_is_short : (prev : Option (List Value)) (row : List Value) (sub rank n : ℕ) → length row ≤ MOST_FIELDS → sub < 2 ^ 32 → rank < 2 ^ 32
     → most (changed_fields (coded_against prev) row) ≤ 25 * length row + 3 * n → n ≤ MOST_WEIGHT + 6
-    → length (tells_text prev sub rank (Row row)) ≤ MOST_LINE
+    → length (tells_text prev sub rank (Row row)) ≤ LONGEST_TEXT
 row_is_short prev row sub rank n few a b enough light =
     omega (arith, u_length prev sub rank row a b, coded_length prev row n few enough)
 
 -- and of one that weighs no more than an event may and a word
 
 light_is_short : (prev : Option (List Value)) (row : List Value) (sub rank : ℕ) → length row ≤ MOST_FIELDS → sub < 2 ^ 32 → rank < 2 ^ 32
-    → weight_of row ≤ MOST_WEIGHT + 6 → length (tells_text prev sub rank (Row row)) ≤ MOST_LINE
+    → weight_of row ≤ MOST_WEIGHT + 6 → length (tells_text prev sub rank (Row row)) ≤ LONGEST_TEXT
 light_is_short prev row sub rank few a b light =
     row_is_short prev row sub rank (weight_of row) few a b (most_row (coded_against prev) row) light
 
@@ -247,14 +247,14 @@ light_is_short prev row sub rank few a b light =
 
 word_is_short : (at : KeyPlaces) (word : List ℕ) (prev : Option (List Value)) (row : List Value) (places : List ℕ) (sub rank : ℕ)
     → length places ≤ MOST_FIELDS → sub < 2 ^ 32 → rank < 2 ^ 32 → length word ≤ 6 → weight_of (projected row places) ≤ MOST_WEIGHT
-    → length (tells_text prev sub rank (Row (with_word at word (projected row places)))) ≤ MOST_LINE
+    → length (tells_text prev sub rank (Row (with_word at word (projected row places)))) ≤ LONGEST_TEXT
 word_is_short at word prev row places sub rank few a b short light =
     light_is_short prev (with_word at word (projected row places)) sub rank
     (omega (arith, length-set (projected row places) at.command (value.Text word), projected_length row places)) a b
     (omega (arith, set_weight (projected row places) at.command (value.Text word)))
 
 delete_is_short : (at : KeyPlaces) (fields : ℕ) (key : List ℕ) (prev : Option (List Value)) (sub rank : ℕ) → fields ≤ MOST_FIELDS
-    → sub < 2 ^ 32 → rank < 2 ^ 32 → length key ≤ MOST_WEIGHT → length (tells_text prev sub rank (Row (delete_row at fields key))) ≤ MOST_LINE
+    → sub < 2 ^ 32 → rank < 2 ^ 32 → length key ≤ MOST_WEIGHT → length (tells_text prev sub rank (Row (delete_row at fields key))) ≤ LONGEST_TEXT
 delete_is_short at fields key prev sub rank few a b short =
     let keyed : List Value = set (nulls fields) at.key (value.Text key) in
     light_is_short prev (delete_row at fields key) sub rank
@@ -270,7 +270,7 @@ delete_is_short at fields key prev sub rank few a b short =
 -- the line that a cut makes, if it makes one, is short
 abbrev AllShort : Option (List Value) → ℕ → ℕ → Option What → Type 0
 AllShort prev sub rank None = Unit {0}
-AllShort prev sub rank (Some what) = length (tells_text prev sub rank what) ≤ MOST_LINE
+AllShort prev sub rank (Some what) = length (tells_text prev sub rank what) ≤ LONGEST_TEXT
 
 key_is_short : (at : KeyPlaces) (places key : List ℕ) (old row prev : Option (List Value)) (sub rank : ℕ) → length places ≤ MOST_FIELDS
     → sub < 2 ^ 32 → rank < 2 ^ 32 → length key ≤ MOST_WEIGHT → IsLightRow places row
@@ -290,7 +290,7 @@ key_is_short at places key (Some old) (Some r) prev sub rank few a b short light
 
 applied_is_short : (prev : Option (List Value)) (n : ℕ) (cells : List Cell) (sub rank : ℕ) → n ≤ MOST_FIELDS → HasFields n prev
     → sub < 2 ^ 32 → rank < 2 ^ 32 → sum_by weight_of_cell cells ≤ MOST_WEIGHT
-    → length (tells_text prev sub rank (Row (applied (option_map_or (λ r. r) prev (nulls n)) cells))) ≤ MOST_LINE
+    → length (tells_text prev sub rank (Row (applied (option_map_or (λ r. r) prev (nulls n)) cells))) ≤ LONGEST_TEXT
 applied_is_short None n cells sub rank few wide a b light =
     light_is_short None (applied (nulls n) cells) sub rank
     (omega (arith, applied_length (nulls n) cells, length-replicate n value.Null)) a b (omega (arith, applied_weight n cells))
@@ -299,7 +299,7 @@ applied_is_short (Some row) n cells sub rank few wide a b light =
     (omega (arith, applied_length row cells, most_applied row cells)) (omega arith)
 
 change_is_short : (started : Bool) (old new : List Value) (prev : Option (List Value)) (sub rank : ℕ)
-    → length (tells_text prev sub rank (Row new)) ≤ MOST_LINE → AllShort prev sub rank (what_of_change started old new)
+    → length (tells_text prev sub rank (Row new)) ≤ LONGEST_TEXT → AllShort prev sub rank (what_of_change started old new)
 change_is_short started old new prev sub rank short = by_test (started && row_eq old new)
   where
     by_test : (v : Bool) → AllShort prev sub rank (cond v None (Some (Row new)))
@@ -323,7 +323,7 @@ all_short w s cs taken.EndOfSnapshot sub rank few wide light a b = eos_length (l
 -- the line of a light cut has no more bytes than a line may have; the client's row has a value for each place
 pub line_is_short : (w : Wanted) (s : Slot) (cs : List Came) (t : Taken) (what : What) (sub rank : ℕ) → length w.places ≤ MOST_FIELDS
     → HasFields (length w.places) (last_row cs) → IsLight w.places t → sub < 2 ^ 32 → rank < 2 ^ 32 → what_of_cut w s cs t ≡ Some what
-    → length (tells_text (last_row cs) sub rank what) ≤ MOST_LINE
+    → length (tells_text (last_row cs) sub rank what) ≤ LONGEST_TEXT
 line_is_short w s cs t what sub rank few wide light a b is =
     subst (AllShort (last_row cs) sub rank) is (all_short w s cs t sub rank few wide light a b)
 

@@ -14,6 +14,7 @@ use Rattle.ls_form.specs.declared.form.Pair.{Pair}
 use Rattle.ls_form.specs.Forms.{form_of}
 use Rattle.ls_line.specs.declared.line.Line.TheVariants as line
 use Rattle.ls_line.specs.Lines.{text_of_line}
+use Rattle.ls_request.specs.declared.limits.TheConstants.{DEFAULT_KEEPALIVE}
 use Rattle.ls_request.specs.declared.request.LinkKind.{LinkKind}
 use Rattle.ls_request.specs.declared.request.LinkKind.TheVariants as link
 use Rattle.ls_request.specs.declared.request.Request.{Request}
@@ -237,7 +238,7 @@ connects w name l =
 
 -- a create_session without parameters: with the keep-alive that is meant where none is said
 abbrev pub plain_create : Create
-plain_create = record { set = None; keepalive = 5000; bandwidth = None; length = None }
+plain_create = record { set = None; keepalive = DEFAULT_KEEPALIVE; bandwidth = None; length = None }
 
 -- the last of like steps, and one that others may follow
 abbrev pub ends : World → Out → Once

@@ -29,8 +29,5 @@ pub const MOST_SESSIONS: usize = 1024;
 /// How many numbered lines may wait to be given on a session's stream.
 pub const MOST_UNSENT: usize = 512;
 
-/// How many bytes a line has at most, without CR LF.
-pub const MOST_LINE: usize = 16_384;
-
 /// For how long a session may be without a stream, in ms: after that it ends.
 pub const MOST_UNBOUND: u64 = 30_000;

@@ -1,5 +1,12 @@
-use Rattle.ls_hub.proofs.JoinedSlots.{joins_is}
+use Rattle.ls_hub.proofs.JoinedSlots.{joins_is, joined_as}
+use Rattle.std.proofs.Common.{ap, is_some}
 use Rattle.ls_hub.proofs.slots.join.Goals as goal
 
-pub returns-in-Ok : goal.returns-in-Ok
-returns-in-Ok c = joins_is c.args.cells.now c.join.new.self c.args.item.now c.in-Ok.number c.in-Ok.ensures.joined
+pub returns-in-Some-clause-joined : goal.returns-in-Some-clause-joined
+returns-in-Some-clause-joined c =
+    joins_is c.args.cells.now c.join.new.self c.args.item.now c.in_ok-joined.joined c.in-Some.number c.in-Some.is c.in_ok-joined.ensures.joined
+
+pub returns-in-Some-clause-one : goal.returns-in-Some-clause-one
+returns-in-Some-clause-one c =
+    joined_as c.args.cells.now c.join.new.self c.args.item.now c.in_ok-joined.joined c.in-Some.number c.in-Some.is c.in_ok-joined.ensures.joined
+    (λ items lives st. c.in_ok-joined.ensures.may items lives st (ap is_some c.in-Some.is))

@@ -1,7 +1,7 @@
 use Rattle.std.proofs.Common.{refl, ap}
 use Rattle.std.specs.Prelude.{Err, None}
 use Rattle.ls_world.specs.World.{forced}
-use Rattle.ls_hub.proofs.Operated.{refused, has_forced}
+use Rattle.ls_hub.proofs.Operated.{refused, unchanged, has_forced}
 use Rattle.ls_hub.proofs.hub.Hub.force_rebind.Goals as goal
 
 pub returns-in-Err-Code-clause-did : goal.returns-in-Err-Code-clause-did
@@ -15,3 +15,9 @@ returns-in-Ok-clause-did c = λ w s st living.
     has_forced c.args.self.now _ w s c.args.place c.index_mut.result.now c.force_rebind.new.self st living
     (record { low = c.requires; at = c.index_mut.ensures.value; config = refl; tick = refl; connections = refl; sessions = refl }) refl refl
     c.in-Ok.ensures.accepted
+
+pub returns-in-Err-NoMemory-clause-err : goal.returns-in-Err-NoMemory-clause-err
+returns-in-Err-NoMemory-clause-err c = λ w st.
+    unchanged c.args.self.now _ w c.args.place c.index_mut.result.now c.force_rebind.new.self st
+    (record { low = c.requires; at = c.index_mut.ensures.value; config = refl; tick = refl; connections = refl; sessions = refl }) refl
+    (λ items lives cells. cells) c.in-Err-NoMemory.ensures.err

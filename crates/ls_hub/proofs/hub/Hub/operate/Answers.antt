@@ -1,56 +1,43 @@
-use Rattle.std.proofs.Common.{None, subst, sym}
+use Rattle.std.proofs.Common.{◌∙◌, ◌++◌, ap, arith, sym, subst, ℕ, List, Option, Some}
 use Rattle.std.proofs.lemmas.Result.{on_ok_weaker}
-use Rattle.ls_request.specs.declared.request.Op.{Op}
-use Rattle.ls_world.specs.Acting.{add_code, subscribed, change_code, constrain_code, destroyed}
-use Rattle.ls_world.specs.Steps.{operates}
-use Rattle.ls_world.specs.World.{numbered, removed, reconfigured, constrained, forced, ended}
-use Rattle.ls_hub.specs.Hub.{Prints}
-use Rattle.ls_hub.proofs.Requested.{operated_printed}
+use Rattle.ls_line.specs.Lines.{text_of_line}
+use Rattle.ls_step.specs.Notes.{text_of_out}
+use Rattle.ls_step.specs.declared.out.Out.TheVariants as out
+use Rattle.ls_hub.specs.Hub.{name_at}
+use Rattle.ls_hub.specs.Requests.{DidOperate, answer_line, operation, operation_code}
+use Rattle.ls_hub.proofs.Hubs.{on_failed}
+use Rattle.ls_hub.proofs.Requested.{operation_printed, refused_stands, gave_way}
 use Rattle.ls_hub.proofs.hub.Hub.operate.Goals as goal
 
-pub returns-in_ok-code-in-Add : goal.returns-in_ok-code-in-Add
-returns-in_ok-code-in-Add c = on_ok_weaker c.answer.result (λ is w s st living.
-    subst (λ (o : Op). Prints (operates w c.args.connection c.args.req o c.args.place s) c.args.text.now.items c.answer.new.text.items c.subscribe.new.self)
-    (sym c.in-Add.is)
-    (operated_printed c.args.self.now c.subscribe.new.self w c.args.connection c.args.req c.args.place (add_code w s c.in-Add.add) (subscribed w c.in-Add.add)
-    c.in_ok-code-in-Add.code c.args.text.now.items c.answer.new.text.items st c.subscribe.ensures.connections
-    (c.in_ok-code-in-Add.ensures.did w s st living) is)) c.answer.ensures
+pub returns-in_err-answer-clause-err : goal.returns-in_err-answer-clause-err
+returns-in_err-answer-clause-err c = on_failed c.from_residual.result (λ w s st living. st)
 
-pub returns-in_ok-code-in-Delete : goal.returns-in_ok-code-in-Delete
-returns-in_ok-code-in-Delete c = on_ok_weaker c.answer-in-Delete.result (λ is w s st living.
-    subst (λ (o : Op). Prints (operates w c.args.connection c.args.req o c.args.place s) c.args.text.now.items c.answer-in-Delete.new.text.items
-    c.unsubscribe.new.self) (sym c.in-Delete.is)
-    (operated_printed c.args.self.now c.unsubscribe.new.self w c.args.connection c.args.req c.args.place (change_code s c.in-Delete.sub)
-    (numbered (removed c.in-Delete.sub)) c.in_ok-code-in-Delete.code c.args.text.now.items c.answer-in-Delete.new.text.items st
-    c.unsubscribe.ensures.connections (c.in_ok-code-in-Delete.ensures.did w s st living) is)) c.answer-in-Delete.ensures
+pub returns-in_err-change-clause-err : goal.returns-in_err-change-clause-err
+returns-in_err-change-clause-err c = on_failed c.from_residual-in_err-change.result (λ w s st living. c.in_err-change.ensures.err w st)
 
-pub returns-in-Destroy : goal.returns-in-Destroy
-returns-in-Destroy c = on_ok_weaker c.answer-in-Destroy.result (λ is w s st living.
-    subst (λ (o : Op). Prints (operates w c.args.connection c.args.req o c.args.place s) c.args.text.now.items c.answer-in-Destroy.new.text.items
-    c.end.new.self) (sym c.in-Destroy.is)
-    (operated_printed c.args.self.now c.end.new.self w c.args.connection c.args.req c.args.place None (ended destroyed) None c.args.text.now.items
-    c.answer-in-Destroy.new.text.items st c.end.ensures.connections (c.end.ensures.did w s st living) is)) c.answer-in-Destroy.ensures
+pub returns-in-None-clause-ok : goal.returns-in-None-clause-ok
+returns-in-None-clause-ok c = λ w s st living.
+    operation_printed c.args.self.now c.change.new.self w c.args.connection c.args.req.now c.args.op.now c.args.place s c.in_ok-change.field-0
+    c.args.text.now.items c.answer.new.text.items st (c.in_ok-change.ensures.did w s st living)
+    (c.in_ok-answer.ensures
+    ∙ ap (λ (a : Option ℕ). c.args.text.now.items
+    ++ text_of_out (out.Line (name_at c.args.self.now.connections.items c.args.connection) (text_of_line (answer_line c.args.req.now a))))
+    (sym c.in-None.is))
 
-pub returns-in_ok-code-in-Reconf : goal.returns-in_ok-code-in-Reconf
-returns-in_ok-code-in-Reconf c = on_ok_weaker c.answer-in-Reconf.result (λ is w s st living.
-    subst (λ (o : Op). Prints (operates w c.args.connection c.args.req o c.args.place s) c.args.text.now.items c.answer-in-Reconf.new.text.items
-    c.reconf.new.self) (sym c.in-Reconf.is)
-    (operated_printed c.args.self.now c.reconf.new.self w c.args.connection c.args.req c.args.place (change_code s c.in-Reconf.sub)
-    (numbered (reconfigured c.in-Reconf.sub c.in-Reconf.frequency)) c.in_ok-code-in-Reconf.code c.args.text.now.items c.answer-in-Reconf.new.text.items st
-    c.reconf.ensures.connections (c.in_ok-code-in-Reconf.ensures.did w s st living) is)) c.answer-in-Reconf.ensures
+pub returns-in-Some-clause-ok : goal.returns-in-Some-clause-ok
+returns-in-Some-clause-ok c = on_ok_weaker c.answer-in-Some.result (λ is w s st living.
+    operation_printed c.args.self.now c.change.new.self w c.args.connection c.args.req.now c.args.op.now c.args.place s c.in_ok-change.field-0
+    c.args.text.now.items c.answer-in-Some.new.text.items st (c.in_ok-change.ensures.did w s st living)
+    (gave_way c.args.text.now.items _ c.answer.new.text.items c.truncate.new.self.items _ c.answer-in-Some.new.text.items c.len-begin.result
+    (omega (arith, c.len-begin.ensures, c.args.text.now.ok.0)) c.in_ok-answer.ensures c.truncate.ensures.items is
+    ∙ ap (λ (names : List ℕ). c.args.text.now.items ++ text_of_out (out.Line names (text_of_line (answer_line c.args.req.now (Some c.in-Some.code)))))
+    (ap (λ cs. name_at cs.items c.args.connection) c.change.ensures.connections)
+    ∙ ap (λ (a : Option ℕ). c.args.text.now.items
+    ++ text_of_out (out.Line (name_at c.args.self.now.connections.items c.args.connection) (text_of_line (answer_line c.args.req.now a))))
+    (sym c.in-Some.is))) c.answer-in-Some.ensures
 
-pub returns-in_ok-code-in-Constrain : goal.returns-in_ok-code-in-Constrain
-returns-in_ok-code-in-Constrain c = on_ok_weaker c.answer-in-Constrain.result (λ is w s st living.
-    subst (λ (o : Op). Prints (operates w c.args.connection c.args.req o c.args.place s) c.args.text.now.items c.answer-in-Constrain.new.text.items
-    c.constrain.new.self) (sym c.in-Constrain.is)
-    (operated_printed c.args.self.now c.constrain.new.self w c.args.connection c.args.req c.args.place (constrain_code s)
-    (constrained c.in-Constrain.bandwidth) c.in_ok-code-in-Constrain.code c.args.text.now.items c.answer-in-Constrain.new.text.items st
-    c.constrain.ensures.connections (c.in_ok-code-in-Constrain.ensures.did w s st living) is)) c.answer-in-Constrain.ensures
-
-pub returns-in_ok-code-in-ForceRebind : goal.returns-in_ok-code-in-ForceRebind
-returns-in_ok-code-in-ForceRebind c = on_ok_weaker c.answer-in-ForceRebind.result (λ is w s st living.
-    subst (λ (o : Op). Prints (operates w c.args.connection c.args.req o c.args.place s) c.args.text.now.items c.answer-in-ForceRebind.new.text.items
-    c.force_rebind.new.self) (sym c.in-ForceRebind.is)
-    (operated_printed c.args.self.now c.force_rebind.new.self w c.args.connection c.args.req c.args.place None forced c.in_ok-code-in-ForceRebind.code
-    c.args.text.now.items c.answer-in-ForceRebind.new.text.items st c.force_rebind.ensures.connections
-    (c.in_ok-code-in-ForceRebind.ensures.did w s st living) is)) c.answer-in-ForceRebind.ensures
+pub returns-in-Some-clause-err : goal.returns-in-Some-clause-err
+returns-in-Some-clause-err c = on_failed c.answer-in-Some.result (λ w s st living.
+    refused_stands c.change.new.self w c.args.place (operation_code w s c.args.op.now) (operation w c.args.op.now) c.in-Some.code
+    (subst (λ (a : Option ℕ). DidOperate w c.args.place (operation_code w s c.args.op.now) (operation w c.args.op.now) a c.change.new.self) c.in-Some.is
+    (c.in_ok-change.ensures.did w s st living)))

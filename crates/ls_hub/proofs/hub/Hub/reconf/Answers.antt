@@ -2,7 +2,7 @@ use Rattle.std.proofs.Common.{refl, ap}
 use Rattle.std.specs.Prelude.{Err}
 use Rattle.ls_world.specs.Acting.{change_code}
 use Rattle.ls_world.specs.World.{numbered, reconfigured}
-use Rattle.ls_hub.proofs.Operated.{refused, has_reconfigured}
+use Rattle.ls_hub.proofs.Operated.{refused, unchanged, has_reconfigured}
 use Rattle.ls_hub.proofs.hub.Hub.reconf.Goals as goal
 
 pub returns-in-Err-Code-clause-did : goal.returns-in-Err-Code-clause-did
@@ -17,3 +17,9 @@ returns-in-Ok-clause-did c = λ w s st living.
     has_reconfigured c.args.self.now _ w s c.args.place c.index_mut.result.now c.reconf.new.self c.args.sub c.args.frequency st living
     (record { low = c.requires.place; at = c.index_mut.ensures.value; config = refl; tick = refl; connections = refl; sessions = refl }) refl refl
     c.in-Ok.ensures.accepted
+
+pub returns-in-Err-NoMemory-clause-err : goal.returns-in-Err-NoMemory-clause-err
+returns-in-Err-NoMemory-clause-err c = λ w st.
+    unchanged c.args.self.now _ w c.args.place c.index_mut.result.now c.reconf.new.self st
+    (record { low = c.requires.place; at = c.index_mut.ensures.value; config = refl; tick = refl; connections = refl; sessions = refl }) refl
+    (λ items lives cells. cells) c.in-Err-NoMemory.ensures.err

@@ -9,7 +9,7 @@ use Rattle.ls_hub.proofs.hub.Hub.take_once.Goals as goal
 
 pub returns-in_default-clause-ok : goal.returns-in_default-clause-ok
 returns-in_default-clause-ok c = λ w st.
-    no_session c.args.self.now w c.args.connection _ _ st (sym c.in_default.is ∙ c.session_place.ensures.place w st) c.in_ok-append.ensures
+    no_session c.args.self.now w c.args.connection _ _ st (sym c.in_default.is ∙ c.session_place.ensures.place w st) c.in_ok-append.ensures.text
 
 pub returns-clause-ok : goal.returns-clause-ok
 returns-clause-ok c = λ w st.

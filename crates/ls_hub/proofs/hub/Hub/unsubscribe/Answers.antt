@@ -2,7 +2,7 @@ use Rattle.std.proofs.Common.{refl, ap}
 use Rattle.std.specs.Prelude.{Err}
 use Rattle.ls_world.specs.Acting.{change_code}
 use Rattle.ls_world.specs.World.{numbered, removed}
-use Rattle.ls_hub.proofs.Operated.{refused, unsubscribed}
+use Rattle.ls_hub.proofs.Operated.{refused, unchanged, unsubscribed}
 use Rattle.ls_hub.proofs.hub.Hub.unsubscribe.Goals as goal
 
 pub returns-in-Err-Code-clause-did : goal.returns-in-Err-Code-clause-did
@@ -18,3 +18,9 @@ returns-in-Ok-clause-did c = λ w s st living.
     (record { low = c.requires; at = c.index_mut.ensures.value; config = refl; tick = refl; connections = refl; sessions = refl }) refl
     c.in-Ok.ensures.accepted
     (λ items lives left vs cells is. c.leave_all.ensures items lives left vs cells (rw c.deref.ensures.value is))
+
+pub returns-in-Err-NoMemory-clause-err : goal.returns-in-Err-NoMemory-clause-err
+returns-in-Err-NoMemory-clause-err c = λ w st.
+    unchanged c.args.self.now _ w c.args.place c.index_mut.result.now c.delete.new.self st
+    (record { low = c.requires; at = c.index_mut.ensures.value; config = refl; tick = refl; connections = refl; sessions = refl }) refl
+    (λ items lives cells. cells) c.in-Err-NoMemory.ensures.err
