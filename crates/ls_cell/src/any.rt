@@ -63,22 +63,10 @@ impl Buffer for AnyBuffer {
 
     fn enqueue(&mut self, event: &Stored) -> Result<(), NoMemory> {
         match self {
-            AnyBuffer::Raw(buffer) => {
-                Buffer::enqueue(buffer, event)?;
-                Ok(())
-            }
-            AnyBuffer::Merge(buffer) => {
-                Buffer::enqueue(buffer, event)?;
-                Ok(())
-            }
-            AnyBuffer::Distinct(buffer) => {
-                Buffer::enqueue(buffer, event)?;
-                Ok(())
-            }
-            AnyBuffer::Command(buffer) => {
-                Buffer::enqueue(buffer, event)?;
-                Ok(())
-            }
+            AnyBuffer::Raw(buffer) => Buffer::enqueue(buffer, event),
+            AnyBuffer::Merge(buffer) => Buffer::enqueue(buffer, event),
+            AnyBuffer::Distinct(buffer) => Buffer::enqueue(buffer, event),
+            AnyBuffer::Command(buffer) => Buffer::enqueue(buffer, event),
         }
     }
 

@@ -17,7 +17,7 @@ ghost use Rattle.ls_world.specs.Steps.{grown, is_whole};
 ghost use Rattle.ls_world.specs.World.{Item, Live, history_of, shape_at, change, enqueue_slot};
 ghost use Rattle.ls_cells.specs.Cells.{StandsCells, MayJoin, slot_numbered, free_in, far_in, takes_of, fields_of};
 ghost use Rattle.ls_cells.specs.Cells.{cut_of_slot, pending_of_slot};
-ghost use Rattle.ls_cells.specs.Settled.{OthersStay};
+ghost use Rattle.ls_cells.specs.Settled.{OthersStay, KnowsSettled};
 
 use crate::marks::{Marks, clear_marks, has_mark, set_mark};
 use ls_cell::{Enqueued, ItemCell};
@@ -233,22 +233,16 @@ impl Cells {
         ensures err { OnErr result ((items : List Item) (lives : List Live) → StandsCells self.old items lives
             → StandsCells self.new items lives) }
     {
-        let index = item as usize;
-        if index >= self.cells.len() {
-            return Ok(None);
-        }
-        if self.live >= MOST_SLOTS as u32 {
-            return Ok(None);
-        }
-        let below = self.cells[index].slots() as usize + 2;
-        clear_marks(self.alloc, &mut self.settled, index, below)?;
-        match join_on(&mut self.cells[index], mode, n, snapshot)? {
-            None => Ok(None),
-            Some(number) => {
-                self.live += 1;
-                Ok(Some(number))
-            }
-        }
+        join_in(
+            self.alloc,
+            &mut self.cells,
+            &mut self.settled,
+            &mut self.live,
+            item,
+            mode,
+            n,
+            snapshot,
+        )
     }
 
     /// A slot on an item leaves, if it is live; its number is free then. It takes no memory.
@@ -359,6 +353,55 @@ fn pass_on(cell: &mut ItemCell, slot: u32) -> bool
 {
     cell.pass(slot);
     cell.pending(slot)
+}
+
+/// A slot joins one of the items, if it may, and its number; no slot on that item is marked after it.
+fn join_in(
+    alloc: Global,
+    cells: &mut Vec<ItemCell>,
+    settled: &mut Vec<Marks>,
+    live: &mut u32,
+    item: u32,
+    mode: Mode,
+    n: u32,
+    snapshot: Snap,
+) -> Result<Option<u32>, NoMemory>
+    requires { KnowsSettled settled.old.items cells.old.items }
+    ensures settled { KnowsSettled settled.new.items cells.new.items }
+    ensures joined { IfOk result (λ number. (items : List Item) (a b : List Live) (v : Live)
+        → StandsCells (record { cells = cells.old.items; live = live.old }) items (a ++ b) → v.item ≡ item
+        → item < length items → is_mode_of mode (shape_at items item).kind ≡ true → 0 < n → n ≤ MOST_BUFFER_SIZE
+        → length (a ++ b) < MOST_SLOTS → v.number ≡ free_in (a ++ b) item
+        → v.slot ≡ joined (plan_of (shape_at items item) (history_of items item) mode n) (history_of items item)
+        (rows_asked snapshot)
+        → (number ≡ Some v.number)
+        × StandsCells (record { cells = cells.new.items; live = live.new }) items (a ++ v ∷ b)) }
+    ensures may { IfOk result (λ number. (items : List Item) (lives : List Live)
+        → StandsCells (record { cells = cells.old.items; live = live.old }) items lives → IsSome number
+        → MayJoin items lives item mode n) }
+    ensures none { IfOk result (λ number. number ≡ None
+        → (cells.new.items ≡ cells.old.items) × (live.new ≡ live.old)) }
+    ensures err { OnErr result ((cells.new.items ≡ cells.old.items) × (live.new ≡ live.old)) }
+{
+    let index = item as usize;
+    if index >= cells.len() {
+        return Ok(None);
+    }
+    if *live >= MOST_SLOTS as u32 {
+        return Ok(None);
+    }
+    let below = cells[index].slots() as usize + 2;
+    let Ok(()) = clear_marks(alloc, settled, index, below) else {
+        return Err(NoMemory);
+    };
+    match join_on(&mut cells[index], mode, n, snapshot) {
+        Err(cause) => Err(cause),
+        Ok(None) => Ok(None),
+        Ok(Some(number)) => {
+            *live += 1;
+            Ok(Some(number))
+        }
+    }
 }
 
 /// A slot joins an item, if it may, and its number.

@@ -1,16 +1,27 @@
 //! The answers to requests (TLCP 2.1, REQOK, REQERR, CONERR, ERROR and WSOK).
-ghost use Rattle.std.specs.Prelude.{◌≡◌, IfOk, Some};
+ghost use Rattle.std.specs.Prelude.{◌≡◌, ◌<◌, ◌+◌, ◌++◌, IfOk, OnOk, OnErr, Some};
+ghost use Rattle.std.specs.Vec.{vec_len, vec_capacity};
 ghost use Rattle.ls_line.specs.declared.line.Line.TheVariants as line;
+ghost use Rattle.ls_step.specs.Notes.{text_of_out, room_for};
 ghost use Rattle.ls_world.specs.Acting.{message_of};
 ghost use Rattle.ls_world.specs.Steps.{is_opening};
 ghost use Rattle.ls_hub.specs.Requests.{answer_line, malformed_line};
 
 use ls_line::Line;
+use ls_step::{Out, append};
 use ls_value::{NoMemory, Text, same_bytes};
 use std::alloc::Global;
 
 /// The code of a malformed request.
 const MALFORMED: u16 = 65;
+
+/// Appends what is printed. Its drop is proved here, once for all callers.
+pub(crate) fn append_out(text: &mut Vec<u8>, out: Out) -> Result<(), NoMemory>
+    ensures text { OnOk result (text.new.items ≡ text.old.items ++ text_of_out out) }
+    ensures room { OnErr result (vec_capacity text.old < vec_len text.old + room_for out) }
+{
+    append(text, &out)
+}
 
 /// The answer to a control request of this name: REQOK where it was done, or REQERR where it was refused for the cause
 /// of a code.

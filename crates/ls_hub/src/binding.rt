@@ -5,12 +5,13 @@ ghost use Rattle.ls_world.specs.Steps.{binds, loses};
 ghost use Rattle.ls_hub.specs.Hub.{StandsHub, StandsAsBefore, Prints};
 ghost use Rattle.ls_hub.specs.Requests.{IsLiving, DidOperate, binds_living, out_of_loss};
 
+use crate::answers::append_out;
 use crate::controlling::UNKNOWN_SESSION;
 use crate::creating::give_session;
 use crate::hub::Hub;
 use ls_request::Bind;
 use ls_session::Lost;
-use ls_step::{LONGEST_NOTE, Out, append};
+use ls_step::{LONGEST_NOTE, Out};
 use ls_subs::Refusal;
 use ls_value::NoMemory;
 
@@ -80,13 +81,13 @@ impl Hub {
         ensures err { OnErr result (StandsAsBefore self.old self.new) }
     {
         let Some(place) = self.session_place(connection as usize) else {
-            return append(text, &Out::NoSession);
+            return append_out(text, Out::NoSession);
         };
         text.reserve(LONGEST_NOTE)?;
         let epoch = self.epoch_of(connection as usize);
         let now = self.tick;
         let lost = self.sessions[place].lose(epoch, now);
-        append(text, &out_of_loss(lost))
+        append_out(text, out_of_loss(lost))
     }
 }
 

@@ -17,7 +17,7 @@ ghost use Rattle.ls_hub.specs.Requests.{operation, operation_code};
 
 use crate::answers::answer;
 use crate::hub::Hub;
-use crate::slots::{join_all, leave_all};
+use crate::slots::{joined, leave_all};
 use crate::ticking::leave_out;
 use ls_request::{Add, Control, Op};
 use ls_session::DESTROYED;
@@ -137,8 +137,7 @@ impl Hub {
             Err(Refusal::Code(code)) => Ok(Some(code)),
             Err(Refusal::NoMemory) => Err(NoMemory),
             Ok(plan) => {
-                let mut numbers = Vec::with_capacity(self.alloc, plan.items.len())?;
-                join_all(&mut self.cells, &plan.items, &mut numbers)?;
+                let numbers = joined(self.alloc, &mut self.cells, &plan.items)?;
                 self.sessions[place].finish_add(plan, &numbers);
                 Ok(None)
             }
@@ -229,7 +228,7 @@ impl Hub {
             (out.Line (name_at self.now.connections.items connection) (text_of_line (answer_line req.now code)))) }
     {
         let line = answer(self.alloc, req, code)?;
-        self.line(connection, &line, text)
+        self.line(connection, line, text)
     }
 }
 

@@ -90,7 +90,7 @@ impl Hub {
             → Prints (refuses_stream w connection code) text.old.items text.new.items self.now) }
     {
         let line = session_refused(self.alloc, code)?;
-        self.line(connection, &line, text)
+        self.line(connection, line, text)
     }
 }
 

@@ -11,10 +11,11 @@ ghost use Rattle.ls_hub.specs.Hub.{StandsHub, StandsAsBefore, Prints, DidOnce, s
 ghost use Rattle.ls_hub.specs.Hub.{out_enqueued, has_moved};
 ghost use Rattle.ls_hub.specs.Quiet.{DidFewer};
 
+use crate::answers::append_out;
 use crate::hub::Hub;
 use ls_cell::Enqueued;
 use ls_event::{Event, PublishRefused};
-use ls_step::{LONGEST_NOTE, Out, append};
+use ls_step::{LONGEST_NOTE, Out};
 use ls_subs::SlotRef;
 use ls_value::NoMemory;
 
@@ -81,11 +82,11 @@ impl Hub {
     {
         text.reserve(LONGEST_NOTE)?;
         let Some(slot) = self.slot_of(connection, sub, rank) else {
-            append(text, &Out::NoSlot)?;
+            append_out(text, Out::NoSlot)?;
             return Ok(false);
         };
         let answer = self.cells.enqueue(slot.item, slot.slot)?;
-        append(text, &out_enqueued(answer))?;
+        append_out(text, out_enqueued(answer))?;
         Ok(has_moved(answer))
     }
 
@@ -139,6 +140,6 @@ fn append_published(text: &mut Vec<u8>, answer: Result<u64, PublishRefused>) -> 
         Err(PublishRefused::Spent) => Out::Spent,
         Err(PublishRefused::NoMemory) => return Err(NoMemory),
     };
-    append(text, &out)?;
+    append_out(text, out)?;
     Ok(())
 }

@@ -94,12 +94,12 @@ impl Hub {
             }
             Step::Conn { name, link } => self.connect(name, link),
             Step::Open { name } => self.connect_and_open(name, text),
-            Step::Add { connection, words } => self.add(line, connection, &words, text),
+            Step::Add { connection, words } => self.add(line, connection, words, text),
             Step::Request {
                 connection,
                 name,
                 parameters,
-            } => self.request_form(connection, &name, &parameters, text),
+            } => self.request_form(connection, &name, parameters, text),
             Step::Publish {
                 adapter,
                 seq,

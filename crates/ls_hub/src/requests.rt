@@ -27,15 +27,15 @@ impl Hub {
         &mut self,
         line: u64,
         connection: u32,
-        words: &AddWords,
+        words: AddWords,
         text: &mut Vec<u8>,
     ) -> Result<(), NoMemory>
         ensures ok { OnOk result ((w : World) → StandsHub self.old w → line ≡ w.line
-            → Prints (requests w connection link.Ws (codes "control") (add_pairs w.line words.now)) text.old.items
+            → Prints (requests w connection link.Ws (codes "control") (add_pairs w.line words)) text.old.items
             text.new.items self.new) }
         ensures err { OnErr result (StandsAsBefore self.old self.new) }
     {
-        let params = add_params(self.alloc, line, words)?;
+        let params = params_of(self.alloc, line, words)?;
         self.request(connection, LinkKind::Ws, b"control", params, text)
     }
 
@@ -44,15 +44,15 @@ impl Hub {
         &mut self,
         connection: u32,
         name: &Text,
-        parameters: &Bytes,
+        parameters: Bytes,
         text: &mut Vec<u8>,
     ) -> Result<(), NoMemory>
         ensures ok { OnOk result ((w : World) → StandsHub self.old w
-            → Prints (requests w connection (link_of w connection) name.now (form_of parameters.now)) text.old.items
+            → Prints (requests w connection (link_of w connection) name.now (form_of parameters)) text.old.items
             text.new.items self.new) }
         ensures err { OnErr result (StandsAsBefore self.old self.new) }
     {
-        let params = form(self.alloc, parameters.as_slice())?;
+        let params = form(self.alloc, parameters)?;
         let link = self.link_of(connection as usize);
         self.request(connection, link, name.as_bytes(), params, text)
     }
@@ -125,7 +125,7 @@ impl Hub {
             Request::Create(create) => self.open(connection, &create, text),
             Request::Bind(bind) => self.bind(connection, &bind, text),
             Request::Control(control) => self.control(connection, &control, text),
-            Request::Wsok => self.line(connection, &Line::WsOk, text),
+            Request::Wsok => self.line(connection, Line::WsOk, text),
         }
     }
 
@@ -141,16 +141,25 @@ impl Hub {
             → Prints (malformed w connection name.now req) text.old.items text.new.items self.now) }
     {
         let line = malformed(self.alloc, name, req)?;
-        self.line(connection as usize, &line, text)
+        self.line(connection as usize, line, text)
     }
 
-    /// Appends a line on a connection, ended by LF (this project's profile).
+    /// Appends a line on a connection, ended by LF (this project's profile). Its drop is proved here, once for all
+    /// callers.
     pub(crate) fn line(
         &self,
         connection: usize,
-        line: &Line,
+        line: Line,
         text: &mut Vec<u8>,
     ) -> Result<(), NoMemory>
+        ensures { OnOk result (text.new.items ≡ text.old.items
+            ++ text_of_out (out.Line (name_at self.now.connections.items connection) (text_of_line line))) }
+    {
+        self.lent_line(connection, &line, text)
+    }
+
+    /// Appends it.
+    fn lent_line(&self, connection: usize, line: &Line, text: &mut Vec<u8>) -> Result<(), NoMemory>
         ensures { OnOk result (text.new.items ≡ text.old.items
             ++ text_of_out (out.Line (name_at self.now.connections.items connection) (text_of_line line.now))) }
     {
@@ -162,11 +171,18 @@ impl Hub {
     }
 }
 
-/// The parameters of a form text: `None` exactly where it is no form.
-fn form(alloc: Global, text: &[u8]) -> Result<Option<Params>, NoMemory>
-    ensures { IfOk result (λ params. params ≡ form_of text.now) }
+/// The parameters that the words of an `add` line stand for: `None` where one is no UTF-8. Their drop is proved here.
+fn params_of(alloc: Global, line: u64, words: AddWords) -> Result<Option<Params>, NoMemory>
+    ensures { IfOk result (λ params. params ≡ add_pairs line words) }
 {
-    match pairs(alloc, text) {
+    add_params(alloc, line, &words)
+}
+
+/// The parameters of a form text: `None` exactly where it is no form.
+fn form(alloc: Global, text: Bytes) -> Result<Option<Params>, NoMemory>
+    ensures { IfOk result (λ params. params ≡ form_of text) }
+{
+    match pairs(alloc, text.as_slice()) {
         Ok(params) => Ok(Some(params)),
         Err(FormRefused::NoMemory) => Err(NoMemory),
         Err(_) => Ok(None),

@@ -9,6 +9,25 @@ ghost use Rattle.ls_hub.specs.Requests.{Joins, JoinInOrder, JoinedAs, Leave};
 use ls_cells::Cells;
 use ls_subs::{PlanItem, SlotRef};
 use ls_value::NoMemory;
+use std::alloc::Global;
+
+/// The items of a plan join in their order: the numbers of their slots. Where one can't join, all is as before.
+pub(crate) fn joined(
+    alloc: Global,
+    cells: &mut Cells,
+    items: &[PlanItem],
+) -> Result<Vec<u32>, NoMemory>
+    ensures count { IfOk result (λ numbers. length numbers.items ≡ length items.now) }
+    ensures joined { IfOk result (λ numbers. (declared : List Item) (a b vs : List Live)
+        → StandsCells cells.old declared (a ++ b) → JoinInOrder declared a b items.now vs
+        → (numbers.items ≡ map (λ v. v.number) vs) × StandsCells cells.new declared ((a ++ vs) ++ b)) }
+    ensures err { OnErr result ((declared : List Item) (lives : List Live) → StandsCells cells.old declared lives
+        → StandsCells cells.new declared lives) }
+{
+    let mut numbers = Vec::with_capacity(alloc, items.len())?;
+    join_all(cells, items, &mut numbers)?;
+    Ok(numbers)
+}
 
 /// The items of a plan join in their order; the numbers of their slots come behind others. Where one can't join, those
 /// before it leave again, and all is as before.

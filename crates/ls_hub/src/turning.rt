@@ -2,29 +2,30 @@
 //! and the slot moves past what was taken. Of a slot that isn't due the hub only looks whether it waits. Behind a slot
 //! that has nothing the hub passes over those that are known to be settled, without a question.
 ghost use Rattle.std.specs.Prelude.{◌≡◌, ◌≤◌, ◌<◌, ◌+◌, ◌++◌, ◌∷◌, ℕ, length, List, Some, IsSome, IfOk, OnOk, OnErr};
-ghost use Rattle.std.specs.Prelude.{true, false};
+ghost use Rattle.std.specs.Prelude.{true, false, None};
 ghost use Rattle.std.specs.Vec.{vec_len, vec_capacity};
 ghost use Rattle.ls_value.specs.declared.limits.TheConstants.{GREATEST_TICK};
 ghost use Rattle.ls_step.specs.Notes.{text_of_out};
 ghost use Rattle.ls_event.specs.declared.event.Taken.{Taken as Cut};
-ghost use Rattle.ls_event.specs.Cuts.{cut};
+ghost use Rattle.ls_event.specs.Cuts.{cut, is_pending};
 ghost use Rattle.ls_world.specs.World.{World, Item, Live, history_of};
 ghost use Rattle.ls_world.specs.Steps.{take_once as one_turn, repeated};
 ghost use Rattle.ls_cells.specs.Cells.{StandsCells, cut_of_slot};
-ghost use Rattle.ls_subs.specs.Standing.{passed_live};
-ghost use Rattle.ls_session.specs.Record.{Record};
+ghost use Rattle.ls_subs.specs.Standing.{passed_live, ref_of};
+ghost use Rattle.ls_session.specs.Record.{Record, Question};
 ghost use Rattle.ls_session.specs.Session.{StandsSession};
 ghost use Rattle.ls_session.specs.declared.session.Turn.TheVariants as given;
 ghost use Rattle.ls_hub.specs.Hub.{StandsHub, Prints, DidOnce};
 ghost use Rattle.ls_hub.specs.Quiet.{StandsQuiet, FailedBehind};
-ghost use Rattle.ls_hub.specs.Turning.{turn_from, TakesAnswer, KeepsQuestion, GoesOn, Unasked, MaySkip, IsNextSettled};
+ghost use Rattle.ls_hub.specs.Turning.{turn_from, HasAsked, TakesAnswer, KeepsQuestion, GoesOn, Unasked, MaySkip, IsNextSettled};
 ghost use Rattle.ls_hub.specs.Turning.{TurnEnded, TurnFailed, out_of_turn, gave_line};
 
+use crate::answers::append_out;
 use crate::hub::Hub;
 use ls_cells::Cells;
 use ls_line::LONGEST_TEXT;
 use ls_session::{Ask, Reply, Session, Turn};
-use ls_step::{Out, append, append_line};
+use ls_step::{Out, append_line};
 use ls_value::{GREATEST_NUMBER, NoMemory};
 
 impl Hub {
@@ -58,7 +59,7 @@ impl Hub {
         ensures err { OnErr result ((w : World) → StandsHub self.old w → StandsQuiet w self.new) }
     {
         let Some(place) = self.session_place(connection) else {
-            append(text, &Out::NoSession)?;
+            append_out(text, Out::NoSession)?;
             return Ok(false);
         };
         let epoch = self.epoch_of(connection);
@@ -118,11 +119,7 @@ fn tell_cut(cells: &mut Cells, session: &mut Session, ask: Ask) -> Result<(), No
     ensures err { OnErr result (KeepsQuestion session.old cells.old session.new cells.new) }
 {
     match cells.look(ask.slot.item, ask.slot.slot)? {
-        None => {
-            session.answer(ask, Reply::Nothing)?;
-            pass_settled(cells, session);
-            Ok(())
-        }
+        None => answer_nothing(cells, session, ask),
         Some(taken) => {
             session.answer(ask, Reply::Taken(taken))?;
             pass_taken(cells, ask);
@@ -141,10 +138,24 @@ fn tell_waiting(cells: &Cells, session: &mut Session, ask: Ask) -> Result<(), No
         session.answer(ask, Reply::Waiting)?;
         Ok(())
     } else {
-        session.answer(ask, Reply::Nothing)?;
-        pass_settled(cells, session);
-        Ok(())
+        answer_nothing(cells, session, ask)
     }
+}
+
+/// Answers that a slot has nothing, and passes over those behind it that are known to be settled. After `NoMemory` the
+/// question stands, and all is as before.
+fn answer_nothing(cells: &Cells, session: &mut Session, ask: Ask) -> Result<(), NoMemory>
+    ensures ok { OnOk result ((now : ℕ) (items : List Item) (epoch : ℕ) (before behind : List Live) (r : Record)
+        (q : Question) → HasAsked now items epoch before behind r q session.old cells.now
+        → ask ≡ record { slot = ref_of q.live; due = q.due }
+        → (q.due ≡ true → cut (history_of items q.live.item) q.live.slot ≡ None)
+        → (q.due ≡ false → is_pending (history_of items q.live.item) q.live.slot ≡ false)
+        → GoesOn now items epoch before behind r session.new cells.now) }
+    ensures err { OnErr result (KeepsQuestion session.old cells.now session.new cells.now) }
+{
+    session.answer(ask, Reply::Nothing)?;
+    pass_settled(cells, session);
+    Ok(())
 }
 
 /// The slots that are asked next are passed over as far as they are known to be settled, where a number is left for a
@@ -206,13 +217,13 @@ fn append_turn(text: &mut Vec<u8>, name: &[u8], current: &[u8], turn: Turn) -> R
 {
     match turn {
         Turn::Send => append_line(text, name, current),
-        Turn::NotDue { at } => append(text, &Out::NotDue { at }),
-        Turn::Ended { code } => append(text, &Out::Ended { code }),
-        Turn::Superseded { epoch } => append(text, &Out::Superseded { epoch }),
-        Turn::Unbound => append(text, &Out::Unbound),
-        Turn::Spent => append(text, &Out::Spent),
-        Turn::Ask(_) => append(text, &Out::Idle),
-        Turn::Idle => append(text, &Out::Idle),
+        Turn::NotDue { at } => append_out(text, Out::NotDue { at }),
+        Turn::Ended { code } => append_out(text, Out::Ended { code }),
+        Turn::Superseded { epoch } => append_out(text, Out::Superseded { epoch }),
+        Turn::Unbound => append_out(text, Out::Unbound),
+        Turn::Spent => append_out(text, Out::Spent),
+        Turn::Ask(_) => append_out(text, Out::Idle),
+        Turn::Idle => append_out(text, Out::Idle),
     }
 }
 

@@ -296,35 +296,24 @@ update_done s t cells kept i x y row answer e table same is but at made at' give
     (made ∙ ap (applied x.row) but)))
 
 -- the cell at a place
-cell_here : (cells : List Cell) (place : ℕ) (c : Cell) → place < length cells → c ≡ get_or cells place c
+pub cell_here : (cells : List Cell) (place : ℕ) (c : Cell) → place < length cells → c ≡ get_or cells place c
     → c ≡ cell_at cells place
 cell_here cells place c within at =
     let here : Some (get_or cells place c) ≡ Some (cell_at cells place) =
     sym (slice_get-get_or cells place c within) ∙ slice_get-get_or cells place cell.Same within in
     at ∙ ap (λ o. unwrap_or o c) here
 
-pub insert_done : (s t : KeyTable) (cells kept : List Cell) (i : ℕ) (key : List ℕ) (c : Cell) (row answer : List Value)
-    → s ≡ t → IsKeyTable (shape_in s) s.keys → length cells ≡ t.fields
-    → IsChange (shape_in t) t.keys cells (change.Insert i)
-    → keys_refusal (shape_in t) (state.Command t.keys) (Update cells) ≡ None → kept ≡ set cells s.command cell.Null
-    → key ≡ text_of_cell c → c ≡ get_or cells s.key c → row ≡ applied (nulls s.fields) kept → answer ≡ row
-    → Done s t cells (insert s.keys i (keyed key row)) (Some answer)
-insert_done s t cells kept i key c row answer e table same is few but said at made given =
-    let same' : length cells ≡ s.fields = same ∙ ap (λ (u : KeyTable). u.fields) (sym e) in
-    let named : key ≡ key_of (shape_in s) cells = said ∙ ap text_of_cell
-    (cell_here cells s.key c (omega (arith, table.key, same')) at) in
-    subst (λ (l : List Value). Done s t cells (insert s.keys i (keyed key row)) (Some l)) (sym given)
-    (done s t cells (insert s.keys i (keyed key row)) (Some row) e
-    (insert_changed (shape_in s) s.keys cells i key row table same'
+pub insert_done : (s t : KeyTable) (cells : List Cell) (i : ℕ) (row : List Value) → s ≡ t
+    → IsKeyTable (shape_in s) s.keys → length cells ≡ t.fields → IsChange (shape_in t) t.keys cells (change.Insert i)
+    → keys_refusal (shape_in t) (state.Command t.keys) (Update cells) ≡ None
+    → row ≡ applied (nulls s.fields) (set cells s.command cell.Null)
+    → Done s t cells (insert s.keys i (keyed (text_of_cell (cell_at cells s.key)) row)) (Some row)
+insert_done s t cells i row e table same is few made =
+    done s t cells (insert s.keys i (keyed (text_of_cell (cell_at cells s.key)) row)) (Some row) e
+    (insert_changed (shape_in s) s.keys cells i (text_of_cell (cell_at cells s.key)) row table
+    (same ∙ ap (λ (u : KeyTable). u.fields) (sym e))
     (subst (λ (u : KeyTable). IsChange (shape_in u) u.keys cells (change.Insert i)) (sym e) is)
-    (subst (λ (u : KeyTable). keys_refusal (shape_in u) (state.Command u.keys) (Update cells) ≡ None) (sym e) few) named
-    (made ∙ ap (applied (nulls s.fields)) but)))
-
--- a table that stays or is another
-pub either_table : (p : Shape) (v : Bool) (a b : List KeyedRow) → IsKeyTable p a → IsKeyTable p b
-    → IsKeyTable p (cond v a b)
-either_table p true a b t u = t
-either_table p false a b t u = u
+    (subst (λ (u : KeyTable). keys_refusal (shape_in u) (state.Command u.keys) (Update cells) ≡ None) (sym e) few) refl made)
 
 -- only a new key is added
 

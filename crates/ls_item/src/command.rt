@@ -1,10 +1,13 @@
 //! The state of a COMMAND item.
 ghost use Rattle.std.specs.Prelude.{◌≡◌, ◌<◌, length, List, [], ◌∷◌, Some, None, IfOk, OnOk, OnErr};
-ghost use Rattle.std.specs.Prelude.{nat_le, ◌&&◌};
+ghost use Rattle.std.specs.Prelude.{nat_le, ◌≤◌, ◌&&◌, set};
+ghost use Rattle.std.specs.List.{insert};
+ghost use Rattle.ls_value.specs.declared.row.Cell.TheVariants as field_cell;
+ghost use Rattle.ls_value.specs.Values.{applied, nulls, cell_at};
 ghost use Rattle.ls_event.specs.declared.event.Event.TheVariants as event;
 ghost use Rattle.ls_event.specs.declared.snapshot.Snapshot.TheVariants as state;
 ghost use Rattle.ls_event.specs.History.{HasFields, RowFits};
-ghost use Rattle.ls_event.specs.Keyed.{keyed_after, deletes};
+ghost use Rattle.ls_event.specs.Keyed.{keyed_after, deletes, text_of_cell};
 ghost use Rattle.ls_event.specs.States.{key_row, push_refusal, order_cause, keys_refusal, weight_made, key_row_made};
 ghost use Rattle.ls_event.specs.States.{adds_key, PushAnswers};
 ghost use Rattle.ls_event.specs.Orders.{order_of};
@@ -299,16 +302,63 @@ impl CommandState {
         ensures fits { IfOk result (RowFits self.old.fields) }
         ensures err { OnErr result (self.new ≡ self.old) }
     {
-        let mut row = Row::nulls(self.alloc, self.fields)?;
-        apply_owned(
-            &mut row,
-            cells_but(self.alloc, cells.as_slice(), self.command)?,
-        );
-        let after = row.copy(self.alloc)?;
-        let key = text_copy(self.alloc, &cells.as_slice()[self.key])?;
-        self.rows.insert(at, KeyedRow { key, row })?;
-        Ok(Some(after))
+        let row = insert_row(
+            self.alloc,
+            &mut self.rows,
+            at,
+            cells,
+            self.fields,
+            self.key,
+            self.command,
+        )?;
+        Ok(Some(row))
     }
+}
+
+/// Puts the key of an update with its new row at an index, and answers a copy of that row.
+fn insert_row(
+    alloc: Global,
+    rows: &mut Vec<KeyedRow>,
+    at: usize,
+    cells: &Cells,
+    fields: usize,
+    key: usize,
+    command: usize,
+) -> Result<Row, NoMemory>
+    requires at { at ≤ length rows.old.items }
+    requires cells { length cells.now ≡ fields }
+    requires key { key < fields }
+    ensures row { IfOk result (λ row. row ≡ applied (nulls fields) (set cells.now command field_cell.Null)) }
+    ensures ok { IfOk result (λ row. rows.new.items ≡ insert rows.old.items at (record
+        { key = text_of_cell (cell_at cells.now key); row = row })) }
+    ensures err { OnErr result (rows.new.items ≡ rows.old.items) }
+{
+    let made = new_key(alloc, cells, fields, key, command)?;
+    let after = made.row.copy(alloc)?;
+    rows.insert(at, made)?;
+    Ok(after)
+}
+
+/// The key of an update, with the row that it makes where there was none.
+fn new_key(
+    alloc: Global,
+    cells: &Cells,
+    fields: usize,
+    key: usize,
+    command: usize,
+) -> Result<KeyedRow, NoMemory>
+    requires cells { length cells.now ≡ fields }
+    requires key { key < fields }
+    ensures { IfOk result (λ made. made ≡ record {
+      key = text_of_cell (cell_at cells.now key);
+      row = applied (nulls fields) (set cells.now command field_cell.Null);
+    }) }
+{
+    let text = text_copy(alloc, &cells.as_slice()[key])?;
+    let kept = cells_but(alloc, cells.as_slice(), command)?;
+    let mut row = Row::nulls(alloc, fields)?;
+    apply_owned(&mut row, kept);
+    Ok(KeyedRow { key: text, row })
 }
 
 /// The cause that stands against an update without a key or an order. It takes no memory.

@@ -11,6 +11,8 @@ use Rattle.ls_line.specs.declared.table.Word.{Word}
 use Rattle.ls_line.specs.declared.table.Word.TheVariants as word
 use Rattle.ls_line.specs.declared.table.Lent.{Lent}
 use Rattle.ls_line.specs.declared.table.Lent.TheVariants as lent
+use Rattle.ls_line.specs.declared.writing.Shape.{Shape as Lending}
+use Rattle.ls_line.specs.declared.writing.Shape.TheVariants as lending
 
 -- the parts that are the same in each line of their tag
 abbrev pub word_text : Word → List ℕ
@@ -34,7 +36,7 @@ pub record Shape : Type 0 where
   pub counts : Bool
   pub parts : List Part
 
--- a line that PROG doesn't count, and a data line, which it counts
+-- a line that PROG doesn't count, and a numbered line, which it counts
 abbrev pub free : List ℕ → List Part → Shape
 free tag parts = record { tag = tag; counts = false; parts = parts }
 
@@ -75,9 +77,9 @@ is_of_message (line.MsgDone sequence number) = true
 is_of_message (line.MsgFail sequence number code message) = true
 is_of_message l = false
 
--- the data lines, which PROG counts
-abbrev pub is_data : Line → Bool
-is_data l = (shape_of l).counts
+-- whether a line is a numbered line, which PROG counts
+abbrev pub is_counted : Line → Bool
+is_counted l = (shape_of l).counts
 
 -- the text of a part
 abbrev pub part_text : Part → List ℕ
@@ -100,6 +102,15 @@ lent_text (lent.Coded bytes) = bytes.now
 abbrev pub then_texts : List ℕ → List (List ℕ) → List ℕ
 then_texts text [] = text
 then_texts text (t ∷ texts) = then_texts (text ++ 44 ∷ t) texts
+
+-- a tag with the parts that a line lends
+abbrev pub shape_text : Lending → List ℕ
+shape_text (lending.Alone tag) = tag.now
+shape_text (lending.One tag a) = then_texts tag.now (map lent_text (a ∷ []))
+shape_text (lending.Two tag a b) = then_texts tag.now (map lent_text (a ∷ b ∷ []))
+shape_text (lending.Three tag a b c) = then_texts tag.now (map lent_text (a ∷ b ∷ c ∷ []))
+shape_text (lending.Four tag a b c d) = then_texts tag.now (map lent_text (a ∷ b ∷ c ∷ d ∷ []))
+shape_text (lending.Five tag a b c d e) = then_texts tag.now (map lent_text (a ∷ b ∷ c ∷ d ∷ e ∷ []))
 
 -- the text of a line, without CR LF
 abbrev pub text_of_line : Line → List ℕ

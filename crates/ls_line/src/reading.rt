@@ -4,7 +4,7 @@ ghost use Rattle.std.specs.List.{list_all};
 ghost use Rattle.std.specs.Str.{is_utf8};
 ghost use Rattle.ls_line.specs.Lines.{text_of_line, is_message_byte, IsWritable};
 ghost use Rattle.ls_line.specs.Forms.{kinds_of};
-ghost use Rattle.ls_line.specs.Pieces.{first_piece};
+ghost use Rattle.ls_line.specs.Pieces.{behind, first_piece};
 ghost use Rattle.ls_line.specs.Reading.{piece, has_rest, has_parts, ordinal_in, count_in, or_zero};
 ghost use Rattle.ls_line.specs.Reading.{is_bad_number, is_bad_text, first_bad, cause_behind, refusal, line_behind};
 ghost use Rattle.ls_line.specs.Reading.{line_of, AnswersFirst};
@@ -185,6 +185,16 @@ fn both_owned(alloc: Global, first: &[u8], second: &[u8]) -> Result<(Text, Text)
     Ok((first, second))
 }
 
+/// Two ordinals that the first two pieces say, and what stands behind these.
+fn two_ordinals(rest: &[u8]) -> (u32, u32, &[u8])
+    ensures first { result.0 ≡ or_zero (ordinal_in (first_piece rest.now)) }
+    ensures second { result.1 ≡ or_zero (ordinal_in (first_piece (behind rest.now))) }
+    ensures rest { result.2.now ≡ behind (behind rest.now) }
+{
+    let next = behind(rest);
+    (ordinal(rest), ordinal(next), behind(next))
+}
+
 /// Reads the next part.
 macro_rules! part {
     ($alloc:ident $rest:ident word($word:ident)) => {};
@@ -208,6 +218,10 @@ macro_rules! with_parts {
         let $field = count(last);
         let ($first, $second) = both_owned($alloc, first_piece($rest), behind(last))?;
         Ok($line)
+    }};
+    ($alloc:ident $rest:ident $line:expr; ordinal($first:ident) ordinal($second:ident) $($more:tt)+) => {{
+        let ($first, $second, $rest) = two_ordinals($rest);
+        with_parts!($alloc $rest $line; $($more)+)
     }};
     ($alloc:ident $rest:ident $line:expr; $kind:ident($part:ident)) => {{
         part!($alloc $rest $kind($part));

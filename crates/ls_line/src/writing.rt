@@ -1,7 +1,8 @@
 //! Texts of lines (TLCP 2.1).
-ghost use Rattle.std.specs.Prelude.{◌≡◌, ◌≤◌, ◌++◌, ℕ, List, take, IfOk, OnOk, false, map};
+ghost use Rattle.std.specs.Prelude.{◌≡◌, ◌++◌, ℕ, List, IfOk, OnOk, false, map};
 ghost use Rattle.ls_line.specs.declared.line.Line.TheVariants as line;
-ghost use Rattle.ls_line.specs.Lines.{text_of_line, is_data, is_of_message, IsWritable, lent_text, then_texts};
+ghost use Rattle.ls_line.specs.Lines.{text_of_line, is_counted, is_of_message, IsWritable, lent_text, then_texts};
+ghost use Rattle.ls_line.specs.Lines.{shape_text};
 ghost use Rattle.ls_line.specs.Reading.{Says};
 
 use crate::line::Line;
@@ -10,12 +11,16 @@ use ls_value::{Bytes, NoMemory};
 use ls_words::append_decimal;
 use std::alloc::Global;
 
-/// A tag, and the parts behind it: the first `count` of these.
+/// A tag, and the parts behind it, by how many there are. Each place more in an arm of `shape_of` makes its proof
+/// longer, so none is made without a part.
 #[derive(Clone, Copy)]
-struct Shape<'a> {
-    tag: &'static [u8],
-    parts: [Lent<'a>; 5],
-    count: usize,
+enum Shape<'a> {
+    Alone(&'static [u8]),
+    One(&'static [u8], Lent<'a>),
+    Two(&'static [u8], Lent<'a>, Lent<'a>),
+    Three(&'static [u8], Lent<'a>, Lent<'a>, Lent<'a>),
+    Four(&'static [u8], Lent<'a>, Lent<'a>, Lent<'a>, Lent<'a>),
+    Five(&'static [u8], Lent<'a>, Lent<'a>, Lent<'a>, Lent<'a>, Lent<'a>),
 }
 
 macro_rules! lent {
@@ -29,18 +34,12 @@ macro_rules! lent {
 
 /// The shape of a tag and at most five parts.
 macro_rules! shape {
-    ($tag:literal) => { shape!(0; $tag, none!(), none!(), none!(), none!(), none!()) };
-    ($tag:literal, $a:expr) => { shape!(1; $tag, $a, none!(), none!(), none!(), none!()) };
-    ($tag:literal, $a:expr, $b:expr) => { shape!(2; $tag, $a, $b, none!(), none!(), none!()) };
-    ($tag:literal, $a:expr, $b:expr, $c:expr) => { shape!(3; $tag, $a, $b, $c, none!(), none!()) };
-    ($tag:literal, $a:expr, $b:expr, $c:expr, $d:expr) => { shape!(4; $tag, $a, $b, $c, $d, none!()) };
-    ($tag:literal, $a:expr, $b:expr, $c:expr, $d:expr, $e:expr) => { shape!(5; $tag, $a, $b, $c, $d, $e) };
-    ($count:literal; $tag:literal, $($part:expr),*) => { Shape { tag: $tag, parts: [$($part),*], count: $count } };
-}
-
-/// What stands where a shape has no part.
-macro_rules! none {
-    () => { Lent::Count(0) };
+    ($tag:literal) => { Shape::Alone($tag) };
+    ($tag:literal, $a:expr) => { Shape::One($tag, $a) };
+    ($tag:literal, $a:expr, $b:expr) => { Shape::Two($tag, $a, $b) };
+    ($tag:literal, $a:expr, $b:expr, $c:expr) => { Shape::Three($tag, $a, $b, $c) };
+    ($tag:literal, $a:expr, $b:expr, $c:expr, $d:expr) => { Shape::Four($tag, $a, $b, $c, $d) };
+    ($tag:literal, $a:expr, $b:expr, $c:expr, $d:expr, $e:expr) => { Shape::Five($tag, $a, $b, $c, $d, $e) };
 }
 
 macro_rules! shaped {
@@ -69,7 +68,7 @@ macro_rules! counted {
 
 /// Whether a line is a numbered line, which PROG counts. No memory is taken.
 pub fn counts(line: &Line) -> bool
-    ensures { result ≡ is_data line.now }
+    ensures { result ≡ is_counted line.now }
 {
     lines!(counted { line })
 }
@@ -105,16 +104,28 @@ fn whole_text(alloc: Global, line: &Line) -> Result<Bytes, NoMemory>
 pub fn append(text: &mut Vec<u8>, line: &Line) -> Result<(), NoMemory>
     ensures { OnOk result (text.new.items ≡ text.old.items ++ text_of_line line.now) }
 {
-    let shape = shape_of(line);
-    append_parts(text, shape.tag, &shape.parts[..shape.count])
+    append_shape(text, &shape_of(line))
 }
 
 /// The tag and the parts of a line.
 fn shape_of(line: &Line) -> Shape<'_>
-    ensures count { result.count ≤ 5 }
-    ensures text { then_texts result.tag.now (map lent_text (take result.count result.parts)) ≡ text_of_line line.now }
+    ensures { shape_text result ≡ text_of_line line.now }
 {
     lines!(shaped { line })
+}
+
+/// Appends a tag and the parts behind it, each behind a comma.
+fn append_shape(text: &mut Vec<u8>, shape: &Shape) -> Result<(), NoMemory>
+    ensures { OnOk result (text.new.items ≡ text.old.items ++ shape_text shape.now) }
+{
+    match shape {
+        Shape::Alone(tag) => append_parts(text, tag, &[]),
+        Shape::One(tag, a) => append_parts(text, tag, &[*a]),
+        Shape::Two(tag, a, b) => append_parts(text, tag, &[*a, *b]),
+        Shape::Three(tag, a, b, c) => append_parts(text, tag, &[*a, *b, *c]),
+        Shape::Four(tag, a, b, c, d) => append_parts(text, tag, &[*a, *b, *c, *d]),
+        Shape::Five(tag, a, b, c, d, e) => append_parts(text, tag, &[*a, *b, *c, *d, *e]),
+    }
 }
 
 /// Appends what a U line has before its coded fields, for these to be appended behind it.

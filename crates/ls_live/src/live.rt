@@ -1,14 +1,16 @@
 //! An item with its history, and the passes of those who publish on it.
 ghost use Rattle.std.specs.Prelude.{◌≡◌, ◌≤◌, ◌++◌, ◌∷◌, [], ℕ, None, Some, IsTrue, IfOk, IfErr, length};
-ghost use Rattle.std.specs.Prelude.{◌&&◌, ◌==◌, is_some};
+ghost use Rattle.std.specs.Prelude.{List, OnOk, ◌&&◌, ◌==◌, is_some};
 ghost use mathlib.Core.List.{IsPrefix};
 ghost use Rattle.ls_event.specs.declared.limits.TheConstants.{MOST_ADAPTERS as MOST};
+ghost use Rattle.ls_event.specs.declared.event.Entry.{Entry};
 ghost use Rattle.ls_event.specs.History.{HasFields};
 ghost use Rattle.ls_event.specs.Publishes.{IsHistory};
 ghost use Rattle.ls_event.specs.Shapes.{IsShape, shape_of};
-ghost use Rattle.ls_cell.specs.Cell.{StandsCell};
+ghost use Rattle.ls_cell.specs.Cell.{StandsCell, refusal_of};
 ghost use Rattle.ls_register.specs.Items.{ShowsItem};
 ghost use Rattle.ls_live.specs.Live.{IsOf, IsPassFor, KeepsSlots, IsCause, are_one, cause_in, entry_of, whole_pass};
+ghost use Rattle.ls_live.specs.Live.{StandsFor};
 
 use crate::shape::ItemShape;
 use crate::weighing::weigh;
@@ -301,20 +303,89 @@ pub fn publish_copied<N: House>(
         writer,
         ..
     } = item;
-    chron.whole(writer, &mut pass.reader);
-    match weigh(cell, pass.adapter, seq, &event) {
+    add_copied(
+        cell,
+        chron,
+        writer,
+        &mut pass.reader,
+        pass.adapter,
+        seq,
+        event,
+        entry,
+    )
+}
+
+/// The same of a cell, and of the history for which it stands.
+fn add_copied(
+    cell: &mut ItemCell,
+    chron: &Chron<Entry>,
+    writer: &mut Writer<Entry>,
+    reader: &mut Reader<Entry>,
+    adapter: u8,
+    seq: u64,
+    event: Event,
+    entry: &Result<Entry, NoMemory>,
+) -> Result<u64, PublishRefused>
+    requires adapter { adapter ≤ MOST }
+    requires fields { HasFields cell.old.item.shape.fields event }
+    requires writer { writer.old.table ≡ chron.now }
+    requires reader { reader.old.table ≡ chron.now }
+    requires stands { StandsFor cell.old writer.old.list }
+    requires copy { IfOk entry.now (λ e. e ≡ entry_of adapter seq event) }
+    ensures shape { cell.new.item.shape ≡ cell.old.item.shape }
+    ensures slots { KeepsSlots cell.old writer.old.list cell.new writer.new.list }
+    ensures table { writer.new.table ≡ writer.old.table }
+    ensures reader { reader.new ≡ writer.new }
+    ensures begins { IsPrefix reader.old.list writer.old.list }
+    ensures done { IfOk result (λ number.
+        (writer.new.list ≡ writer.old.list ++ entry_of adapter seq event ∷ [])
+        × (number ≡ length writer.new.list)) }
+    ensures admitted { IfOk result (λ _.
+        cause_in cell.old.item.shape writer.old.list (entry_of adapter seq event) ≡ None) }
+    ensures refused { IfErr result (λ cause. (writer.new.list ≡ writer.old.list)
+        × IsCause (cause_in cell.old.item.shape writer.old.list (entry_of adapter seq event)) cause) }
+{
+    chron.whole(writer, reader);
+    let entry = match weigh_copied(cell, adapter, seq, &event, entry) {
+        Ok(entry) => entry,
+        Err(cause) => return Err(cause),
+    };
+    let Ok(()) = cell.add(adapter, seq, event) else {
+        return Err(PublishRefused::NoMemory);
+    };
+    let Ok(number) = chron.append(writer, entry) else {
+        unreachable!()
+    };
+    chron.whole(writer, reader);
+    Ok(number)
+}
+
+/// The copy of an event against which nothing stands.
+fn weigh_copied<'a>(
+    cell: &mut ItemCell,
+    adapter: u8,
+    seq: u64,
+    event: &Event,
+    entry: &'a Result<Entry, NoMemory>,
+) -> Result<&'a Entry, PublishRefused>
+    requires adapter { adapter ≤ MOST }
+    requires fields { HasFields cell.old.item.shape.fields event.now }
+    requires copy { IfOk entry.now (λ e. e ≡ entry_of adapter seq event.now) }
+    ensures shape { cell.new.item.shape ≡ cell.old.item.shape }
+    ensures slots { (h : List Entry) → KeepsSlots cell.old h cell.new h }
+    ensures copy { IfOk result (λ e. e.now ≡ entry_of adapter seq event.now) }
+    ensures ok { OnOk result (refusal_of cell.new (entry_of adapter seq event.now) ≡ None) }
+    ensures admitted { OnOk result ((h : List Entry) → StandsFor cell.old h
+        → cause_in cell.old.item.shape h (entry_of adapter seq event.now) ≡ None) }
+    ensures refused { IfErr result (λ cause. (h : List Entry) → StandsFor cell.old h
+        → IsCause (cause_in cell.old.item.shape h (entry_of adapter seq event.now)) cause) }
+{
+    match weigh(cell, adapter, seq, event) {
         Ok(()) => {}
         Err(cause) => return Err(cause),
     }
     let Ok(entry) = entry else {
         return Err(PublishRefused::NoMemory);
     };
-    let Ok(()) = cell.add(pass.adapter, seq, event) else {
-        return Err(PublishRefused::NoMemory);
-    };
-    let Ok(number) = chron.append(writer, entry) else {
-        unreachable!()
-    };
-    chron.whole(writer, &mut pass.reader);
-    Ok(number)
+    Ok(entry)
 }

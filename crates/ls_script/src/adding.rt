@@ -88,12 +88,39 @@ fn push_needed(
 {
     let number = Text::from_string(format!(in alloc; "{line}")?);
     push(alloc, pairs, "LS_reqId", number)?;
-    push(alloc, pairs, "LS_op", Text::from_str(alloc, "add")?)?;
-    push(alloc, pairs, "LS_subId", text(alloc, words.sub.as_slice())?)?;
-    let mode = Text::from_str(alloc, mode_word(words.mode))?;
-    push(alloc, pairs, "LS_mode", mode)?;
-    push(alloc, pairs, "LS_group", names(alloc, &words.items)?)?;
-    push(alloc, pairs, "LS_schema", names(alloc, &words.fields)?)
+    push_word(alloc, pairs, "LS_op", "add")?;
+    push_text(alloc, pairs, "LS_subId", &words.sub)?;
+    push_word(alloc, pairs, "LS_mode", mode_word(words.mode))?;
+    push_names(alloc, pairs, "LS_group", &words.items)?;
+    push_names(alloc, pairs, "LS_schema", &words.fields)
+}
+
+/// Adds a parameter of a fixed text.
+fn push_word(alloc: Global, pairs: &mut Vec<Pair>, name: &str, word: &str) -> Result<(), NoMemory>
+    ensures { OnOk result (pairs.new.items ≡ pairs.old.items ++ parameter name.now word.now ∷ []) }
+{
+    push(alloc, pairs, name, Text::from_str(alloc, word)?)
+}
+
+/// Adds a parameter of a word's text.
+fn push_text(alloc: Global, pairs: &mut Vec<Pair>, name: &str, word: &Bytes) -> Result<(), NoMemory>
+    requires { is_utf8 word.now ≡ true }
+    ensures { OnOk result (pairs.new.items ≡ pairs.old.items ++ parameter name.now word.now ∷ []) }
+{
+    push(alloc, pairs, name, text(alloc, word.as_slice())?)
+}
+
+/// Adds a parameter of a word's names.
+fn push_names(
+    alloc: Global,
+    pairs: &mut Vec<Pair>,
+    name: &str,
+    word: &Bytes,
+) -> Result<(), NoMemory>
+    requires { is_utf8 word.now ≡ true }
+    ensures { OnOk result (pairs.new.items ≡ pairs.old.items ++ parameter name.now (spaced word.now) ∷ []) }
+{
+    push(alloc, pairs, name, names(alloc, word)?)
 }
 
 /// Adds a parameter.
@@ -116,7 +143,7 @@ fn push_extra(
     ensures { OnOk result (pairs.new.items ≡ pairs.old.items ++ extra_parameter name.now word.now) }
 {
     match word {
-        Some(word) => push(alloc, pairs, name, text(alloc, word.as_slice())?),
+        Some(word) => push_text(alloc, pairs, name, word),
         None => Ok(()),
     }
 }

@@ -4,7 +4,7 @@ use Rattle.std.proofs.Common.{None, Some}
 use Rattle.std.proofs.Common.{length-append, refl, sym, ◌∙◌, ap, subst, cond, arith, slice_get, option_map}
 use Rattle.std.specs.List.{filter, list_any}
 use Rattle.std.specs.Option.{ForSome}
-use Rattle.std.proofs.lemmas.List.{map-append, length-map}
+use Rattle.std.proofs.lemmas.List.{drop_all, map-append, length-map}
 use Rattle.std.proofs.lemmas.List.Filters.{length-filter_both}
 use Rattle.std.proofs.lemmas.Option.{slice_get-map}
 use Rattle.ls_turns.specs.Round.{Round, Seat, IsSeated, seat_at, node_of_place, slot_of_place, slots_of, has_slot, is_of, is_named, gave, left}
@@ -57,6 +57,9 @@ node_within turns i low none = within turns.seats i low none
     within [] j few e = absurd (omega (arith, few))
     within (s ∷ seats) zero few e = absurd (let x : Some s.node ≡ None = e in cc)
     within (s ∷ seats) (suc j) few e = within seats j (omega (arith, few)) e
+
+pub walk_over : (turns : Round) (i : ℕ) → length turns.seats ≤ i → drop i (slots_of turns) ≡ []
+walk_over turns i over = drop_all i (slots_of turns) (omega (arith, over, length-map turns.seats (λ (s : Seat). s.slot)))
 
 drop_at : (xs : List SlotRef) (i : ℕ) (x : SlotRef) → slice_get xs i ≡ Some x → drop i xs ≡ x ∷ drop (i + 1) xs
 drop_at [] i x at = absurd (let y : None ≡ Some x = at in cc)

@@ -1,6 +1,7 @@
 //! What requests do to a session: a subscription is added, gets another frequency, or ends, and the session gets
 //! another bandwidth (TLCP 2.1, control).
-ghost use Rattle.std.specs.Prelude.{◌≡◌, ◌≤◌, ◌<◌, ◌+◌, ℕ, List, length, map, None, Some, IfOk, OnOk, OnErr, IsErrOf};
+ghost use Rattle.std.specs.Prelude.{◌≡◌, ◌≤◌, ◌<◌, ◌+◌, ◌||◌, ◌∷◌, [], ℕ, List, length, map, None, Some, IfOk, OnOk};
+ghost use Rattle.std.specs.Prelude.{OnErr, IsErrOf, nat_le, nat_lt};
 ghost use Rattle.std.specs.Option.{ForSome};
 ghost use Rattle.ls_value.specs.declared.limits.TheConstants.{GREATEST_NUMBER, GREATEST_TICK};
 ghost use Rattle.ls_event.specs.declared.item.ItemDef.{ItemDef};
@@ -10,7 +11,8 @@ ghost use Rattle.ls_request.specs.Ranges.{AddFits};
 ghost use Rattle.ls_world.specs.Cases.{first_code};
 ghost use Rattle.ls_world.specs.Lawful.{Each};
 ghost use Rattle.ls_world.specs.World.{Live, numbered, removed, reconfigured, constrained, frequency_in, is_filtered};
-ghost use Rattle.ls_world.specs.Acting.{add_refusals};
+ghost use Rattle.ls_world.specs.declared.TheConstants.{MOST_SUBSCRIPTIONS};
+ghost use Rattle.ls_world.specs.Acting.{add_refusals, subscriptions, are_spent};
 ghost use Rattle.ls_subs.specs.Plans.{IsPlan, JoinAll, MayJoin};
 ghost use Rattle.ls_subs.specs.Standing.{ref_of};
 ghost use Rattle.ls_subs.specs.declared.plan.Refusal.TheVariants as Refusal;
@@ -69,12 +71,33 @@ impl Session {
             return Err(Refusal::Code(code));
         }
         let plan = self.subs.prepare(add, config)?;
-        if let Some(code) = self.code_of_room(add.group.len(), free) {
+        match self.make_room(add.group.len(), plan.items.len(), free) {
+            Ok(()) => Ok(plan),
+            Err(refusal) => Err(refusal),
+        }
+    }
+
+    /// Takes memory for the lines of a subscription whose slots are so many, and for so many slots.
+    fn make_room(&mut self, slots: usize, items: usize, free: u32) -> Result<(), Refusal>
+        ensures spare { OnOk result (items ≤ self.new.asking.turns.spare) }
+        ensures room { OnOk result (length self.new.asking.turns.seats + items ≤ self.new.asking.room) }
+        ensures ready { OnOk result (IsReadyFor 2 self.new.lines) }
+        ensures subs { self.new.subs ≡ self.old.subs }
+        ensures accepted { OnOk result ((r : Record) → StandsSession self.old r → first_code (
+            (71, nat_le MOST_SUBSCRIPTIONS (subscriptions r.session.board.round) || nat_lt free slots)
+            ∷ (74, are_spent r.session 2) ∷ []) ≡ None) }
+        ensures refused { (code : ℕ) → IsErrOf result (Refusal.Code code) → (r : Record) → StandsSession self.old r
+            → first_code (
+            (71, nat_le MOST_SUBSCRIPTIONS (subscriptions r.session.board.round) || nat_lt free slots)
+            ∷ (74, are_spent r.session 2) ∷ []) ≡ Some code }
+        ensures same { (r : Record) → StandsSession self.old r → StandsSession self.new r }
+    {
+        if let Some(code) = self.code_of_room(slots, free) {
             return Err(Refusal::Code(code));
         }
-        self.asking.reserve(plan.items.len())?;
+        self.asking.reserve(items)?;
         self.lines.reserve(2)?;
-        Ok(plan)
+        Ok(())
     }
 
     /// A subscription begins, whose items were joined by these slots, one for each item: its two lines are numbered,

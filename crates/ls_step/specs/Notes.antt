@@ -1,9 +1,11 @@
 -- The texts of printed lines (this project's profile).
-use Rattle.std.specs.Prelude.{ℕ, ◌+◌, List, [], ◌∷◌, ◌++◌, length, codes}
+use Rattle.std.specs.Prelude.{ℕ, ◌+◌, ◌≤◌, List, [], ◌∷◌, ◌++◌, length, codes}
 use Rattle.std.specs.Fmt.{decimal}
 use Rattle.ls_step.specs.declared.limits.TheConstants.{LONGEST_NOTE}
 use Rattle.ls_step.specs.declared.out.Out.{Out}
 use Rattle.ls_step.specs.declared.out.Out.TheVariants as out
+use Rattle.ls_step.specs.declared.out.Printed.{Printed}
+use Rattle.ls_step.specs.declared.out.Printed.TheVariants as printed
 
 -- a note of a word alone, ended by LF as each printed line
 abbrev pub note : List ℕ → List ℕ
@@ -43,3 +45,19 @@ text_of_out (out.Line connection text) = line_on connection text
 abbrev pub room_for : Out → ℕ
 room_for (out.Line connection text) = length connection + (length text + 2)
 room_for o = LONGEST_NOTE
+
+-- the same of what is printed of it, and that its word is short
+abbrev pub printed_text : Printed → List ℕ
+printed_text (printed.Word word) = note word.now
+printed_text (printed.Number word n) = number_note word.now n
+printed_text (printed.Line connection text) = line_on connection.now text.now
+
+abbrev pub printed_room : Printed → ℕ
+printed_room (printed.Word word) = LONGEST_NOTE
+printed_room (printed.Number word n) = LONGEST_NOTE
+printed_room (printed.Line connection text) = length connection.now + (length text.now + 2)
+
+abbrev pub IsShort : Printed → Type 0
+IsShort (printed.Word word) = length word.now ≤ 32
+IsShort (printed.Number word n) = length word.now ≤ 11
+IsShort (printed.Line connection text) = Unit {0}

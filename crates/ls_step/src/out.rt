@@ -3,6 +3,7 @@ ghost use Rattle.std.specs.Prelude.{◌≡◌, ◌≤◌, ◌<◌, ◌+◌, ◌+
 ghost use Rattle.std.specs.Vec.{vec_len, vec_capacity};
 ghost use Rattle.ls_step.specs.declared.limits.TheConstants.{LONGEST_NOTE};
 ghost use Rattle.ls_step.specs.Notes.{note, number_note, line_on, text_of_out, room_for};
+ghost use Rattle.ls_step.specs.Notes.{printed_text, printed_room, IsShort};
 
 use ls_value::{Bytes, NoMemory, Text};
 use ls_words::append_decimal;
@@ -51,6 +52,14 @@ pub enum Out {
     Line { connection: Text, text: Bytes },
 }
 
+/// What is printed of a printed line: a note of a word, or of a word and a number, or a line on a connection.
+#[derive(Clone, Copy)]
+enum Printed<'a> {
+    Word(&'static [u8]),
+    Number(&'static [u8], u64),
+    Line(&'a Text, &'a Bytes),
+}
+
 /// The text of a printed line, ended by LF (this project's profile).
 pub fn print(alloc: Global, out: &Out) -> Result<Bytes, NoMemory>
     ensures { IfOk result (λ text. text ≡ text_of_out out.now) }
@@ -66,29 +75,39 @@ pub fn append(text: &mut Vec<u8>, out: &Out) -> Result<(), NoMemory>
     ensures text { OnOk result (text.new.items ≡ text.old.items ++ text_of_out out.now) }
     ensures room { OnErr result (vec_capacity text.old < vec_len text.old + room_for out.now) }
 {
+    match printed_of(out) {
+        Printed::Word(word) => note(text, word),
+        Printed::Number(word, n) => number_note(text, word, n),
+        Printed::Line(connection, line) => {
+            append_line(text, connection.as_bytes(), line.as_slice())
+        }
+    }
+}
+
+/// What is printed of a printed line.
+fn printed_of(out: &Out) -> Printed<'_>
+    ensures { (printed_text result ≡ text_of_out out.now) × (printed_room result ≡ room_for out.now) × IsShort result }
+{
     match out {
-        Out::Published { no } => number_note(text, b"-no", *no),
-        Out::Repeated { last } => number_note(text, b"-repeated", *last),
-        Out::NoKey => note(text, b"-nokey"),
-        Out::BadCommand => note(text, b"-badcommand"),
-        Out::TooLong { bytes } => number_note(text, b"-toolong", *bytes),
-        Out::TooManyKeys => note(text, b"-toomanykeys"),
-        Out::Backlog { slot } => number_note(text, b"-backlog", u64::from(*slot)),
-        Out::Spent => note(text, b"-spent"),
-        Out::Moved { no } => number_note(text, b"-moved", *no),
-        Out::UpToDate => note(text, b"-uptodate"),
-        Out::NoSlot => note(text, b"-noslot"),
-        Out::Idle => note(text, b"-idle"),
-        Out::NotDue { at } => number_note(text, b"-notdue", *at),
-        Out::Superseded { epoch } => number_note(text, b"-superseded", *epoch),
-        Out::Ended { code } => number_note(text, b"-ended", u64::from(*code)),
-        Out::Unbound => note(text, b"-unbound"),
-        Out::NoSession => note(text, b"-none"),
-        Out::Lost => note(text, b"-lost"),
-        Out::Line {
-            connection,
-            text: line,
-        } => append_line(text, connection.as_bytes(), line.as_slice()),
+        Out::Published { no } => Printed::Number(b"-no", *no),
+        Out::Repeated { last } => Printed::Number(b"-repeated", *last),
+        Out::NoKey => Printed::Word(b"-nokey"),
+        Out::BadCommand => Printed::Word(b"-badcommand"),
+        Out::TooLong { bytes } => Printed::Number(b"-toolong", *bytes),
+        Out::TooManyKeys => Printed::Word(b"-toomanykeys"),
+        Out::Backlog { slot } => Printed::Number(b"-backlog", u64::from(*slot)),
+        Out::Spent => Printed::Word(b"-spent"),
+        Out::Moved { no } => Printed::Number(b"-moved", *no),
+        Out::UpToDate => Printed::Word(b"-uptodate"),
+        Out::NoSlot => Printed::Word(b"-noslot"),
+        Out::Idle => Printed::Word(b"-idle"),
+        Out::NotDue { at } => Printed::Number(b"-notdue", *at),
+        Out::Superseded { epoch } => Printed::Number(b"-superseded", *epoch),
+        Out::Ended { code } => Printed::Number(b"-ended", u64::from(*code)),
+        Out::Unbound => Printed::Word(b"-unbound"),
+        Out::NoSession => Printed::Word(b"-none"),
+        Out::Lost => Printed::Word(b"-lost"),
+        Out::Line { connection, text } => Printed::Line(connection, text),
     }
 }
 

@@ -1,108 +1,119 @@
-use Rattle.std.proofs.Common.{◌≡◌, ◌++◌, ◌∷◌, [], List, sym, ◌∙◌, ap, subst, IfSome, IfOk}
-use Rattle.ls_event.specs.declared.event.Entry.{Entry}
+use Rattle.std.proofs.Common.{◌≡◌, ◌++◌, ◌∷◌, [], sym, ◌∙◌, ap, subst, IfSome, IfOk, IfErr, length, None}
+use mathlib.Core.List.{IsPrefix}
+use Rattle.ls_event.specs.History.{HasFields}
 use Rattle.ls_event.specs.Publishes.{IsHistory}
 use Rattle.ls_event.specs.Shapes.{Shape}
-use Rattle.ls_cell.specs.Cell.{Held}
 use Rattle.ls_register.specs.Items.{ShowsItem}
-use Rattle.ls_live.specs.Live.{Live, Pass, StandsFor, KeepsSlots, IsCause, cause_in, entry_of}
-use Rattle.ls_live.proofs.Keeping.{keeps_added, stands_kept, stands_lawful}
+use Rattle.atomic_table.specs.Seated.{TableId}
+use Rattle.ls_live.specs.Live.{Live, Pass, KeepsSlots, IsCause, cause_in, entry_of, shape_kept}
+use Rattle.ls_live.proofs.Keeping.{stands_kept, stands_lawful}
 use Rattle.ls_live.proofs.live.publish_copied.Goals as goal
 
-pub returns-in-Err-clause-refused : goal.returns-in-Err-clause-refused
-returns-in-Err-clause-refused g c =
-    let i = c.item.inside in
-    let cause = c.in-Err.ensures.refused i.writer.list c.item.invariant.2 in (
-      ap (λ t. t.list) c.whole.ensures.writer ∙ ap (λ x. x.history) c.item.view_is,
-      subst (λ (x : Live × Pass).
-          IsCause (cause_in x.0.shape x.0.history (entry_of x.1.adapter c.args.seq c.args.event)) c.in-Err.cause)
-          (λ k. (c.item.view_is k, c.pass.view_is k)) cause,
-    )
+pub add_copied-requires-clause-adapter : goal.add_copied-requires-clause-adapter
+add_copied-requires-clause-adapter g c = c.pass.invariant.1
 
-pub returns-in-Err-clause-slots : goal.returns-in-Err-clause-slots
-returns-in-Err-clause-slots g c =
-    let i = c.item.inside in
-    subst (λ (x : Live × List Entry). KeepsSlots x.0.cell x.0.history c.weigh.new.cell x.1)
-    (λ k. (c.item.view_is k, sym (ap (λ t. t.list) c.whole.ensures.writer) k)) (c.weigh.ensures.slots i.writer.list)
+pub add_copied-requires-clause-fields : goal.add_copied-requires-clause-fields
+add_copied-requires-clause-fields g c =
+    subst (λ (x : Live). HasFields x.shape.fields c.args.event) (sym c.item.view_is) c.requires.fields
 
-pub returns-in_default-clause-slots : goal.returns-in_default-clause-slots
-returns-in_default-clause-slots g c =
-    let i = c.item.inside in
-    subst (λ (x : Live × List Entry). KeepsSlots x.0.cell x.0.history c.weigh.new.cell x.1)
-    (λ k. (c.item.view_is k, sym (ap (λ t. t.list) c.whole.ensures.writer) k)) (c.weigh.ensures.slots i.writer.list)
+pub add_copied-requires-clause-writer : goal.add_copied-requires-clause-writer
+add_copied-requires-clause-writer g c = c.item.invariant.0
 
-pub returns-in_default-add-clause-slots : goal.returns-in_default-add-clause-slots
-returns-in_default-add-clause-slots g c =
-    let i = c.item.inside in
-    subst (λ (x : Live × Held × List Entry). KeepsSlots x.0.cell x.0.history x.1 x.2)
-    (λ k. (c.item.view_is k, sym c.in_default-add.ensures.err k, sym (ap (λ t. t.list) c.whole.ensures.writer) k))
-    (c.weigh.ensures.slots i.writer.list)
+pub add_copied-requires-clause-reader : goal.add_copied-requires-clause-reader
+add_copied-requires-clause-reader g c =
+    ap (λ (x : Pass). x.table) c.pass.view_is ∙ (c.requires.of.table ∙ sym (ap (λ (x : Live). x.table) c.item.view_is))
 
-pub invariant_of-item-in_default-add : goal.invariant_of-item-in_default-add
-invariant_of-item-in_default-add g c =
+pub add_copied-requires-clause-stands : goal.add_copied-requires-clause-stands
+add_copied-requires-clause-stands g c = c.item.invariant.2
+
+pub add_copied-requires-clause-copy : goal.add_copied-requires-clause-copy
+add_copied-requires-clause-copy g c =
+    subst (λ (x : Pass). IfOk c.args.entry.now (λ e. e ≡ entry_of x.adapter c.args.seq c.args.event)) (sym c.pass.view_is)
+    c.requires.copy
+
+pub invariant_of-item : goal.invariant_of-item
+invariant_of-item g c =
     let i = c.item.inside in
     let inv = c.item.invariant in
-    let writer = c.whole.ensures.writer in
-    let same : c.add.new.self ≡ c.weigh.new.cell = c.in_default-add.ensures.err in
-    let shape : c.add.new.self.item.shape ≡ i.cell.item.shape = ap (λ (v : Held). v.item.shape) same ∙ c.weigh.ensures.shape in (
-      ap (λ t. t.table) writer ∙ inv.0,
-      inv.1 ∙ sym shape,
-      subst (λ (x : Held × List Entry). StandsFor x.0 x.1) (λ k. (sym same k, sym (ap (λ t. t.list) writer) k))
-          (stands_kept i.cell i.writer.list c.weigh.new.cell i.writer.list (c.weigh.ensures.slots i.writer.list) inv.2),
-      subst (λ (p : Shape). IfSome i.place (λ q. ShowsItem g.N.House.deed.config q i.item p i.chron)) (sym shape) inv.3,
+    let said = c.add_copied.ensures in (
+      said.table ∙ inv.0,
+      inv.1 ∙ sym said.shape,
+      stands_kept i.cell i.writer.list c.add_copied.new.cell c.add_copied.new.writer.list said.slots inv.2,
+      subst (λ (p : Shape). IfSome i.place (λ q. ShowsItem g.N.House.deed.config q i.item p i.chron)) (sym said.shape) inv.3,
     )
 
-pub invariant_of-item-2 : goal.invariant_of-item-2
-invariant_of-item-2 g c =
-    let i = c.item.inside in
-    let inv = c.item.invariant in
-    let first = c.whole.ensures.writer in
-    let second = c.whole-2.ensures.writer in
-    let mine : Entry = entry_of c.pass.inside.adapter c.args.seq c.args.event in
-    let shape : c.add.new.self.item.shape ≡ i.cell.item.shape = ap (λ (v : Held). v.item.shape) c.in-Ok-add.ensures.ok
-    ∙ c.weigh.ensures.shape in
-    let entry : c.in-Ok-entry.entry ≡ mine =
-    subst (λ o. IfOk o (λ e. e ≡ entry_of c.args.pass.now.adapter c.args.seq c.args.event)) c.in-Ok-entry.is c.requires.copy
-    ∙ ap (λ (p : Pass). entry_of p.adapter c.args.seq c.args.event) (sym c.pass.view_is) in
-    let list : c.whole-2.new.w.list ≡ i.writer.list ++ mine ∷ [] = ap (λ t. t.list) second
-    ∙ (c.in-Ok-append.ensures.added.0 ∙ (λ k. (first k).list ++ entry k ∷ [])) in (
-      ap (λ t. t.table) second ∙ (c.append.ensures.table ∙ (ap (λ t. t.table) first ∙ inv.0)),
-      inv.1 ∙ sym shape,
-      stands_kept i.cell i.writer.list c.add.new.self c.whole-2.new.w.list
-          (keeps_added i.cell i.writer.list c.weigh.new.cell c.add.new.self c.whole-2.new.w.list mine
-          (c.weigh.ensures.slots i.writer.list) c.in-Ok-add.ensures.stands list) inv.2,
-      subst (λ (p : Shape). IfSome i.place (λ q. ShowsItem g.N.House.deed.config q i.item p i.chron)) (sym shape) inv.3,
+pub invariant_of-pass : goal.invariant_of-pass
+invariant_of-pass g c =
+    let p = c.pass.inside in
+    let said = c.add_copied.ensures in
+    let same : c.add_copied.new.reader.table ≡ p.reader.table = ap (λ t. t.table) said.reader
+    ∙ (said.table ∙ (c.item.invariant.0 ∙ (ap (λ (x : Live). x.table) c.item.view_is
+    ∙ (sym c.requires.of.table ∙ sym (ap (λ (x : Pass). x.table) c.pass.view_is))))) in (
+      c.pass.invariant.0,
+      c.pass.invariant.1,
+      subst (λ (t : TableId). IfSome p.place (λ q. ShowsItem g.N.House.deed.config q p.item (shape_kept p.shape) t))
+          (sym same) c.pass.invariant.2,
     )
+
+pub returns-clause-item : goal.returns-clause-item
+returns-clause-item g c =
+    let shape = c.add_copied.ensures.shape ∙ ap (λ (x : Live). x.shape) c.item.view_is in λ k. record {
+      item = (c.item.view_is k).item;
+      place = (c.item.view_is k).place;
+      cell = c.add_copied.new.cell;
+      table = (c.item.view_is k).table;
+      shape = shape k;
+      history = c.add_copied.new.writer.list;
+    }
 
 pub returns-clause-slots : goal.returns-clause-slots
 returns-clause-slots g c =
-    let i = c.item.inside in
-    let first = c.whole.ensures.writer in
-    let second = c.whole-2.ensures.writer in
-    let mine : Entry = entry_of c.pass.inside.adapter c.args.seq c.args.event in
-    let entry : c.in-Ok-entry.entry ≡ mine =
-    subst (λ o. IfOk o (λ e. e ≡ entry_of c.args.pass.now.adapter c.args.seq c.args.event)) c.in-Ok-entry.is c.requires.copy
-    ∙ ap (λ (p : Pass). entry_of p.adapter c.args.seq c.args.event) (sym c.pass.view_is) in
-    let list : c.whole-2.new.w.list ≡ i.writer.list ++ mine ∷ [] = ap (λ t. t.list) second
-    ∙ (c.in-Ok-append.ensures.added.0 ∙ (λ k. (first k).list ++ entry k ∷ [])) in
-    subst (λ (x : Live). KeepsSlots x.cell x.history c.add.new.self c.whole-2.new.w.list) c.item.view_is
-    (keeps_added i.cell i.writer.list c.weigh.new.cell c.add.new.self c.whole-2.new.w.list mine
-    (c.weigh.ensures.slots i.writer.list) c.in-Ok-add.ensures.stands list)
+    subst (λ (x : Live). KeepsSlots x.cell x.history c.add_copied.new.cell c.add_copied.new.writer.list) c.item.view_is
+    c.add_copied.ensures.slots
+
+pub returns-clause-pass : goal.returns-clause-pass
+returns-clause-pass g c =
+    let said = c.add_copied.ensures in
+    let same = ap (λ t. t.table) said.reader
+    ∙ (said.table ∙ (c.item.invariant.0 ∙ (ap (λ (x : Live). x.table) c.item.view_is ∙ sym c.requires.of.table))) in λ k. record {
+      adapter = (c.pass.view_is k).adapter;
+      item = (c.pass.view_is k).item;
+      place = (c.pass.view_is k).place;
+      table = same k;
+      shape = (c.pass.view_is k).shape;
+      list = (said.reader k).list;
+    }
+
+pub returns-clause-begins : goal.returns-clause-begins
+returns-clause-begins g c =
+    subst (λ (x : Live × Pass). IsPrefix x.1.list x.0.history) (λ k. (c.item.view_is k, c.pass.view_is k))
+    c.add_copied.ensures.begins
+
+pub returns-clause-done : goal.returns-clause-done
+returns-clause-done g c =
+    let list = c.add_copied.new.writer.list in
+    subst (λ (x : Live × Pass). IfOk c.add_copied.result (λ number.
+    (list ≡ x.0.history ++ entry_of x.1.adapter c.args.seq c.args.event ∷ []) × (number ≡ length list)))
+    (λ k. (c.item.view_is k, c.pass.view_is k)) c.add_copied.ensures.done
+
+pub returns-clause-admitted : goal.returns-clause-admitted
+returns-clause-admitted g c =
+    subst (λ (x : Live × Pass). IfOk c.add_copied.result (λ _.
+    cause_in x.0.shape x.0.history (entry_of x.1.adapter c.args.seq c.args.event) ≡ None))
+    (λ k. (c.item.view_is k, c.pass.view_is k)) c.add_copied.ensures.admitted
+
+pub returns-clause-refused : goal.returns-clause-refused
+returns-clause-refused g c =
+    let list = c.add_copied.new.writer.list in
+    subst (λ (x : Live × Pass). IfErr c.add_copied.result (λ cause. (list ≡ x.0.history)
+    × IsCause (cause_in x.0.shape x.0.history (entry_of x.1.adapter c.args.seq c.args.event)) cause))
+    (λ k. (c.item.view_is k, c.pass.view_is k)) c.add_copied.ensures.refused
 
 pub returns-clause-lawful : goal.returns-clause-lawful
 returns-clause-lawful g c =
     let i = c.item.inside in
-    let first = c.whole.ensures.writer in
-    let second = c.whole-2.ensures.writer in
-    let mine : Entry = entry_of c.pass.inside.adapter c.args.seq c.args.event in
-    let shape : c.add.new.self.item.shape ≡ c.args.item.now.shape =
-    ap (λ (v : Held). v.item.shape) c.in-Ok-add.ensures.ok ∙ (c.weigh.ensures.shape ∙ ap (λ (x : Live). x.shape) c.item.view_is) in
-    let entry : c.in-Ok-entry.entry ≡ mine =
-    subst (λ o. IfOk o (λ e. e ≡ entry_of c.args.pass.now.adapter c.args.seq c.args.event)) c.in-Ok-entry.is c.requires.copy
-    ∙ ap (λ (p : Pass). entry_of p.adapter c.args.seq c.args.event) (sym c.pass.view_is) in
-    let list : c.whole-2.new.w.list ≡ i.writer.list ++ mine ∷ [] = ap (λ t. t.list) second
-    ∙ (c.in-Ok-append.ensures.added.0 ∙ (λ k. (first k).list ++ entry k ∷ [])) in
-    subst (λ (p : Shape). IsHistory p c.whole-2.new.w.list) shape
-    (stands_lawful c.add.new.self c.whole-2.new.w.list
-    (stands_kept i.cell i.writer.list c.add.new.self c.whole-2.new.w.list
-    (keeps_added i.cell i.writer.list c.weigh.new.cell c.add.new.self c.whole-2.new.w.list mine
-    (c.weigh.ensures.slots i.writer.list) c.in-Ok-add.ensures.stands list) c.item.invariant.2))
+    let said = c.add_copied.ensures in
+    let list = c.add_copied.new.writer.list in
+    subst (λ (p : Shape). IsHistory p list) (said.shape ∙ ap (λ (x : Live). x.shape) c.item.view_is)
+    (stands_lawful c.add_copied.new.cell list
+    (stands_kept i.cell i.writer.list c.add_copied.new.cell list said.slots c.item.invariant.2))

@@ -1,7 +1,7 @@
 use Rattle.std.proofs.Common.{◌≡◌, ◌∙◌, List, [], ◌∷◌, ◌++◌, append_assoc, codes, OnOk, Result, Ok, Err}
 use Rattle.std.specs.Fmt.{decimal}
 use Rattle.ls_form.specs.declared.form.Pair.{Pair}
-use Rattle.ls_step.specs.Adding.{parameter}
+use Rattle.ls_step.specs.Adding.{parameter, spaced}
 use Rattle.ls_script.proofs.adding.push_needed.Goals as goal
 
 -- six more, one by one
@@ -21,15 +21,15 @@ pub returns : goal.returns
 returns c =
     let number : c.from_string-number.result ≡ decimal c.args.line = c.from_string-number.ensures ∙ c.in_ok-format.ensures.ok in
     let words = c.args.words.now in
-    on_ok c.push-6.result
-    (λ last. six_more _ _ _ _ _ _ _ _ _ _ _ _ _ c.in_ok-push.ensures c.in_ok-push-2.ensures c.in_ok-push-3.ensures
-    c.in_ok-push-4.ensures c.in_ok-push-5.ensures last
+    on_ok c.push_names-2.result
+    (λ last. six_more _ _ _ _ _ _ _ _ _ _ _ _ _ c.in_ok-push.ensures c.in_ok-push_word.ensures c.in_ok-push_text.ensures
+    c.in_ok-push_word-2.ensures c.in_ok-push_names.ensures last
     ∙ (λ k. c.args.pairs.now.items
     ++ parameter (codes "LS_reqId") (number k)
-    ∷ parameter (codes "LS_op") (c.in_ok-from_str.ensures k)
-    ∷ parameter (codes "LS_subId") ((c.in_ok-text.ensures ∙ c.as_slice.ensures) k)
-    ∷ parameter (codes "LS_mode") ((c.in_ok-mode.ensures ∙ c.mode_word.ensures) k)
-    ∷ parameter (codes "LS_group") (c.in_ok-names.ensures k)
-    ∷ parameter (codes "LS_schema") (c.in_ok-names-2.ensures k)
+    ∷ parameter (codes "LS_op") (codes "add")
+    ∷ parameter (codes "LS_subId") words.sub
+    ∷ parameter (codes "LS_mode") (c.mode_word.ensures k)
+    ∷ parameter (codes "LS_group") (spaced words.items)
+    ∷ parameter (codes "LS_schema") (spaced words.fields)
     ∷ []))
-    c.push-6.ensures
+    c.push_names-2.ensures

@@ -1,9 +1,66 @@
-use Rattle.std.proofs.Common.{subst, sym, IsSome, None, get_or, ◌-◌}
-use Rattle.std.proofs.lemmas.List.{length-set}
-use Rattle.ls_cell.specs.Numbered.{slot_at, EachSlot, StandsAll}
-use Rattle.ls_cell.specs.Standing.{IsSlotOf, StandsSlot}
-use Rattle.ls_cell.proofs.Changes.{each_set, slot_each, stands_set, slot_stands, live_at, live_kept, free_kept}
+use Rattle.std.proofs.Common.{subst, sym, ap, ◌∙◌, ◌≡◌, ◌+◌, ◌-◌, ℕ, zero, suc, List, Option, None, IsSome, get_or, set, arith}
+use Rattle.std.proofs.lemmas.List.{length-set, get_or-set_same}
+use Rattle.std.specs.Option.{ForSome}
+use Rattle.ls_cell.specs.Any.{AnyAdmits}
+use Rattle.ls_cell.specs.Numbered.{slot_at, set_slot, EachSlot, StandsAll}
+use Rattle.ls_cell.specs.Standing.{IsSlotOf, StandsSlot, last_at}
+use Rattle.ls_cell.proofs.Changes.{slot_read, within, each_set, slot_each, stands_set, slot_stands, live_at, live_kept, free_kept}
 use Rattle.ls_cell.proofs.slots.Slots.enqueue.Goals as goal
+
+-- what stands at the number
+here : {B : Type 0} (items now : List (Option B)) (n : ℕ) (b : Option B) → items ≡ now → IsSome (slot_at now n)
+    → b ≡ get_or items (n - 1) b → b ≡ slot_at now n
+here items now n b same live value =
+    slot_read items n b (subst (λ t. IsSome (slot_at t n)) (sym same) live) value ∙ ap (λ t. slot_at t n) same
+
+-- and what is put there
+put_there : {B : Type 0} (items now : List (Option B)) (n : ℕ) (b : Option B) → items ≡ now → IsSome (slot_at now n)
+    → slot_at (set_slot items n b) n ≡ b
+put_there items now zero b same live = cc
+put_there items now (suc i) b same live =
+    let low = (within items (suc i) (subst (λ t. IsSome (slot_at t (suc i))) (sym same) live)).low in
+    ap (λ k. get_or (set items k b) i None) {x = suc i - 1} {y = i} (omega arith)
+    ∙ get_or-set_same items i b None (omega (arith, low))
+
+pub enqueue_at-requires-clause-live : goal.enqueue_at-requires-clause-live
+enqueue_at-requires-clause-live c = subst (λ o. IsSome o) (sym (here c.self.inside.slots.items c.args.self.now c.args.slot c.index_mut.result.now
+    c.self.view_is c.requires.live c.index_mut.ensures.value)) c.requires.live
+
+pub enqueue_at-requires-clause-next : goal.enqueue_at-requires-clause-next
+enqueue_at-requires-clause-next c = subst (λ o. c.args.event.now.no ≡ last_at o + 1) (sym (here c.self.inside.slots.items c.args.self.now c.args.slot c.index_mut.result.now
+    c.self.view_is c.requires.live c.index_mut.ensures.value)) c.requires.next
+
+pub enqueue_at-requires-clause-admits : goal.enqueue_at-requires-clause-admits
+enqueue_at-requires-clause-admits c =
+    subst (λ o. ForSome o (λ b. AnyAdmits b c.args.event.now.event)) (sym (here c.self.inside.slots.items c.args.self.now c.args.slot c.index_mut.result.now
+    c.self.view_is c.requires.live c.index_mut.ensures.value)) c.requires.admits
+
+pub returns-clause-one : goal.returns-clause-one
+returns-clause-one c =
+    let put = sym (put_there c.self.inside.slots.items c.args.self.now c.args.slot c.enqueue_at.new.slot c.self.view_is c.requires.live) in
+    λ k. set_slot (c.self.view_is k) c.args.slot (put k)
+
+pub returns-clause-live : goal.returns-clause-live
+returns-clause-live c =
+    let put = put_there c.self.inside.slots.items c.args.self.now c.args.slot c.enqueue_at.new.slot c.self.view_is c.requires.live in
+    subst (λ o. IsSome o) (sym put) c.in_ok-enqueue_at.ensures.live
+
+pub returns-clause-last : goal.returns-clause-last
+returns-clause-last c =
+    let put = put_there c.self.inside.slots.items c.args.self.now c.args.slot c.enqueue_at.new.slot c.self.view_is c.requires.live in
+    ap last_at put ∙ c.in_ok-enqueue_at.ensures.last
+
+pub invariant_of-self : goal.invariant_of-self
+invariant_of-self c =
+    let live : IsSome (get_or c.self.inside.slots.items (c.args.slot - 1) None) =
+    live_at _ c.args.slot (subst (λ t. IsSome (slot_at t c.args.slot)) (sym c.self.view_is) c.requires.live) in
+    let new : IsSome c.enqueue_at.new.slot = subst (λ o. IsSome o) (sym (c.in_err-enqueue_at.ensures.err ∙ here c.self.inside.slots.items c.args.self.now c.args.slot c.index_mut.result.now
+    c.self.view_is c.requires.live c.index_mut.ensures.value)) c.requires.live in
+    rw (
+      length-set c.self.inside.slots.items (c.args.slot - 1) c.enqueue_at.new.slot,
+      live_kept _ _ c.enqueue_at.new.slot live new,
+      free_kept _ _ c.enqueue_at.new.slot live new,
+    ) c.self.invariant
 
 pub invariant_of-self-2 : goal.invariant_of-self-2
 invariant_of-self-2 c =

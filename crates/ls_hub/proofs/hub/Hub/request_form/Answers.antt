@@ -8,6 +8,5 @@ returns-clause-ok c = on_ok_weaker c.request.result (λ did w st.
     rw (
       c.as_bytes.ensures,
       c.in_ok-params.ensures,
-      c.as_slice.ensures,
       c.link_of-link.ensures ∙ link_is c.args.self.now.connections.items w c.args.connection st.connections,
     ) at (did w st)) c.request.ensures.ok

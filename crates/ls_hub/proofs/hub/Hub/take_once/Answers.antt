@@ -9,7 +9,7 @@ use Rattle.ls_hub.proofs.hub.Hub.take_once.Goals as goal
 
 pub returns-in_default-clause-ok : goal.returns-in_default-clause-ok
 returns-in_default-clause-ok c = λ w st.
-    no_session c.args.self.now w c.args.connection _ _ st (sym c.in_default.is ∙ c.session_place.ensures.place w st) c.in_ok-append.ensures.text
+    no_session c.args.self.now w c.args.connection _ _ st (sym c.in_default.is ∙ c.session_place.ensures.place w st) c.in_ok-append_out.ensures.text
 
 pub returns-clause-ok : goal.returns-clause-ok
 returns-clause-ok c = λ w st.
@@ -26,8 +26,8 @@ returns-clause-ok c = λ w st.
     ∙ ap (λ x. c.args.text.now.items ++ text_of_out (out_of_turn c.name_of-2.result.now x c.in_ok-turn.turn)) (c.current.ensures.line
     ∙ ap current_of (c.index.ensures ∙ get_or-set_same c.args.self.now.sessions.items c.in-Some.place c.turn_of.new.session _ low))))
 
-pub returns-in_err-append-clause-err : goal.returns-in_err-append-clause-err
-returns-in_err-append-clause-err c = on_failed c.from_residual.result (λ w st. nothing_failed c.args.self.now w st)
+pub returns-in_err-append_out-clause-err : goal.returns-in_err-append_out-clause-err
+returns-in_err-append_out-clause-err c = on_failed c.from_residual.result (λ w st. nothing_failed c.args.self.now w st)
 
 pub returns-in_err-reserve-clause-err : goal.returns-in_err-reserve-clause-err
 returns-in_err-reserve-clause-err c = on_failed c.from_residual-in_err-reserve.result (λ w st. nothing_failed c.args.self.now w st)

@@ -4,7 +4,7 @@ use Rattle.ls_session.specs.declared.asking.Asked.{Asked}
 use Rattle.ls_session.specs.declared.session.Ask.{Ask}
 use Rattle.ls_session.specs.declared.session.Session.{Session as Kept}
 use Rattle.ls_session.specs.Session.{StandsSession, IsOther}
-use Rattle.ls_session.proofs.Replies.{kept_same, kept_asked, due_now, not_due_at, other_unsuited, passed_stands, waited_stands, ok_then}
+use Rattle.ls_session.proofs.Replies.{kept_same, kept_asked, due_now, none_stands, not_due_at, other_unsuited, passed_stands, waited_stands, ok_then}
 use Rattle.ls_session.proofs.session.Session.answer.Goals as goal
 
 pub answer_asked-requires : goal.answer_asked-requires
@@ -52,3 +52,34 @@ pub returns-else-is_asked-clause-taken : goal.returns-else-is_asked-clause-taken
 returns-else-is_asked-clause-taken c = λ r v t st is named took suits light.
     absurd (let x : false ≡ true = c.if-is_asked.ensures.1 (kept_asked c.args.self.now r v true c.in-Some.asked st is
     (sym c.question.ensures.asked ∙ c.in-Some.is) ∙ sym named) in cc)
+
+pub returns-else-is_asked-clause-nothing : goal.returns-else-is_asked-clause-nothing
+returns-else-is_asked-clause-nothing c = λ r v due st is named nothing.
+    absurd (let x : false ≡ true = c.if-is_asked.ensures.1 (kept_asked c.args.self.now r v due c.in-Some.asked st is
+    (sym c.question.ensures.asked ∙ c.in-Some.is) ∙ sym named) in cc)
+
+pub returns-else-is_asked-clause-waiting : goal.returns-else-is_asked-clause-waiting
+returns-else-is_asked-clause-waiting c = λ r v st is named waits.
+    absurd (let x : false ≡ true = c.if-is_asked.ensures.1 (kept_asked c.args.self.now r v false c.in-Some.asked st is
+    (sym c.question.ensures.asked ∙ c.in-Some.is) ∙ sym named) in cc)
+
+pub returns-else-is_asked-clause-other : goal.returns-else-is_asked-clause-other
+returns-else-is_asked-clause-other c = λ r st other. (refl, st)
+
+pub returns-in_default-clause-nothing : goal.returns-in_default-clause-nothing
+returns-in_default-clause-nothing c = λ r v due st is named nothing.
+    absurd (none_stands c.args.self.now r (record { live = v; due = due }) st (sym c.question.ensures.asked ∙ c.in_default.is) is)
+
+pub returns-in_default-clause-waiting : goal.returns-in_default-clause-waiting
+returns-in_default-clause-waiting c = λ r v st is named waits.
+    absurd (none_stands c.args.self.now r (record { live = v; due = false }) st (sym c.question.ensures.asked ∙ c.in_default.is) is)
+
+pub returns-in_default-clause-taken : goal.returns-in_default-clause-taken
+returns-in_default-clause-taken c = λ r v t st is named took suits light.
+    absurd (none_stands c.args.self.now r (record { live = v; due = true }) st (sym c.question.ensures.asked ∙ c.in_default.is) is)
+
+pub returns-in_default-clause-other : goal.returns-in_default-clause-other
+returns-in_default-clause-other c = λ r st other. (refl, st)
+
+pub returns-then-is_asked-clause-err : goal.returns-then-is_asked-clause-err
+returns-then-is_asked-clause-err c = c.answer_asked.ensures.err
