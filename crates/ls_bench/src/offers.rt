@@ -179,6 +179,7 @@ pub fn measure<N: House + Send + Sync, R: Runtime + AllocGlobal + Threads + Wait
     config: Config,
 ) -> Result<(), Failed>
     requires register { blank.register ≡ N.deed.register }
+    requires set { config.set ≡ N.deed.set }
     requires config { config.items ≡ N.deed.config }
     requires items { are_items config.items ≡ true }
 {

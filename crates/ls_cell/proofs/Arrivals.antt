@@ -20,7 +20,7 @@ use Rattle.ls_event.specs.Updates.{last_of, recent_rows}
 use Rattle.ls_event.specs.Keyed.{keyed}
 use Rattle.ls_event.specs.Slots.{Plan, fresh}
 use Rattle.ls_event.specs.Joining.{plan_of, joined_in, joined, command_joined, is_mode_of}
-use Rattle.ls_item.specs.States.{Kept, IsStateOf}
+use Rattle.ls_item.specs.States.{KeptState, IsStateOf}
 use Rattle.ls_raw.specs.Raw as raw
 use Rattle.ls_merge.specs.Merge as merge
 use Rattle.ls_distinct.specs.Distinct as distinct
@@ -86,7 +86,7 @@ command_kind kind.Distinct is = cc
 command_kind kind.Command is = refl
 
 -- mode RAW
-pub raw_joins : (k : Kept) (number n : ℕ) (asked : Option ℕ) (b : raw.Raw)
+pub raw_joins : (k : KeptState) (number n : ℕ) (asked : Option ℕ) (b : raw.Raw)
     → b ≡ record { kept = []; lost = 0; cursor = number; last = number }
     → ((p : Plan) (h : List Entry) → raw.IsJoining number p h → raw.StandsRaw b (fresh p number) h)
     → Joins (record { item = k; number = number; mode = mode.Raw; size = n; asked = asked }) (any.Raw b)
@@ -107,7 +107,7 @@ merge_row kind.Merge p h i row is at = cc
 merge_row kind.Distinct p h i row is at = cc
 merge_row kind.Command p h i row is at = cc
 
-pub merge_joins : (k : Kept) (number n : ℕ) (asked : Option ℕ) (owed : Bool) (row : List Value) (b : merge.Merge)
+pub merge_joins : (k : KeptState) (number n : ℕ) (asked : Option ℕ) (owed : Bool) (row : List Value) (b : merge.Merge)
     → owed ≡ is_some asked → state.Merge row ≡ k.state → IsStateOf k.shape (state.Merge row) → b.last ≡ number
     → b.row ≡ row
     → ((p : Plan) (h : List Entry) → merge.IsJoining n number row p h
@@ -222,7 +222,7 @@ distinct_state p (state.Distinct rows) number n (Some asked) first b is of first
           (recent, subst (λ r. min asked (length rows) ≤ length r) recent (omega arith)))));
     }
 
-pub distinct_joins : (k : Kept) (number n : ℕ) (asked : Option ℕ) (first : Option Snapshot) (many : ℕ)
+pub distinct_joins : (k : KeptState) (number n : ℕ) (asked : Option ℕ) (first : Option Snapshot) (many : ℕ)
     (b : distinct.Distinct) → k.shape.kind ≡ kind.Distinct → ForSome first (IsStateOf k.shape)
     → first ≡ cond (is_some asked) (Some k.state) None
     → many ≡ rows_owed first asked → b ≡ distinct.distinct_joining number n first many
@@ -275,7 +275,7 @@ command_snapshot p s n (Some asked) first h is at firstly = subst
     keys_are kind.Distinct x = cc
     keys_are kind.Command x = refl
 
-pub command_joins : (k : Kept) (number n key : ℕ) (asked : Option ℕ) (first : Option Snapshot) (b : command.Command)
+pub command_joins : (k : KeptState) (number n key : ℕ) (asked : Option ℕ) (first : Option Snapshot) (b : command.Command)
     → k.shape.kind ≡ kind.Command → key ≡ k.shape.key → ForSome first (IsStateOf k.shape)
     → first ≡ cond (is_some asked) (Some k.state) None
     → b ≡ command.command_joining number key first

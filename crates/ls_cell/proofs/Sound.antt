@@ -22,7 +22,7 @@ use Rattle.ls_event.specs.Shapes.{Shape, IsShape}
 use Rattle.ls_event.specs.Orders.{order_with}
 use Rattle.ls_event.specs.States.{state_in, state_at, state_after, push_refusal, order_refusal, order_cause}
 use Rattle.ls_event.specs.States.{weight_refusal, weight_made, row_made, keys_refusal}
-use Rattle.ls_item.specs.States.{Kept}
+use Rattle.ls_item.specs.States.{KeptState}
 use Rattle.ls_command.specs.Command.{IsText, NamesKey}
 use Rattle.ls_cell.specs.declared.any.AnyBuffer.{AnyBuffer}
 use Rattle.ls_cell.specs.Any.{any_last, AnyAdmits}
@@ -204,7 +204,7 @@ kind_first kind.Merge p = tt
 kind_first kind.Distinct p = tt
 kind_first kind.Command p = tt
 
-pub sound_new : (p : Shape) (k : Kept) (seqs : List ℕ) → IsShape p → k ≡ record { shape = p; state = state_at p [] 0 }
+pub sound_new : (p : Shape) (k : KeptState) (seqs : List ℕ) → IsShape p → k ≡ record { shape = p; state = state_at p [] 0 }
     → length seqs ≡ MOST_ADAPTERS + 1 → IsSound (record { item = k; number = 0; tail = []; seqs = seqs; slots = [] })
 sound_new p k seqs ok is long =
     subst (λ item. IsSound (record { item = item; number = 0; tail = []; seqs = seqs; slots = [] })) (sym is)

@@ -19,7 +19,7 @@ use Rattle.ls_event.specs.Shapes.{Shape, IsShape}
 use Rattle.ls_event.specs.States.{state_at, state_after, key_row, push_refusal}
 use Rattle.ls_event.specs.Publishes.{stored_from, publish_cause, backlog_or, IsHistory}
 use Rattle.ls_event.specs.Slots.{Slot, enqueued}
-use Rattle.ls_item.specs.States.{Kept}
+use Rattle.ls_item.specs.States.{KeptState}
 use Rattle.ls_value.specs.declared.limits.TheConstants.{GREATEST_NUMBER}
 use Rattle.ls_cell.specs.declared.any.AnyBuffer.{AnyBuffer}
 use Rattle.ls_cell.specs.declared.cell.Enqueued.{Enqueued}
@@ -31,7 +31,7 @@ use Rattle.ls_cell.specs.Standing.{IsEventOf, IsSlotOf, StandsSlot, last_at}
 -- what an item holds: its shape and its state, its number of events, the last of them, the last seq of each adapter,
 -- and its slots
 pub record Held : Type 0 where
-  pub item : Kept
+  pub item : KeptState
   pub number : ℕ
   pub tail : List Stored
   pub seqs : List ℕ

@@ -7,7 +7,7 @@ use Rattle.ls_event.specs.declared.snapshot.Snapshot.{Snapshot}
 use Rattle.ls_event.specs.declared.snapshot.Snapshot.TheVariants as state
 use Rattle.ls_event.specs.States.{state_at}
 use Rattle.ls_event.specs.Joining.{plan_of, joined}
-use Rattle.ls_item.specs.States.{Kept}
+use Rattle.ls_item.specs.States.{KeptState}
 use Rattle.ls_cell.specs.declared.any.AnyBuffer.{AnyBuffer}
 use Rattle.ls_cell.specs.Any.{StandsAny, any_last, HasAnyFields, AnyAdmits}
 use Rattle.ls_cell.specs.Standing.{IsEventOf}
@@ -15,7 +15,7 @@ use Rattle.ls_cell.specs.Standing.{IsEventOf}
 -- a join: the item and its number of events, the slot's mode and size, and how many rows of a snapshot are asked for,
 -- if one is
 pub record Join : Type 0 where
-  pub item : Kept
+  pub item : KeptState
   pub number : ℕ
   pub mode : Mode
   pub size : ℕ

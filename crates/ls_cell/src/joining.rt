@@ -4,7 +4,7 @@ ghost use Rattle.std.specs.Option.{ForSome};
 ghost use Rattle.ls_event.specs.Shapes.{IsShape};
 ghost use Rattle.ls_event.specs.Joining.{rows_asked, is_mode_of};
 ghost use Rattle.ls_event.specs.declared.limits.TheConstants.{MOST_BUFFER_SIZE, MOST_SNAPSHOT_ROWS};
-ghost use Rattle.ls_item.specs.States.{IsStateOf, Kept};
+ghost use Rattle.ls_item.specs.States.{IsStateOf, KeptState};
 ghost use Rattle.ls_distinct.specs.Distinct.{distinct_rows};
 ghost use Rattle.ls_cell.specs.Joins.{Joins, rows_owed as owed_of};
 
@@ -44,7 +44,7 @@ pub fn buffer_of(
 
 /// The buffer of a slot in mode RAW, which knows no snapshot and no size.
 fn raw_buffer(alloc: Global, number: u64) -> Result<AnyBuffer, NoMemory>
-    ensures { IfOk result (λ b. (k : Kept) (n : ℕ) (asked : Option ℕ)
+    ensures { IfOk result (λ b. (k : KeptState) (n : ℕ) (asked : Option ℕ)
         → Joins (record { item = k; number = number; mode = Mode.Raw; size = n; asked = asked }) b) }
 {
     let buffer = RawBuffer::new(alloc, number)?;

@@ -15,7 +15,7 @@ use Rattle.ls_cell.specs.Cell.{Held, StandsCell, enqueue_answer, enqueued_at}
 use Rattle.ls_cell.specs.Numbered.{slot_at, set_slot, put_slot, live_slots, free_number}
 use Rattle.ls_cell.specs.Standing.{StandsSlot}
 use Rattle.ls_cell.proofs.Changes.{same_live}
-use Rattle.ls_world.specs.World.{Item, Live, history_of, shape_at, enqueue_slot}
+use Rattle.ls_record.specs.Records.{Item, LiveSlot, history_of, shape_at, enqueue_slot}
 use Rattle.ls_cells.specs.Cells.{AllCells, StandsCells, MayJoin, slot_numbered, free_in}
 use Rattle.ls_cells.proofs.Numbers.{each_out, count_low}
 use Rattle.ls_cells.proofs.Places.{set_back}
@@ -24,13 +24,13 @@ use Rattle.ls_cells.proofs.Items.{ItemHere, item_here, history_at, as_many}
 use Rattle.ls_cells.proofs.OneSlot.{SlotThere, slot_there, cells_changed, cells_joined, cells_left}
 
 -- there is a cell for the item of each slot
-pub no_item : (k : AllCells) (j : ℕ) (items : List Item) (a b : List Live) (v : Live) → StandsCells k items (a ++ v ∷ b) → v.item ≡ j
+pub no_item : (k : AllCells) (j : ℕ) (items : List Item) (a b : List LiveSlot) (v : LiveSlot) → StandsCells k items (a ++ v ∷ b) → v.item ≡ j
     → length k.cells ≤ j → ⊥
 no_item k j items a b v st on high =
     let w = each_out (λ x. x.item < length items) a b v st.within in
     omega (arith, w.0, on, high, as_many (a ++ v ∷ b) 0 k.cells items st.cells)
 
-pub enqueue_is : (h : List Entry) (v : Live) → record v { slot = enqueued_at h v.slot } ≡ enqueue_slot h v
+pub enqueue_is : (h : List Entry) (v : LiveSlot) → record v { slot = enqueued_at h v.slot } ≡ enqueue_slot h v
 enqueue_is h v = by_test (nat_lt v.slot.last (length h))
   where
     by_test : (t : Bool) → record v { slot = cond t (enqueued v.slot) v.slot } ≡ cond t (record v { slot = enqueued v.slot }) v
@@ -48,7 +48,7 @@ module _ (cells : List Held) (j : ℕ) (c : Held) (low : j < length cells) (is :
       → answer ≡ Some (enqueue_answer (length h) s.last))
       → ((ss : List (Option Slot)) (h : List Entry) (s : Slot) → StandsCell c ss h → slot_at ss number ≡ Some s
       → StandsCell c' (set_slot ss number (Some (enqueued_at h s))) h)
-      → (items : List Item) (a b : List Live) (v : Live) → StandsCells (record { cells = cells; live = live }) items (a ++ v ∷ b)
+      → (items : List Item) (a b : List LiveSlot) (v : LiveSlot) → StandsCells (record { cells = cells; live = live }) items (a ++ v ∷ b)
       → v.item ≡ j → v.number ≡ number
       → (answer ≡ Some (enqueue_answer (length (history_of items v.item)) v.slot.last))
       × StandsCells (record { cells = set cells j c'; live = live }) items (a ++ enqueue_slot (history_of items v.item) v ∷ b)
@@ -56,14 +56,14 @@ module _ (cells : List Held) (j : ℕ) (c : Held) (low : j < length cells) (is :
       let h : List Entry = history_of items v.item in
       let x : SlotThere c h number v.slot = slot_there cells j c low is live number items a b v on numbered st in (
         answers x.slots h v.slot x.cell x.here,
-        subst (λ (u : Live). StandsCells (record { cells = set cells j c'; live = live }) items (a ++ u ∷ b)) (enqueue_is h v)
+        subst (λ (u : LiveSlot). StandsCells (record { cells = set cells j c'; live = live }) items (a ++ u ∷ b)) (enqueue_is h v)
             (cells_changed cells j c low is c' live number items a b v (enqueued_at h v.slot) on numbered shape
             (λ ss s here. step ss h v.slot s here) st),
       )
 
   pub look_did : (live number : ℕ) (t : Option Taken)
       → ((ss : List (Option Slot)) (h : List Entry) (s : Slot) → StandsCell c ss h → slot_at ss number ≡ Some s → t ≡ cut h s)
-      → (items : List Item) (a b : List Live) (v : Live) → StandsCells (record { cells = cells; live = live }) items (a ++ v ∷ b)
+      → (items : List Item) (a b : List LiveSlot) (v : LiveSlot) → StandsCells (record { cells = cells; live = live }) items (a ++ v ∷ b)
       → v.item ≡ j → v.number ≡ number → t ≡ cut (history_of items v.item) v.slot
   look_did live number t cuts items a b v st on numbered =
       let x : SlotThere c (history_of items v.item) number v.slot = slot_there cells j c low is live number items a b v on numbered st in
@@ -71,7 +71,7 @@ module _ (cells : List Held) (j : ℕ) (c : Held) (low : j < length cells) (is :
 
   pub pending_did : (live number : ℕ) (pends : Bool)
       → ((ss : List (Option Slot)) (h : List Entry) (s : Slot) → StandsCell c ss h → slot_at ss number ≡ Some s → pends ≡ is_pending h s)
-      → (items : List Item) (a b : List Live) (v : Live) → StandsCells (record { cells = cells; live = live }) items (a ++ v ∷ b)
+      → (items : List Item) (a b : List LiveSlot) (v : LiveSlot) → StandsCells (record { cells = cells; live = live }) items (a ++ v ∷ b)
       → v.item ≡ j → v.number ≡ number → pends ≡ is_pending (history_of items v.item) v.slot
   pending_did live number pends says items a b v st on numbered =
       let x : SlotThere c (history_of items v.item) number v.slot = slot_there cells j c low is live number items a b v on numbered st in
@@ -80,7 +80,7 @@ module _ (cells : List Held) (j : ℕ) (c : Held) (low : j < length cells) (is :
   pub pass_did : (c' : Held) (live number : ℕ) → c'.item.shape ≡ c.item.shape
       → ((ss : List (Option Slot)) (h : List Entry) (s : Slot) (t : Taken) → StandsCell c ss h → slot_at ss number ≡ Some s → cut h s ≡ Some t
       → StandsCell c' (set_slot ss number (Some (passed s t))) h)
-      → (items : List Item) (a b : List Live) (v : Live) (t : Taken) → StandsCells (record { cells = cells; live = live }) items (a ++ v ∷ b)
+      → (items : List Item) (a b : List LiveSlot) (v : LiveSlot) (t : Taken) → StandsCells (record { cells = cells; live = live }) items (a ++ v ∷ b)
       → v.item ≡ j → v.number ≡ number → cut (history_of items v.item) v.slot ≡ Some t
       → StandsCells (record { cells = set cells j c'; live = live }) items (a ++ record v { slot = passed v.slot t } ∷ b)
   pass_did c' live number shape step items a b v t st on numbered cuts =
@@ -90,7 +90,7 @@ module _ (cells : List Held) (j : ℕ) (c : Held) (low : j < length cells) (is :
   pub leave_did : (c' : Held) (live number : ℕ) (left : Bool) → c'.item.shape ≡ c.item.shape
       → ((ss : List (Option Slot)) (h : List Entry) (s : Slot) → StandsCell c ss h → slot_at ss number ≡ Some s
       → (left ≡ true) × StandsCell c' (set_slot ss number None) h)
-      → (items : List Item) (a b : List Live) (v : Live) → StandsCells (record { cells = cells; live = live }) items (a ++ v ∷ b)
+      → (items : List Item) (a b : List LiveSlot) (v : LiveSlot) → StandsCells (record { cells = cells; live = live }) items (a ++ v ∷ b)
       → v.item ≡ j → v.number ≡ number
       → (left ≡ true) × StandsCells (record { cells = set cells j c'; live = live - 1 }) items (a ++ b)
   leave_did c' live number left shape step items a b v st on numbered =
@@ -106,7 +106,7 @@ module _ (cells : List Held) (j : ℕ) (c : Held) (low : j < length cells) (is :
       → live_slots ss < MOST_SLOTS → answer ≡ Some (free_number ss))
       → ((ss : List (Option Slot)) (h : List Entry) → StandsCell c ss h → is_mode_of m c.item.shape.kind ≡ true → 0 < n → n ≤ MOST_BUFFER_SIZE
       → live_slots ss < MOST_SLOTS → StandsCell c' (put_slot ss (joined (plan_of c.item.shape h m n) h (rows_asked snap))) h)
-      → (items : List Item) (a b : List Live) (v : Live) → StandsCells (record { cells = cells; live = live }) items (a ++ b) → v.item ≡ j
+      → (items : List Item) (a b : List LiveSlot) (v : LiveSlot) → StandsCells (record { cells = cells; live = live }) items (a ++ b) → v.item ≡ j
       → is_mode_of m (shape_at items j).kind ≡ true → 0 < n → n ≤ MOST_BUFFER_SIZE → length (a ++ b) < MOST_SLOTS → v.number ≡ free_in (a ++ b) j
       → v.slot ≡ joined (plan_of (shape_at items j) (history_of items j) m n) (history_of items j) (rows_asked snap)
       → (answer ≡ Some v.number) × StandsCells (record { cells = set cells j c'; live = live + 1 }) items (a ++ v ∷ b)
@@ -133,7 +133,7 @@ module _ (cells : List Held) (j : ℕ) (c : Held) (low : j < length cells) (is :
           ∙ same_live (StandsSlot c.item.shape) c.slots ts (history_of items j) t.slots
 
   -- a slot that may join
-  pub may_did : (live n : ℕ) (m : Mode) (items : List Item) (lives : List Live) → StandsCells (record { cells = cells; live = live }) items lives
+  pub may_did : (live n : ℕ) (m : Mode) (items : List Item) (lives : List LiveSlot) → StandsCells (record { cells = cells; live = live }) items lives
       → live < MOST_SLOTS → is_mode_of m c.item.shape.kind ≡ true → 0 < n → n ≤ MOST_BUFFER_SIZE → MayJoin items lives j m n
   may_did live n m items lives st few allowed some most =
       let x : ItemHere lives items j c = item_here lives items j cells c low is st.cells in
@@ -146,7 +146,7 @@ module _ (cells : List Held) (j : ℕ) (c : Held) (low : j < length cells) (is :
       }
 
   -- where no slot has a number, the cell says so
-  pub none_here : (P : Type 0) (live number : ℕ) (items : List Item) (lives : List Live)
+  pub none_here : (P : Type 0) (live number : ℕ) (items : List Item) (lives : List LiveSlot)
       → ((ss : List (Option Slot)) (h : List Entry) → StandsCell c ss h → slot_at ss number ≡ None → P)
       → StandsCells (record { cells = cells; live = live }) items lives → slot_numbered j number lives ≡ None → P
   none_here P live number items lives says st none =
@@ -154,7 +154,7 @@ module _ (cells : List Held) (j : ℕ) (c : Held) (low : j < length cells) (is :
       says x.stands.slots x.item.history x.stands.cell (x.stands.live number ∙ none)
 
   -- and a call that then leaves the cell as it was leaves all as it was
-  pub none_did : (P : Type 0) (c' : Held) (live number : ℕ) (items : List Item) (lives : List Live)
+  pub none_did : (P : Type 0) (c' : Held) (live number : ℕ) (items : List Item) (lives : List LiveSlot)
       → ((ss : List (Option Slot)) (h : List Entry) → StandsCell c ss h → slot_at ss number ≡ None → P × (c' ≡ c))
       → StandsCells (record { cells = cells; live = live }) items lives → slot_numbered j number lives ≡ None
       → P × StandsCells (record { cells = set cells j c'; live = live }) items lives

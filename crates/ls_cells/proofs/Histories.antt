@@ -9,20 +9,20 @@ use Rattle.ls_cell.specs.declared.any.AnyBuffer.{AnyBuffer}
 use Rattle.ls_cell.specs.Cell.{Held}
 use Rattle.ls_cell.specs.Numbered.{slot_at, StandsAt, StandsAll}
 use Rattle.ls_cell.specs.Standing.{StandsSlot}
-use Rattle.ls_world.specs.World.{Item, Live, history_of}
+use Rattle.ls_record.specs.Records.{Item, LiveSlot, history_of}
 use Rattle.ls_cells.specs.Cells.{AllCells, StandsItem, StandsItems, StandsCells}
 use Rattle.ls_cells.proofs.Numbers.{each_out, unlike_out}
 use Rattle.ls_cells.proofs.Items.{history_at}
 use Rattle.ls_cells.proofs.OneSlot.{mine}
 
 -- the cell of an item
-record ItemAt (lives : List Live) (items : List Item) (n j : ℕ) : Type 0 where
+record ItemAt (lives : List LiveSlot) (items : List Item) (n j : ℕ) : Type 0 where
   cell : Held
   item : Item
   is : slice_get items j ≡ Some item
   stands : StandsItem lives (n + j) cell item
 
-item_at : (lives : List Live) (n j : ℕ) (cells : List Held) (items : List Item) → j < length items → StandsItems lives n cells items
+item_at : (lives : List LiveSlot) (n j : ℕ) (cells : List Held) (items : List Item) → j < length items → StandsItems lives n cells items
     → ItemAt lives items n j
 item_at lives n j [] [] low st = absurd (omega (arith, low))
 item_at lives n j [] (i ∷ items) low st = absurd st
@@ -64,7 +64,7 @@ module _ (f : AnyBuffer → Slot → List Entry → Type 0) (h : List Entry) (s 
   stands_at bs ss zero st is = absurd (let e : None ≡ Some s = is in cc)
   stands_at bs ss (suc n) st is = stands_in bs ss n st is
 
-pub slot_history : (k : AllCells) (items : List Item) (a b : List Live) (v : Live) → StandsCells k items (a ++ v ∷ b)
+pub slot_history : (k : AllCells) (items : List Item) (a b : List LiveSlot) (v : LiveSlot) → StandsCells k items (a ++ v ∷ b)
     → IsHistory v.slot.plan.shape (history_of items v.item)
 slot_history k items a b v st =
     let r : ItemAt (a ++ v ∷ b) items 0 v.item = item_at (a ++ v ∷ b) 0 v.item k.cells items

@@ -3,21 +3,21 @@ use Rattle.std.proofs.Common.{◌≡◌, ◌==◌, ℕ, zero, suc, ◌+◌, ◌<
 use Rattle.std.proofs.Common.{Some, None, slice_get, get_or, set}
 use Rattle.std.proofs.lemmas.Bool.{eqb-true}
 use Rattle.ls_cell.specs.Cell.{Held}
-use Rattle.ls_world.specs.Lawful.{Each}
-use Rattle.ls_world.specs.World.{Item, Live, numbers_of, history_of, change}
+use Rattle.ls_value.specs.Each.{Each}
+use Rattle.ls_record.specs.Records.{Item, LiveSlot, numbers_of, history_of, change}
 use Rattle.ls_cells.specs.Cells.{AllCells, is_numbered, slot_numbered, IsUnlike, Unlike, StandsItem, StandsItems, StandsCells}
 use Rattle.ls_cells.proofs.Numbers.{each_out, each_in, length_in, unlike_out, unlike_in, IsFreeAt, unlike_at}
 use Rattle.ls_cells.proofs.Numbers.{numbered_here, numbered_other, count_here, numbers_other}
 
 -- two lists have the same slots on an item
-pub record SameAt (before after : List Live) (n : ℕ) : Type 0 where
+pub record SameAt (before after : List LiveSlot) (n : ℕ) : Type 0 where
   pub numbered : (number : ℕ) → slot_numbered n number after ≡ slot_numbered n number before
   pub count : length (numbers_of n after) ≡ length (numbers_of n before)
 
-pub same_self : (lives : List Live) (n : ℕ) → SameAt lives lives n
+pub same_self : (lives : List LiveSlot) (n : ℕ) → SameAt lives lives n
 same_self lives n = record { numbered = λ m. refl; count = refl }
 
-item_same : (before after : List Live) (n : ℕ) (c : Held) (i : Item) → SameAt before after n → StandsItem before n c i → StandsItem after n c i
+item_same : (before after : List LiveSlot) (n : ℕ) (c : Held) (i : Item) → SameAt before after n → StandsItem before n c i → StandsItem after n c i
 item_same before after n c i s st =
     record {
       slots = st.slots;
@@ -27,7 +27,7 @@ item_same before after n c i s st =
       count = st.count ∙ sym s.count;
     }
 
-pub items_same : (before after : List Live) (n : ℕ) (cells : List Held) (items : List Item) → ((m : ℕ) → SameAt before after m)
+pub items_same : (before after : List LiveSlot) (n : ℕ) (cells : List Held) (items : List Item) → ((m : ℕ) → SameAt before after m)
     → StandsItems before n cells items → StandsItems after n cells items
 items_same before after n [] [] s st = tt
 items_same before after n [] (i ∷ items) s st = absurd st
@@ -36,7 +36,7 @@ items_same before after n (c ∷ cells) (i ∷ items) s st =
     (item_same before after n c i (s n) st.0, items_same before after (n + 1) cells items s st.1)
 
 -- the items behind the one that changes
-items_behind : (before after : List Live) (k n : ℕ) (cells : List Held) (items : List Item) → k < n → ((m : ℕ) → (m ≡ k → ⊥) → SameAt before after m)
+items_behind : (before after : List LiveSlot) (k n : ℕ) (cells : List Held) (items : List Item) → k < n → ((m : ℕ) → (m ≡ k → ⊥) → SameAt before after m)
     → StandsItems before n cells items → StandsItems after n cells items
 items_behind before after k n [] [] low s st = tt
 items_behind before after k n [] (i ∷ items) low s st = absurd st
@@ -47,7 +47,7 @@ items_behind before after k n (c ∷ cells) (i ∷ items) low s st = (
 )
 
 -- one item changes
-pub items_set : (before after : List Live) (f : Item → Item) (k n j : ℕ) (cells : List Held) (items : List Item) (c c' : Held) → k ≡ n + j
+pub items_set : (before after : List LiveSlot) (f : Item → Item) (k n j : ℕ) (cells : List Held) (items : List Item) (c c' : Held) → k ≡ n + j
     → j < length cells → c ≡ get_or cells j c → StandsItems before n cells items
     → ((i : Item) → slice_get items j ≡ Some i → StandsItem before k c i → StandsItem after k c' (f i))
     → ((m : ℕ) → (m ≡ k → ⊥) → SameAt before after m) → StandsItems after n (set cells j c') (change j f items)
@@ -80,14 +80,14 @@ history_at zero (y ∷ items) i is = let same : y ≡ i = cc in ap (λ (z : Item
 history_at (suc n) (y ∷ items) i is = history_at n items i is
 
 -- there are as many cells as items
-pub as_many : (lives : List Live) (n : ℕ) (cells : List Held) (items : List Item) → StandsItems lives n cells items → length cells ≡ length items
+pub as_many : (lives : List LiveSlot) (n : ℕ) (cells : List Held) (items : List Item) → StandsItems lives n cells items → length cells ≡ length items
 as_many lives n [] [] st = refl
 as_many lives n [] (i ∷ items) st = absurd st
 as_many lives n (c ∷ cells) [] st = absurd st
 as_many lives n (c ∷ cells) (i ∷ items) st = ap suc (as_many lives (n + 1) cells items st.1)
 
 -- the same slot is put into two lists that are one
-pub same_put : (a b c d : List Live) (v : Live) → IsUnlike v (a ++ b) → a ++ b ≡ c ++ d → (n : ℕ) → SameAt (a ++ v ∷ b) (c ++ v ∷ d) n
+pub same_put : (a b c d : List LiveSlot) (v : LiveSlot) → IsUnlike v (a ++ b) → a ++ b ≡ c ++ d → (n : ℕ) → SameAt (a ++ v ∷ b) (c ++ v ∷ d) n
 same_put a b c d v u same n =
     record {
       numbered = λ m. by_number m (is_numbered n m v) refl;
@@ -108,7 +108,7 @@ same_put a b c d v u same n =
         ap length (numbers_other n c d v is) ∙ ap (λ vs. length (numbers_of n vs)) (sym same) ∙ ap length (sym (numbers_other n a b v is))
 
 -- the slots of all sessions come in another order
-pub cells_moved : (k : AllCells) (items : List Item) (a b c d : List Live) (v : Live) → a ++ b ≡ c ++ d
+pub cells_moved : (k : AllCells) (items : List Item) (a b c d : List LiveSlot) (v : LiveSlot) → a ++ b ≡ c ++ d
     → StandsCells k items (a ++ v ∷ b) → StandsCells k items (c ++ v ∷ d)
 cells_moved k items a b c d v same st =
     let u = unlike_out a b v st.unlike in
@@ -121,12 +121,12 @@ cells_moved k items a b c d v same st =
     }
 
 -- the item of a cell
-pub record ItemHere (lives : List Live) (items : List Item) (j : ℕ) (c : Held) : Type 0 where
+pub record ItemHere (lives : List LiveSlot) (items : List Item) (j : ℕ) (c : Held) : Type 0 where
   pub item : Item
   pub is : slice_get items j ≡ Some item
   pub stands : StandsItem lives j c item
 
-items_find : (lives : List Live) (k n j : ℕ) (cells : List Held) (items : List Item) (c : Held) → k ≡ n + j → j < length cells → c ≡ get_or cells j c
+items_find : (lives : List LiveSlot) (k n j : ℕ) (cells : List Held) (items : List Item) (c : Held) → k ≡ n + j → j < length cells → c ≡ get_or cells j c
     → StandsItems lives n cells items → (i : Item) × (slice_get items j ≡ Some i) × StandsItem lives k c i
 items_find lives k n j [] items c at low is st = absurd (omega (arith, low))
 items_find lives k n j (x ∷ cells) [] c at low is st = absurd st
@@ -135,7 +135,7 @@ items_find lives k n zero (x ∷ cells) (i ∷ items) c at low is st =
 items_find lives k n (suc j) (x ∷ cells) (i ∷ items) c at low is st =
     items_find lives k (n + 1) j cells items c (omega (arith, at)) (omega (arith, low)) is st.1
 
-pub item_here : (lives : List Live) (items : List Item) (j : ℕ) (cells : List Held) (c : Held) → j < length cells → c ≡ get_or cells j c
+pub item_here : (lives : List LiveSlot) (items : List Item) (j : ℕ) (cells : List Held) (c : Held) → j < length cells → c ≡ get_or cells j c
     → StandsItems lives 0 cells items → ItemHere lives items j c
 item_here lives items j cells c low is st =
     let r = items_find lives j 0 j cells items c (omega arith) low is st in

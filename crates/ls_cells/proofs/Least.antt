@@ -6,13 +6,13 @@ use Rattle.std.proofs.lemmas.Bool.{eqb-true, eq-eqb, ne_eqb, ltb-true, ltb-false
 use Rattle.ls_event.specs.Slots.{Slot, is_far}
 use Rattle.ls_cell.specs.Cell.{least_lagging}
 use Rattle.ls_cell.specs.Numbered.{slot_at, free_number, lags, first_lagging}
-use Rattle.ls_world.specs.World.{Live, numbers_of, far_numbers, least_of, greatest_of, least_free_from, holds}
+use Rattle.ls_record.specs.Records.{LiveSlot, numbers_of, far_numbers, least_of, greatest_of, least_free_from, holds}
 use Rattle.ls_cells.specs.Cells.{slot_numbered, Unlike, free_in, far_in}
 use Rattle.ls_cells.proofs.Numbers.{differs, numbered_none, unlike_at, is_numbered_at}
 use Rattle.ls_cells.proofs.Counted.{free_from_one, free_none, free_least}
 
 -- the numbers of an item's slots are those at which there is a slot
-pub holds_numbers : (n m : ℕ) (vs : List Live) → holds m (numbers_of n vs) ≡ is_some (slot_numbered n m vs)
+pub holds_numbers : (n m : ℕ) (vs : List LiveSlot) → holds m (numbers_of n vs) ≡ is_some (slot_numbered n m vs)
 holds_numbers n m [] = refl
 holds_numbers n m (v ∷ vs) = by_item (n == v.item) (holds_numbers n m vs)
   where
@@ -27,7 +27,7 @@ holds_numbers n m (v ∷ vs) = by_item (n == v.item) (holds_numbers n m vs)
     by_item false rest = rest
 
 -- those of the slots that lag are those at which a slot lags
-pub holds_far : (n e m : ℕ) (vs : List Live) → Unlike vs → holds m (far_numbers n e vs) ≡ lags (λ (s : Slot). s.last) e (slot_numbered n m vs)
+pub holds_far : (n e m : ℕ) (vs : List LiveSlot) → Unlike vs → holds m (far_numbers n e vs) ≡ lags (λ (s : Slot). s.last) e (slot_numbered n m vs)
 holds_far n e m [] u = refl
 holds_far n e m (v ∷ vs) u = by_item (holds_far n e m vs u.1) (n == v.item) refl
   where
@@ -147,7 +147,7 @@ first_least e ss (Some m) h =
     in_front (suc j) low = h.before j (omega (arith, low))
 
 -- the least slot that lags
-pub far_is : (ss : List (Option Slot)) (n e : ℕ) (vs : List Live) → Unlike vs → ((m : ℕ) → slot_at ss m ≡ slot_numbered n m vs)
+pub far_is : (ss : List (Option Slot)) (n e : ℕ) (vs : List LiveSlot) → Unlike vs → ((m : ℕ) → slot_at ss m ≡ slot_numbered n m vs)
     → least_lagging e ss ≡ far_in n e vs
 far_is ss n e vs u live =
     least_same (λ m. lags (λ (s : Slot). s.last) e (slot_at ss m)) (least_lagging e ss) (far_in n e vs)
@@ -179,7 +179,7 @@ free_found (suc k) n f used low high free each =
         let same : n ≡ f = omega (arith, low, ltb-false n f e) in
         ap (λ t. cond t (least_free_from k (n + 1) used) n) (subst (λ x. holds x used ≡ false) (sym same) free) ∙ same
 
-pub free_is : (ss : List (Option Slot)) (n : ℕ) (vs : List Live) → ((m : ℕ) → slot_at ss m ≡ slot_numbered n m vs) → free_number ss ≡ free_in vs n
+pub free_is : (ss : List (Option Slot)) (n : ℕ) (vs : List LiveSlot) → ((m : ℕ) → slot_at ss m ≡ slot_numbered n m vs) → free_number ss ≡ free_in vs n
 free_is ss n vs live =
     sym (free_found (greatest_of (numbers_of n vs)) 1 (free_number ss) (numbers_of n vs) (free_from_one ss) (by_order (nat_lt 1 (free_number ss)) refl)
     (used (free_number ss) ∙ ap is_some (free_none ss (free_number ss) refl))

@@ -5,13 +5,13 @@ use Rattle.std.proofs.lemmas.Bool.{ne_eqb}
 use Rattle.std.proofs.lemmas.Grind.{flat_map-append}
 use Rattle.std.proofs.lemmas.List.{append_assoc}
 use Rattle.std.proofs.lemmas.List.Concat.{flat_map-cons}
-use Rattle.ls_world.specs.Lawful.{Each}
-use Rattle.ls_world.specs.World.{Item, Session, Live, all_live, change, greatest_of, least_free_from}
+use Rattle.ls_value.specs.Each.{Each}
+use Rattle.ls_record.specs.Records.{Item, Session, LiveSlot, all_live, change, greatest_of, least_free_from}
 use Rattle.ls_cells.specs.Cells.{AllCells, StandsCells, free_in}
 use Rattle.ls_cells.proofs.Numbers.{numbers_other}
 use Rattle.ls_cells.proofs.Items.{change_self, cells_moved}
 
-abbrev round_of_session : Session → List Live
+abbrev round_of_session : Session → List LiveSlot
 round_of_session s = s.board.round
 
 pub all_live_cons : (s : Session) (sessions : List Session) → all_live (s ∷ sessions) ≡ s.board.round ++ all_live sessions
@@ -19,8 +19,8 @@ all_live_cons s sessions = flat_map-cons round_of_session s sessions
 
 -- the slots of the sessions before one, and of those behind it
 pub record SessionAt (sessions : List Session) (n : ℕ) (s : Session) : Type 0 where
-  pub before : List Live
-  pub after : List Live
+  pub before : List LiveSlot
+  pub after : List LiveSlot
   pub all : all_live sessions ≡ before ++ (s.board.round ++ after)
   pub changed : (f : Session → Session) → all_live (change n f sessions) ≡ before ++ ((f s).board.round ++ after)
 
@@ -71,14 +71,14 @@ pub middle_out : {A : Type 0} (before a b after : List A) → before ++ ((a ++ b
 middle_out before a b after = ap (λ zs. before ++ zs) (append_assoc a b after) ∙ sym (append_assoc before a (b ++ after))
 
 -- a slot of a session's round is one of all, and the others are before it and behind it
-pub record LiveAt (sessions : List Session) (n : ℕ) (s : Session) (k : ℕ) (v : Live) : Type 0 where
-  pub before : List Live
-  pub after : List Live
+pub record LiveAt (sessions : List Session) (n : ℕ) (s : Session) (k : ℕ) (v : LiveSlot) : Type 0 where
+  pub before : List LiveSlot
+  pub after : List LiveSlot
   pub all : all_live sessions ≡ before ++ v ∷ after
-  pub changed : (f : Session → Session) (g : Live → Live) → (f s).board.round ≡ change k g s.board.round
+  pub changed : (f : Session → Session) (g : LiveSlot → LiveSlot) → (f s).board.round ≡ change k g s.board.round
       → all_live (change n f sessions) ≡ before ++ g v ∷ after
 
-pub live_in : (sessions : List Session) (n : ℕ) (s : Session) (k : ℕ) (v : Live) → slice_get sessions n ≡ Some s → slice_get s.board.round k ≡ Some v
+pub live_in : (sessions : List Session) (n : ℕ) (s : Session) (k : ℕ) (v : LiveSlot) → slice_get sessions n ≡ Some s → slice_get s.board.round k ≡ Some v
     → LiveAt sessions n s k v
 live_in sessions n s k v at here =
     let x : SessionAt sessions n s = session_at sessions n s at in
@@ -92,27 +92,27 @@ live_in sessions n s k v at here =
     }
 
 -- a slot on another item leaves the least free number
-pub free_other : (item : ℕ) (a b : List Live) (v : Live) → (item ≡ v.item → ⊥) → free_in (a ++ v ∷ b) item ≡ free_in (a ++ b) item
+pub free_other : (item : ℕ) (a b : List LiveSlot) (v : LiveSlot) → (item ≡ v.item → ⊥) → free_in (a ++ v ∷ b) item ≡ free_in (a ++ b) item
 free_other item a b v other = ap (λ ns. least_free_from (greatest_of ns) 1 ns) (numbers_other item a b v (ne_eqb item v.item other))
 
 -- and so do several
-pub free_others : (item : ℕ) (vs rest : List Live) → Each (λ v. item ≡ v.item → ⊥) vs → free_in (vs ++ rest) item ≡ free_in rest item
+pub free_others : (item : ℕ) (vs rest : List LiveSlot) → Each (λ v. item ≡ v.item → ⊥) vs → free_in (vs ++ rest) item ≡ free_in rest item
 free_others item [] rest others = refl
 free_others item (v ∷ vs) rest others = free_other item [] (vs ++ rest) v others.0 ∙ free_others item vs rest others.1
 
 -- a slot comes later, or earlier, among the slots of all sessions
-pub cells_later : (k : AllCells) (items : List Item) (a b c : List Live) (v : Live) → StandsCells k items (a ++ v ∷ b ++ c)
+pub cells_later : (k : AllCells) (items : List Item) (a b c : List LiveSlot) (v : LiveSlot) → StandsCells k items (a ++ v ∷ b ++ c)
     → StandsCells k items (a ++ b ++ v ∷ c)
 cells_later k items a b c v st =
     cells_moved k items a (b ++ c) (a ++ b) c v (sym (append_assoc a b c)) (subst (StandsCells k items) (append_assoc a (v ∷ b) c) st)
 
-pub cells_earlier : (k : AllCells) (items : List Item) (a b c : List Live) (v : Live) → StandsCells k items (a ++ b ++ v ∷ c)
+pub cells_earlier : (k : AllCells) (items : List Item) (a b c : List LiveSlot) (v : LiveSlot) → StandsCells k items (a ++ b ++ v ∷ c)
     → StandsCells k items (a ++ v ∷ b ++ c)
 cells_earlier k items a b c v st =
     subst (StandsCells k items) (sym (append_assoc a (v ∷ b) c)) (cells_moved k items (a ++ b) c a (b ++ c) v (append_assoc a b c) st)
 
 -- a slot has another place in its session's round
-pub cells_turned : (k : AllCells) (items : List Item) (before after a b c d : List Live) (v : Live) → a ++ b ≡ c ++ d
+pub cells_turned : (k : AllCells) (items : List Item) (before after a b c d : List LiveSlot) (v : LiveSlot) → a ++ b ≡ c ++ d
     → StandsCells k items (before ++ ((a ++ v ∷ b) ++ after)) → StandsCells k items (before ++ ((c ++ v ∷ d) ++ after))
 cells_turned k items before after a b c d v same st =
     subst (StandsCells k items) (sym (middle before c d after v))

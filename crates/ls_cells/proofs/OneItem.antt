@@ -12,10 +12,10 @@ use Rattle.ls_event.specs.Shapes.{Shape, shape_of}
 use Rattle.ls_event.specs.Slots.{Slot}
 use Rattle.ls_cell.specs.Cell.{Held, StandsCell, AnswersFirst, least_lagging}
 use Rattle.ls_cell.specs.Numbered.{slot_at}
-use Rattle.ls_world.specs.Lawful.{Each}
-use Rattle.ls_world.specs.Steps.{grown, is_whole}
-use Rattle.ls_world.specs.World.{Item, Live, change}
-use Rattle.ls_world.proofs.Each.{each_map}
+use Rattle.ls_value.specs.Each.{Each}
+use Rattle.ls_record.specs.Records.{grown, is_whole}
+use Rattle.ls_record.specs.Records.{Item, LiveSlot, change}
+use Rattle.ls_record.proofs.Each.{each_map}
 use Rattle.ls_cells.specs.Cells.{StandsItem, StandsItems, StandsCells, far_in}
 use Rattle.ls_cells.proofs.Numbers.{numbered_none, none_on, free_past}
 use Rattle.ls_cells.proofs.Least.{far_is}
@@ -25,7 +25,7 @@ use Rattle.ls_cells.proofs.Items.{same_self, items_set, ItemHere, item_here, len
 module _ (cells : List Held) (j : ℕ) (c : Held) (low : j < length cells) (is : c ≡ get_or cells j c) where
   pub cells_published : (c' : Held) (live : ℕ) (e : Entry) → c'.item.shape ≡ c.item.shape
       → ((ss : List (Option Slot)) (h : List Entry) → StandsCell c ss h → StandsCell c' ss (h ++ e ∷ []))
-      → (items : List Item) (lives : List Live) → StandsCells (record { cells = cells; live = live }) items lives
+      → (items : List Item) (lives : List LiveSlot) → StandsCells (record { cells = cells; live = live }) items lives
       → StandsCells (record { cells = set cells j c'; live = live }) (change j (grown e) items) lives
   cells_published c' live e shape step items lives st =
       record {
@@ -41,7 +41,7 @@ module _ (cells : List Held) (j : ℕ) (c : Held) (low : j < length cells) (is :
   pub cause_is : (live : ℕ) (e : Entry) (result : Result ℕ PublishRefused)
       → ((ss : List (Option Slot)) (h : List Entry) → StandsCell c ss h
       → AnswersFirst (refusal c.item.shape h (least_lagging (length h) ss) e) (length h + 1) result)
-      → (items : List Item) (lives : List Live) (i : Item) → StandsCells (record { cells = cells; live = live }) items lives → slice_get items j ≡ Some i
+      → (items : List Item) (lives : List LiveSlot) (i : Item) → StandsCells (record { cells = cells; live = live }) items lives → slice_get items j ≡ Some i
       → AnswersFirst (refusal (shape_of i.definition) i.history (far_in j (length i.history) lives) e) (length i.history + 1) result
   cause_is live e result answers items lives i st here =
       let x : ItemHere lives items j c = item_here lives items j cells c low is st.cells in
@@ -58,7 +58,7 @@ module _ (cells : List Held) (j : ℕ) (c : Held) (low : j < length cells) (is :
       by_some y e = cc
 
 -- one more item
-items_more : (lives : List Live) (n : ℕ) (cells : List Held) (items : List Item) (c : Held) (i : Item) → StandsItems lives n cells items
+items_more : (lives : List LiveSlot) (n : ℕ) (cells : List Held) (items : List Item) (c : Held) (i : Item) → StandsItems lives n cells items
     → StandsItem lives (n + length items) c i → StandsItems lives n (cells ++ c ∷ []) (items ++ i ∷ [])
 items_more lives n [] [] c i st one = (subst (λ m. StandsItem lives m c i) (let e : n + 0 ≡ n = omega arith in e) one, tt)
 items_more lives n [] (y ∷ items) c i st one = absurd st
@@ -75,7 +75,7 @@ none_at (suc zero) = refl
 none_at (suc (suc m)) = refl
 
 pub cells_declared : (cells : List Held) (live : ℕ) (c : Held) (d : ItemDef) → StandsCell c [] [] → c.item.shape ≡ shape_of d
-    → (items : List Item) (lives : List Live) → StandsCells (record { cells = cells; live = live }) items lives
+    → (items : List Item) (lives : List LiveSlot) → StandsCells (record { cells = cells; live = live }) items lives
     → StandsCells (record { cells = cells ++ c ∷ []; live = live }) (items ++ record { definition = d; history = [] } ∷ []) lives
 cells_declared cells live c d cell shape items lives st =
     record {
@@ -98,14 +98,14 @@ cells_declared cells live c d cell shape items lives st =
         }
 
 -- the last item is taken back
-items_taken : (lives : List Live) (n : ℕ) (cells : List Held) (items : List Item) (i : Item) → StandsItems lives n cells (items ++ i ∷ [])
+items_taken : (lives : List LiveSlot) (n : ℕ) (cells : List Held) (items : List Item) (i : Item) → StandsItems lives n cells (items ++ i ∷ [])
     → StandsItems lives n (take (length items) cells) items
 items_taken lives n [] [] i st = absurd st
 items_taken lives n (c ∷ cells) [] i st = tt
 items_taken lives n [] (y ∷ items) i st = absurd st
 items_taken lives n (c ∷ cells) (y ∷ items) i st = (st.0, items_taken lives (n + 1) cells items i st.1)
 
-pub cells_taken : (cells : List Held) (live m : ℕ) (items : List Item) (i : Item) (lives : List Live) → m ≡ length cells
+pub cells_taken : (cells : List Held) (live m : ℕ) (items : List Item) (i : Item) (lives : List LiveSlot) → m ≡ length cells
     → StandsCells (record { cells = cells; live = live }) (items ++ i ∷ []) lives → Each (λ v. v.item < length items) lives
     → StandsCells (record { cells = take (m - 1) cells; live = live }) items lives
 cells_taken cells live m items i lives many st within =
@@ -118,7 +118,7 @@ cells_taken cells live m items i lives many st within =
     }
 
 -- an event that an item takes
-pub takes_is : (lives : List Live) (event : Event) (n j : ℕ) (cells : List Held) (items : List Item) → StandsItems lives n cells items
+pub takes_is : (lives : List LiveSlot) (event : Event) (n j : ℕ) (cells : List Held) (items : List Item) → StandsItems lives n cells items
     → option_map_or (λ (c : Held). is_whole c.item.shape.fields event) (slice_get cells j) false
     ≡ option_map_or (λ (i : Item). is_whole (length i.definition.fields) event) (slice_get items j) false
 takes_is lives event n j [] [] st = refl

@@ -7,7 +7,7 @@ use Rattle.ls_event.specs.Slots.{Slot}
 use Rattle.ls_cell.specs.Cell.{Held, StandsCell}
 use Rattle.ls_cell.specs.Numbered.{slot_at, set_slot, put_slot, free_number}
 use Rattle.ls_cell.proofs.Changes.{set_at, set_other, put_at, put_other}
-use Rattle.ls_world.specs.World.{Item, Live, history_of}
+use Rattle.ls_record.specs.Records.{Item, LiveSlot, history_of}
 use Rattle.ls_cells.specs.Cells.{is_numbered, slot_numbered, IsUnlike, StandsItem, StandsItems, StandsCells, free_in}
 use Rattle.ls_cells.proofs.Numbers.{differs, each_out, each_in, length_in, numbered_is, is_numbered_at, unlike_out, unlike_in, IsFreeAt, unlike_at}
 use Rattle.ls_cells.proofs.Numbers.{numbered_here, numbered_other, numbered_none, none_numbered, count_here, numbers_other}
@@ -16,24 +16,24 @@ use Rattle.ls_cells.proofs.Least.{free_is}
 use Rattle.ls_cells.proofs.Items.{SameAt, ItemHere, items_set, change_self, history_at, as_many, item_here}
 
 -- a slot on another item
-other_item : (m number : ℕ) (v : Live) → (m ≡ v.item → ⊥) → is_numbered m number v ≡ false
+other_item : (m number : ℕ) (v : LiveSlot) → (m ≡ v.item → ⊥) → is_numbered m number v ≡ false
 other_item m number v other = ap (λ t. t && (number == v.number)) (ne_eqb m v.item other)
 
-pub same_out : (a b : List Live) (v : Live) (m : ℕ) → (m ≡ v.item → ⊥) → SameAt (a ++ v ∷ b) (a ++ b) m
+pub same_out : (a b : List LiveSlot) (v : LiveSlot) (m : ℕ) → (m ≡ v.item → ⊥) → SameAt (a ++ v ∷ b) (a ++ b) m
 same_out a b v m other =
     record {
       numbered = λ number. sym (numbered_other m number a b v (other_item m number v other));
       count = ap length (sym (numbers_other m a b v (ne_eqb m v.item other)));
     }
 
-pub same_in : (a b : List Live) (v : Live) (m : ℕ) → (m ≡ v.item → ⊥) → SameAt (a ++ b) (a ++ v ∷ b) m
+pub same_in : (a b : List LiveSlot) (v : LiveSlot) (m : ℕ) → (m ≡ v.item → ⊥) → SameAt (a ++ b) (a ++ v ∷ b) m
 same_in a b v m other =
     record {
       numbered = λ number. numbered_other m number a b v (other_item m number v other);
       count = ap length (numbers_other m a b v (ne_eqb m v.item other));
     }
 
-same_then : (x y z : List Live) (m : ℕ) → SameAt x y m → SameAt y z m → SameAt x z m
+same_then : (x y z : List LiveSlot) (m : ℕ) → SameAt x y m → SameAt y z m → SameAt x z m
 same_then x y z m s t = record { numbered = λ number. t.numbered number ∙ s.numbered number; count = t.count ∙ s.count }
 
 -- what a cell says of a slot on its item
@@ -42,14 +42,14 @@ pub record SlotThere (c : Held) (h : List Entry) (number : ℕ) (s : Slot) : Typ
   pub cell : StandsCell c slots h
   pub here : slot_at slots number ≡ Some s
 
-pub mine : (a b : List Live) (v : Live) (k : ℕ) (c : Held) (i : Item) → k ≡ v.item → IsUnlike v (a ++ b) → (st : StandsItem (a ++ v ∷ b) k c i)
+pub mine : (a b : List LiveSlot) (v : LiveSlot) (k : ℕ) (c : Held) (i : Item) → k ≡ v.item → IsUnlike v (a ++ b) → (st : StandsItem (a ++ v ∷ b) k c i)
     → slot_at st.slots v.number ≡ Some v.slot
 mine a b v k c i at u st =
     let is : is_numbered k v.number v ≡ true = is_numbered_at k v.number v at refl in
     st.live v.number ∙ numbered_here k v.number a b v is (unlike_at k v.number v (a ++ b) is u)
 
 -- the slot changes
-pub item_changed : (a b : List Live) (v : Live) (s : Slot) (k : ℕ) (c c' : Held) (i : Item) → k ≡ v.item → IsUnlike v (a ++ b)
+pub item_changed : (a b : List LiveSlot) (v : LiveSlot) (s : Slot) (k : ℕ) (c c' : Held) (i : Item) → k ≡ v.item → IsUnlike v (a ++ b)
     → c'.item.shape ≡ c.item.shape
     → ((ss : List (Option Slot)) → StandsCell c ss i.history → slot_at ss v.number ≡ Some v.slot → StandsCell c' (set_slot ss v.number (Some s)) i.history)
     → StandsItem (a ++ v ∷ b) k c i → StandsItem (a ++ record v { slot = s } ∷ b) k c' i
@@ -77,7 +77,7 @@ item_changed a b v s k c c' i at u shape step st =
         ∙ st.live m ∙ numbered_other k m a b v is ∙ sym (numbered_other k m a b (record v { slot = s }) is)
 
 -- the slot joins
-pub item_joined : (a b : List Live) (v : Live) (k : ℕ) (c c' : Held) (i : Item) → k ≡ v.item → v.number ≡ free_in (a ++ b) k
+pub item_joined : (a b : List LiveSlot) (v : LiveSlot) (k : ℕ) (c c' : Held) (i : Item) → k ≡ v.item → v.number ≡ free_in (a ++ b) k
     → c'.item.shape ≡ c.item.shape
     → ((ss : List (Option Slot)) → StandsCell c ss i.history → StandsCell c' (put_slot ss v.slot) i.history)
     → StandsItem (a ++ b) k c i → StandsItem (a ++ v ∷ b) k c' i
@@ -103,7 +103,7 @@ item_joined a b v k c c' i at number shape step st =
         ∙ st.live m ∙ sym (numbered_other k m a b v is)
 
 -- the slot leaves
-pub item_left : (a b : List Live) (v : Live) (k : ℕ) (c c' : Held) (i : Item) → k ≡ v.item → IsUnlike v (a ++ b)
+pub item_left : (a b : List LiveSlot) (v : LiveSlot) (k : ℕ) (c c' : Held) (i : Item) → k ≡ v.item → IsUnlike v (a ++ b)
     → c'.item.shape ≡ c.item.shape
     → ((ss : List (Option Slot)) → StandsCell c ss i.history → slot_at ss v.number ≡ Some v.slot → StandsCell c' (set_slot ss v.number None) i.history)
     → StandsItem (a ++ v ∷ b) k c i → StandsItem (a ++ b) k c' i
@@ -130,7 +130,7 @@ item_left a b v k c c' i at u shape step st =
 
 module _ (cells : List Held) (j : ℕ) (c : Held) (low : j < length cells) (is : c ≡ get_or cells j c) where
   -- what a cell says of one of the slots of all sessions
-  pub slot_there : (live number : ℕ) (items : List Item) (a b : List Live) (v : Live) → v.item ≡ j → v.number ≡ number
+  pub slot_there : (live number : ℕ) (items : List Item) (a b : List LiveSlot) (v : LiveSlot) → v.item ≡ j → v.number ≡ number
       → StandsCells (record { cells = cells; live = live }) items (a ++ v ∷ b) → SlotThere c (history_of items v.item) number v.slot
   slot_there live number items a b v on numbered st =
       let i : ItemHere (a ++ v ∷ b) items j c = item_here (a ++ v ∷ b) items j cells c low is st.cells in
@@ -143,7 +143,7 @@ module _ (cells : List Held) (j : ℕ) (c : Held) (low : j < length cells) (is :
       }
 
   -- a cell's slot changes
-  pub cells_changed : (c' : Held) (live number : ℕ) (items : List Item) (a b : List Live) (v : Live) (s : Slot) → v.item ≡ j → v.number ≡ number
+  pub cells_changed : (c' : Held) (live number : ℕ) (items : List Item) (a b : List LiveSlot) (v : LiveSlot) (s : Slot) → v.item ≡ j → v.number ≡ number
       → c'.item.shape ≡ c.item.shape
       → ((ss : List (Option Slot)) → StandsCell c ss (history_of items v.item) → slot_at ss number ≡ Some v.slot
       → StandsCell c' (set_slot ss number (Some s)) (history_of items v.item))
@@ -170,7 +170,7 @@ module _ (cells : List Held) (j : ℕ) (c : Held) (low : j < length cells) (is :
       }
 
   -- a slot joins a cell
-  pub cells_joined : (c' : Held) (live : ℕ) (items : List Item) (a b : List Live) (v : Live) → v.item ≡ j → v.number ≡ free_in (a ++ b) j
+  pub cells_joined : (c' : Held) (live : ℕ) (items : List Item) (a b : List LiveSlot) (v : LiveSlot) → v.item ≡ j → v.number ≡ free_in (a ++ b) j
       → c'.item.shape ≡ c.item.shape
       → ((ss : List (Option Slot)) → StandsCell c ss (history_of items j) → StandsCell c' (put_slot ss v.slot) (history_of items j))
       → StandsCells (record { cells = cells; live = live }) items (a ++ b)
@@ -193,7 +193,7 @@ module _ (cells : List Held) (j : ℕ) (c : Held) (low : j < length cells) (is :
       }
 
   -- a slot leaves a cell
-  pub cells_left : (c' : Held) (live number : ℕ) (items : List Item) (a b : List Live) (v : Live) → v.item ≡ j → v.number ≡ number
+  pub cells_left : (c' : Held) (live number : ℕ) (items : List Item) (a b : List LiveSlot) (v : LiveSlot) → v.item ≡ j → v.number ≡ number
       → c'.item.shape ≡ c.item.shape
       → ((ss : List (Option Slot)) → StandsCell c ss (history_of items v.item) → slot_at ss number ≡ Some v.slot
       → StandsCell c' (set_slot ss number None) (history_of items v.item))

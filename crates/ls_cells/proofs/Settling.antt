@@ -6,7 +6,7 @@ use Rattle.std.proofs.lemmas.Bool.{eqb-true, eq-eqb}
 use Rattle.std.proofs.lemmas.List.{get_or-set_other}
 use Rattle.ls_event.specs.declared.event.Entry.{Entry}
 use Rattle.ls_event.specs.Cuts.{is_pending}
-use Rattle.ls_world.specs.World.{Item, Live, history_of}
+use Rattle.ls_record.specs.Records.{Item, LiveSlot, history_of}
 use Rattle.ls_cell.specs.declared.any.AnyBuffer.{AnyBuffer}
 use Rattle.ls_cell.specs.Any.{any_pending}
 use Rattle.ls_cell.specs.Cell.{Held, pending_at, published}
@@ -146,7 +146,7 @@ get_of (x ∷ cells) zero c is = let same : x ≡ c = cc in sym same
 get_of (x ∷ cells) (suc j) c is = get_of cells j c is
 
 pub settled_did : (rows : List (List Bool)) (cells : List Held) (live j n : ℕ) → KnowsSettled rows cells → is_marked_on rows j n ≡ true
-    → (items : List Item) (a b : List Live) (v : Live) → StandsCells (record { cells = cells; live = live }) items (a ++ v ∷ b)
+    → (items : List Item) (a b : List LiveSlot) (v : LiveSlot) → StandsCells (record { cells = cells; live = live }) items (a ++ v ∷ b)
     → v.item ≡ j → v.number ≡ n → is_pending (history_of items v.item) v.slot ≡ false
 settled_did rows cells live j n k marked items a b v st on numbered =
     let x = settles rows cells j n k marked in

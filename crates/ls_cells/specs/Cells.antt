@@ -11,9 +11,10 @@ use Rattle.ls_event.specs.Shapes.{shape_of}
 use Rattle.ls_event.specs.Slots.{Slot}
 use Rattle.ls_cell.specs.Cell.{Held, StandsCell, cut_at, pending_at}
 use Rattle.ls_cell.specs.Numbered.{slot_at, live_slots}
-use Rattle.ls_world.specs.Lawful.{Each}
-use Rattle.ls_world.specs.Steps.{is_whole}
-use Rattle.ls_world.specs.World.{Item, Live, shape_at, numbers_of, far_numbers, least_of, greatest_of, least_free_from}
+use Rattle.ls_value.specs.Each.{Each}
+use Rattle.ls_record.specs.Records.{is_whole}
+use Rattle.ls_record.specs.Records.{Item, LiveSlot, shape_at, numbers_of, far_numbers, least_of, greatest_of}
+use Rattle.ls_record.specs.Records.{least_free_from}
 
 -- the cells of all items by their numbers, from 0, and how many slots are live on all of them
 pub record AllCells : Type 0 where
@@ -21,25 +22,25 @@ pub record AllCells : Type 0 where
   pub live : ℕ
 
 -- whether a slot has this number on this item
-abbrev pub is_numbered : ℕ → ℕ → Live → Bool
+abbrev pub is_numbered : ℕ → ℕ → LiveSlot → Bool
 is_numbered item number v = (item == v.item) && (number == v.number)
 
 -- the slot of a number on an item, among the slots of all sessions
-abbrev pub slot_numbered : ℕ → ℕ → List Live → Option Slot
+abbrev pub slot_numbered : ℕ → ℕ → List LiveSlot → Option Slot
 slot_numbered item number [] = None
 slot_numbered item number (v ∷ vs) = if is_numbered item number v then Some v.slot else slot_numbered item number vs
 
 -- a slot has another number, or is on another item, than each of these
-abbrev pub IsUnlike : Live → List Live → Type 0
+abbrev pub IsUnlike : LiveSlot → List LiveSlot → Type 0
 IsUnlike v vs = Each (λ u. is_numbered v.item v.number u ≡ false) vs
 
 -- no two slots have one number on one item
-abbrev pub Unlike : List Live → Type 0
+abbrev pub Unlike : List LiveSlot → Type 0
 Unlike [] = Unit {0}
 Unlike (v ∷ vs) = IsUnlike v vs × Unlike vs
 
 -- a cell stands for the item of a number: its shape, its history, and the slots on it by their numbers
-pub record StandsItem (lives : List Live) (n : ℕ) (c : Held) (i : Item) : Type 0 where
+pub record StandsItem (lives : List LiveSlot) (n : ℕ) (c : Held) (i : Item) : Type 0 where
   pub slots : List (Option Slot)
   pub cell : StandsCell c slots i.history
   pub shape : c.item.shape ≡ shape_of i.definition
@@ -47,30 +48,30 @@ pub record StandsItem (lives : List Live) (n : ℕ) (c : Held) (i : Item) : Type
   pub count : live_slots slots ≡ length (numbers_of n lives)
 
 -- each cell stands for its item, from this number on
-abbrev pub StandsItems : List Live → ℕ → List Held → List Item → Type 0
+abbrev pub StandsItems : List LiveSlot → ℕ → List Held → List Item → Type 0
 StandsItems lives n [] [] = Unit {0}
 StandsItems lives n [] (i ∷ items) = ⊥
 StandsItems lives n (c ∷ cells) [] = ⊥
 StandsItems lives n (c ∷ cells) (i ∷ items) = StandsItem lives n c i × StandsItems lives (n + 1) cells items
 
 -- the cells stand for the items and for the slots of all sessions, in whatever order these come
-pub record StandsCells (k : AllCells) (items : List Item) (lives : List Live) : Type 0 where
+pub record StandsCells (k : AllCells) (items : List Item) (lives : List LiveSlot) : Type 0 where
   pub cells : StandsItems lives 0 k.cells items
   pub unlike : Unlike lives
   pub within : Each (λ v. v.item < length items) lives
   pub live : k.live ≡ length lives
 
 -- the least number that no slot on an item has, among the slots of all sessions
-abbrev pub free_in : List Live → ℕ → ℕ
+abbrev pub free_in : List LiveSlot → ℕ → ℕ
 free_in lives item = least_free_from (greatest_of (numbers_of item lives)) 1 (numbers_of item lives)
 
 -- the least number of a slot on an item that lags by as much as one may behind so many events
-abbrev pub far_in : ℕ → ℕ → List Live → Option ℕ
+abbrev pub far_in : ℕ → ℕ → List LiveSlot → Option ℕ
 far_in item events lives = least_of (far_numbers item events lives)
 
 -- a slot of this mode and size may join: there is such an item, the mode is allowed on it, a buffer may have the size,
 -- and fewer slots are live than may be
-pub record MayJoin (items : List Item) (lives : List Live) (n : ℕ) (m : Mode) (k : ℕ) : Type 0 where
+pub record MayJoin (items : List Item) (lives : List LiveSlot) (n : ℕ) (m : Mode) (k : ℕ) : Type 0 where
   pub item : n < length items
   pub mode : is_mode_of m (shape_at items n).kind ≡ true
   pub some : 0 < k

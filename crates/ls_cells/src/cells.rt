@@ -12,9 +12,9 @@ ghost use Rattle.ls_event.specs.Shapes.{IsShape, shape_of};
 ghost use Rattle.ls_event.specs.Slots.{Slot, passed};
 ghost use Rattle.ls_cell.specs.Cell.{StandsCell, AnswersFirst, enqueue_answer, enqueued_at, cut_at, pending_at};
 ghost use Rattle.ls_cell.specs.Numbered.{slot_at, set_slot, put_slot, free_number, live_slots};
-ghost use Rattle.ls_world.specs.Lawful.{Each};
-ghost use Rattle.ls_world.specs.Steps.{grown, is_whole};
-ghost use Rattle.ls_world.specs.World.{Item, Live, history_of, shape_at, change, enqueue_slot};
+ghost use Rattle.ls_value.specs.Each.{Each};
+ghost use Rattle.ls_record.specs.Records.{grown, is_whole};
+ghost use Rattle.ls_record.specs.Records.{Item, LiveSlot, history_of, shape_at, change, enqueue_slot};
 ghost use Rattle.ls_cells.specs.Cells.{StandsCells, MayJoin, slot_numbered, free_in, far_in, takes_of, fields_of};
 ghost use Rattle.ls_cells.specs.Cells.{cut_of_slot, pending_of_slot};
 ghost use Rattle.ls_cells.specs.Settled.{OthersStay, KnowsSettled};
@@ -33,14 +33,14 @@ use std::marker::Model;
 /// counts the live slots of all items, and marks slots of which nothing is pending as settled. It keeps the allocator
 /// that its constructor took.
 #[derive(Drop)]
-pub struct Cells {
+pub struct AllItems {
     alloc: Global,
     cells: Vec<ItemCell>,
     settled: Vec<Marks>,
     live: u32,
 }
 
-impl Model for Cells {
+impl Model for AllItems {
     ghost use Rattle.ls_cells.specs.Cells.{AllCells};
     ghost use Rattle.ls_cells.specs.Settled.{KnowsSettled};
 
@@ -51,12 +51,12 @@ impl Model for Cells {
     ghost invariant = { λ k. KnowsSettled k.settled.items k.cells.items };
 }
 
-impl Cells {
+impl AllItems {
     /// No item.
-    pub fn new(alloc: Global) -> Cells
+    pub fn new(alloc: Global) -> AllItems
         ensures { StandsCells result [] [] }
     {
-        Cells {
+        AllItems {
             alloc,
             cells: Vec::new(alloc),
             settled: Vec::new(alloc),
@@ -68,9 +68,9 @@ impl Cells {
     /// key and a command among them. After `NoMemory` all is as before.
     pub fn declare(&mut self, definition: &ItemDef) -> Result<(), NoMemory>
         requires { IsShape (shape_of definition.now) }
-        ensures ok { OnOk result ((items : List Item) (lives : List Live) → StandsCells self.old items lives
+        ensures ok { OnOk result ((items : List Item) (lives : List LiveSlot) → StandsCells self.old items lives
             → StandsCells self.new (items ++ record { definition = definition.now; history = [] } ∷ []) lives) }
-        ensures err { OnErr result ((items : List Item) (lives : List Live) → StandsCells self.old items lives
+        ensures err { OnErr result ((items : List Item) (lives : List LiveSlot) → StandsCells self.old items lives
             → StandsCells self.new items lives) }
     {
         self.settled.reserve(1)?;
@@ -83,7 +83,7 @@ impl Cells {
 
     /// Takes the last item back, on which no slot is. It takes no memory.
     pub fn take_back(&mut self)
-        ensures { (items : List Item) (i : Item) (lives : List Live) → StandsCells self.old (items ++ i ∷ []) lives
+        ensures { (items : List Item) (i : Item) (lives : List LiveSlot) → StandsCells self.old (items ++ i ∷ []) lives
             → Each (λ v. v.item < length items) lives → StandsCells self.new items lives }
     {
         self.cells.pop();
@@ -93,7 +93,7 @@ impl Cells {
     /// Whether there is an item of this number, and an update has a cell for each of its fields.
     pub fn takes(&self, item: u32, event: &Event) -> bool
         ensures own { result ≡ takes_of self.now item event.now }
-        ensures known { (items : List Item) (lives : List Live) → StandsCells self.now items lives
+        ensures known { (items : List Item) (lives : List LiveSlot) → StandsCells self.now items lives
             → result ≡ option_map_or (λ i. is_whole (length i.definition.fields) event.now) (slice_get items item)
             false }
     {
@@ -112,18 +112,18 @@ impl Cells {
     ) -> Result<u64, PublishRefused>
         requires adapter { adapter ≤ MOST_ADAPTERS }
         requires takes { takes_of self.old item event ≡ true }
-        ensures answer { (items : List Item) (lives : List Live) (i : Item) → StandsCells self.old items lives
+        ensures answer { (items : List Item) (lives : List LiveSlot) (i : Item) → StandsCells self.old items lives
             → slice_get items item ≡ Some i
             → AnswersFirst
             (refusal (shape_of i.definition) i.history (far_in item (length i.history) lives) (record
             { adapter = adapter; seq = seq; event = event }))
             (length i.history + 1)
             result }
-        ensures ok { OnOk result ((items : List Item) (lives : List Live) → StandsCells self.old items lives
+        ensures ok { OnOk result ((items : List Item) (lives : List LiveSlot) → StandsCells self.old items lives
             → StandsCells self.new
             (change item (grown (record { adapter = adapter; seq = seq; event = event })) items)
             lives) }
-        ensures err { OnErr result ((items : List Item) (lives : List Live) → StandsCells self.old items lives
+        ensures err { OnErr result ((items : List Item) (lives : List LiveSlot) → StandsCells self.old items lives
             → StandsCells self.new items lives) }
     {
         self.cells[item as usize].publish(adapter, seq, event)
@@ -132,14 +132,14 @@ impl Cells {
     /// Enqueues an item's next event into a slot on it: `UpToDate` exactly where it has every event of the item, and
     /// `None` where there is no such slot. After `NoMemory` all is as before.
     pub fn enqueue(&mut self, item: u32, slot: u32) -> Result<Option<Enqueued>, NoMemory>
-        ensures ok { IfOk result (λ answer. (items : List Item) (a b : List Live) (v : Live)
+        ensures ok { IfOk result (λ answer. (items : List Item) (a b : List LiveSlot) (v : LiveSlot)
             → StandsCells self.old items (a ++ v ∷ b) → v.item ≡ item → v.number ≡ slot
             → (answer ≡ Some (enqueue_answer (length (history_of items v.item)) v.slot.last))
             × StandsCells self.new items (a ++ enqueue_slot (history_of items v.item) v ∷ b)) }
-        ensures none { IfOk result (λ answer. (items : List Item) (lives : List Live)
+        ensures none { IfOk result (λ answer. (items : List Item) (lives : List LiveSlot)
             → StandsCells self.old items lives → slot_numbered item slot lives ≡ None
             → (answer ≡ None) × StandsCells self.new items lives) }
-        ensures err { OnErr result ((items : List Item) (lives : List Live) → StandsCells self.old items lives
+        ensures err { OnErr result ((items : List Item) (lives : List LiveSlot) → StandsCells self.old items lives
             → StandsCells self.new items lives) }
     {
         let index = item as usize;
@@ -155,10 +155,10 @@ impl Cells {
     pub fn look(&self, item: u32, slot: u32) -> Result<Option<Taken>, NoMemory>
         ensures own { IfOk result (λ t. t ≡ cut_of_slot self.now item slot) }
         ensures fits { IfOk result (Fits (fields_of self.now item)) }
-        ensures cut { IfOk result (λ t. (items : List Item) (a b : List Live) (v : Live)
+        ensures cut { IfOk result (λ t. (items : List Item) (a b : List LiveSlot) (v : LiveSlot)
             → StandsCells self.now items (a ++ v ∷ b) → v.item ≡ item → v.number ≡ slot
             → t ≡ cut (history_of items v.item) v.slot) }
-        ensures none { IfOk result (λ t. (items : List Item) (lives : List Live) → StandsCells self.now items lives
+        ensures none { IfOk result (λ t. (items : List Item) (lives : List LiveSlot) → StandsCells self.now items lives
             → slot_numbered item slot lives ≡ None → t ≡ None) }
     {
         let index = item as usize;
@@ -173,9 +173,9 @@ impl Cells {
     /// is no such slot. It takes no memory.
     pub fn pending(&self, item: u32, slot: u32) -> bool
         ensures own { result ≡ pending_of_slot self.now item slot }
-        ensures known { (items : List Item) (a b : List Live) (v : Live) → StandsCells self.now items (a ++ v ∷ b)
+        ensures known { (items : List Item) (a b : List LiveSlot) (v : LiveSlot) → StandsCells self.now items (a ++ v ∷ b)
             → v.item ≡ item → v.number ≡ slot → result ≡ is_pending (history_of items v.item) v.slot }
-        ensures none { (items : List Item) (lives : List Live) → StandsCells self.now items lives
+        ensures none { (items : List Item) (lives : List LiveSlot) → StandsCells self.now items lives
             → slot_numbered item slot lives ≡ None → result ≡ false }
     {
         let index = item as usize;
@@ -186,10 +186,10 @@ impl Cells {
     }
 
     /// Whether a slot on an item is known to be settled: then nothing of it is pending. It is known where the last call
-    /// on the slot was a [`pass`](Cells::pass) that left nothing pending, and no slot joined the item since. It takes
-    /// no memory, and less time than [`look`](Cells::look) and [`pending`](Cells::pending).
+    /// on the slot was a [`pass`](AllItems::pass) that left nothing pending, and no slot joined the item since. It takes
+    /// no memory, and less time than [`look`](AllItems::look) and [`pending`](AllItems::pending).
     pub fn is_settled(&self, item: u32, slot: u32) -> bool
-        ensures { result ≡ true → (items : List Item) (a b : List Live) (v : Live)
+        ensures { result ≡ true → (items : List Item) (a b : List LiveSlot) (v : LiveSlot)
             → StandsCells self.now items (a ++ v ∷ b) → v.item ≡ item → v.number ≡ slot
             → is_pending (history_of items v.item) v.slot ≡ false }
     {
@@ -199,7 +199,7 @@ impl Cells {
     /// Moves a slot on an item past its next cut, of which there is one. It takes no memory.
     pub fn pass(&mut self, item: u32, slot: u32)
         requires { IsSome (cut_of_slot self.old item slot) }
-        ensures { (items : List Item) (a b : List Live) (v : Live) (t : ATaken)
+        ensures { (items : List Item) (a b : List LiveSlot) (v : LiveSlot) (t : ATaken)
             → StandsCells self.old items (a ++ v ∷ b) → v.item ≡ item → v.number ≡ slot
             → cut (history_of items v.item) v.slot ≡ Some t
             → StandsCells self.new items (a ++ record v { slot = passed v.slot t } ∷ b) }
@@ -219,18 +219,18 @@ impl Cells {
         n: u32,
         snapshot: Snap,
     ) -> Result<Option<u32>, NoMemory>
-        ensures joined { IfOk result (λ number. (items : List Item) (a b : List Live) (v : Live)
+        ensures joined { IfOk result (λ number. (items : List Item) (a b : List LiveSlot) (v : LiveSlot)
             → StandsCells self.old items (a ++ b) → v.item ≡ item → item < length items
             → is_mode_of mode (shape_at items item).kind ≡ true → 0 < n → n ≤ MOST_BUFFER_SIZE
             → length (a ++ b) < MOST_SLOTS → v.number ≡ free_in (a ++ b) item
             → v.slot ≡ joined (plan_of (shape_at items item) (history_of items item) mode n) (history_of items item)
             (rows_asked snapshot)
             → (number ≡ Some v.number) × StandsCells self.new items (a ++ v ∷ b)) }
-        ensures may { IfOk result (λ number. (items : List Item) (lives : List Live) → StandsCells self.old items lives
+        ensures may { IfOk result (λ number. (items : List Item) (lives : List LiveSlot) → StandsCells self.old items lives
             → IsSome number → MayJoin items lives item mode n) }
-        ensures none { IfOk result (λ number. (items : List Item) (lives : List Live)
+        ensures none { IfOk result (λ number. (items : List Item) (lives : List LiveSlot)
             → StandsCells self.old items lives → number ≡ None → StandsCells self.new items lives) }
-        ensures err { OnErr result ((items : List Item) (lives : List Live) → StandsCells self.old items lives
+        ensures err { OnErr result ((items : List Item) (lives : List LiveSlot) → StandsCells self.old items lives
             → StandsCells self.new items lives) }
     {
         join_in(
@@ -247,9 +247,9 @@ impl Cells {
 
     /// A slot on an item leaves, if it is live; its number is free then. It takes no memory.
     pub fn leave(&mut self, item: u32, slot: u32)
-        ensures left { (items : List Item) (a b : List Live) (v : Live) → StandsCells self.old items (a ++ v ∷ b)
+        ensures left { (items : List Item) (a b : List LiveSlot) (v : LiveSlot) → StandsCells self.old items (a ++ v ∷ b)
             → v.item ≡ item → v.number ≡ slot → StandsCells self.new items (a ++ b) }
-        ensures none { (items : List Item) (lives : List Live) → StandsCells self.old items lives
+        ensures none { (items : List Item) (lives : List LiveSlot) → StandsCells self.old items lives
             → slot_numbered item slot lives ≡ None → StandsCells self.new items lives }
     {
         let index = item as usize;
@@ -263,7 +263,7 @@ impl Cells {
 
     /// How many slots may still join, on all items together.
     pub fn free(&self) -> u32
-        ensures { (items : List Item) (lives : List Live) → StandsCells self.now items lives
+        ensures { (items : List Item) (lives : List LiveSlot) → StandsCells self.now items lives
             → result ≡ MOST_SLOTS - length lives }
     {
         (MOST_SLOTS as u32).saturating_sub(self.live)
@@ -368,7 +368,7 @@ fn join_in(
 ) -> Result<Option<u32>, NoMemory>
     requires { KnowsSettled settled.old.items cells.old.items }
     ensures settled { KnowsSettled settled.new.items cells.new.items }
-    ensures joined { IfOk result (λ number. (items : List Item) (a b : List Live) (v : Live)
+    ensures joined { IfOk result (λ number. (items : List Item) (a b : List LiveSlot) (v : LiveSlot)
         → StandsCells (record { cells = cells.old.items; live = live.old }) items (a ++ b) → v.item ≡ item
         → item < length items → is_mode_of mode (shape_at items item).kind ≡ true → 0 < n → n ≤ MOST_BUFFER_SIZE
         → length (a ++ b) < MOST_SLOTS → v.number ≡ free_in (a ++ b) item
@@ -376,7 +376,7 @@ fn join_in(
         (rows_asked snapshot)
         → (number ≡ Some v.number)
         × StandsCells (record { cells = cells.new.items; live = live.new }) items (a ++ v ∷ b)) }
-    ensures may { IfOk result (λ number. (items : List Item) (lives : List Live)
+    ensures may { IfOk result (λ number. (items : List Item) (lives : List LiveSlot)
         → StandsCells (record { cells = cells.old.items; live = live.old }) items lives → IsSome number
         → MayJoin items lives item mode n) }
     ensures none { IfOk result (λ number. number ≡ None

@@ -1,11 +1,11 @@
 //! All items of a server, with the slots of all sessions (General Concepts, items).
 //!
-//! [`Cells`] keeps an [`ItemCell`](ls_cell::ItemCell) for each declared item, found by the item's number from 0 on, and
+//! [`AllItems`] keeps an [`ItemCell`](ls_cell::ItemCell) for each declared item, found by the item's number from 0 on, and
 //! counts the live slots of them all. A feed publishes on an item; a session joins a slot, enqueues into it, looks at
 //! its next cut, and passes it:
 //!
 //! ```text
-//! let mut cells = Cells::new(alloc);
+//! let mut cells = AllItems::new(alloc);
 //! cells.declare(&definition)?;
 //! let slot = cells.join(0, Mode::Merge, 1, Snap::All)?;
 //! let number = cells.publish(0, adapter, seq, event)?;
@@ -21,4 +21,4 @@
 mod cells;
 mod marks;
 
-pub use cells::Cells;
+pub use cells::AllItems;

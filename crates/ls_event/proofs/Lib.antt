@@ -3,6 +3,7 @@ pub mod Merged
 pub mod Cuts
 pub mod Histories
 pub mod UpdatesBetween
+pub mod LongerCuts
 pub mod Rows
 pub mod ModeRows
 pub mod EventCells

@@ -1,5 +1,6 @@
 //! Events, entries of a history, and cuts.
 ghost use Rattle.std.specs.Prelude.{◌≡◌, IfOk};
+ghost use Rattle.ls_event.specs.Textual.{TextualEvent};
 
 use ls_value::{Cells, NoMemory, Row, Text};
 use std::alloc::Global;
@@ -168,9 +169,10 @@ impl From<PushRefused> for PublishRefused {
 }
 
 impl Event {
-    /// An equal event.
+    /// An equal event, whose texts are UTF-8.
     pub fn copy(&self, alloc: Global) -> Result<Event, NoMemory>
-        ensures { IfOk result (λ e. e ≡ self.now) }
+        ensures equal { IfOk result (λ event. event ≡ self.now) }
+        ensures textual { IfOk result TextualEvent }
     {
         match self {
             Event::Update(cells) => Ok(Event::Update(cells.copy(alloc)?)),

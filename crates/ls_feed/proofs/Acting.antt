@@ -9,7 +9,7 @@ use Rattle.ls_event.specs.declared.item.ItemDef.{ItemDef}
 use Rattle.ls_live.specs.Live.{Pass}
 use Rattle.ls_feed.specs.declared.feed.Fed.{Fed}
 use Rattle.ls_feed.specs.declared.feed.Fed.TheVariants as fed
-use Rattle.ls_feed.specs.declared.reply.Reply.{Reply}
+use Rattle.ls_feed.specs.declared.reply.FeedReply.{FeedReply}
 use Rattle.ls_feed.specs.Lines.{hello_of}
 use Rattle.ls_feed.specs.Replies.{ArePasses, Replies, RepliesTo, texts_of, text_of}
 use Rattle.ls_feed.specs.Feeding.{Feeder, IsFeeder, Greeted, AnsweredSo, Wrote, WroteNone, Acts, Sends}
@@ -37,7 +37,7 @@ pub appends_none : (a b c : Option (List ℕ)) (x : List ℕ) → Appends a b x 
 appends_none a b c x p q = subst (λ t. Appends a c t) (append-nil x) (appends_on a b c x [] p q)
 
 -- a hello
-pub greeted_first : (items : List ItemDef) (adapter : ℕ) (lines : List (List ℕ)) (rs : List Reply) (line : List ℕ) (ps : List (Option Pass))
+pub greeted_first : (items : List ItemDef) (adapter : ℕ) (lines : List (List ℕ)) (rs : List FeedReply) (line : List ℕ) (ps : List (Option Pass))
     → AnsweredSo items None lines rs ps → hello_of line ≡ Some adapter → Greeted items adapter (lines ++ line ∷ []) rs ps
 greeted_first items adapter lines rs line ps so hello = record {
   first = line;
@@ -45,7 +45,7 @@ greeted_first items adapter lines rs line ps so hello = record {
   are = ap (λ ls. ls ++ line ∷ []) so.0;
   answered = record {
     hello = hello;
-    replied = subst (λ (r : List Reply). Replies items adapter [] r [] ps) (sym so.1.none) so.1.unseen;
+    replied = subst (λ (r : List FeedReply). Replies items adapter [] r [] ps) (sym so.1.none) so.1.unseen;
   };
 }
 
@@ -69,11 +69,11 @@ first_other items f lines line held now none other w =
       none = so.0;
       other = other;
       unseen = so.1.unseen;
-      appends = subst (λ (r : List Reply). Appends held now (texts_of r)) so.1.none w.appends;
+      appends = subst (λ (r : List FeedReply). Appends held now (texts_of r)) so.1.none w.appends;
     }
 
 -- a line of an adapter's has its reply
-more : (items : List ItemDef) (f f' : Feeder) (adapter : ℕ) (lines : List (List ℕ)) (line : List ℕ) (rs : List Reply) (r : Reply)
+more : (items : List ItemDef) (f f' : Feeder) (adapter : ℕ) (lines : List (List ℕ)) (line : List ℕ) (rs : List FeedReply) (r : FeedReply)
     → f.adapter ≡ Some adapter → f'.adapter ≡ Some adapter → RepliesTo items adapter line r f.passes f'.passes
     → AnsweredSo items f.adapter lines rs f.passes → AnsweredSo items f'.adapter (lines ++ line ∷ []) (rs ++ r ∷ []) f'.passes
 more items f f' adapter lines line rs r was is one so =
@@ -82,7 +82,7 @@ more items f f' adapter lines line rs r was is one so =
     (greeted_on items adapter lines rs line r f.passes f'.passes g one)
 
 -- and the reply was sent
-pub acted : (items : List ItemDef) (f f' : Feeder) (adapter : ℕ) (a : Fed) (lines : List (List ℕ)) (line : List ℕ) (r : Reply) (held h0 h1 : Option (List ℕ))
+pub acted : (items : List ItemDef) (f f' : Feeder) (adapter : ℕ) (a : Fed) (lines : List (List ℕ)) (line : List ℕ) (r : FeedReply) (held h0 h1 : Option (List ℕ))
     → f.adapter ≡ Some adapter → f'.adapter ≡ Some adapter → RepliesTo items adapter line r f.passes f'.passes → Sends a h0 h1 (text_of r)
     → Wrote items f lines held h0 → Acts items a f' lines line held h1
 acted items f f' adapter fed.All lines line r held h0 h1 was is one sent w = record {

@@ -14,7 +14,7 @@ use Rattle.ls_event.specs.Shapes.{shape_of}
 use Rattle.ls_live.specs.Live.{Pass}
 use Rattle.ls_feed.specs.declared.offer.Offer.{Offer}
 use Rattle.ls_feed.specs.declared.reply.Bad.TheVariants as bad
-use Rattle.ls_feed.specs.declared.reply.Reply.TheVariants as reply
+use Rattle.ls_feed.specs.declared.reply.FeedReply.TheVariants as reply
 use Rattle.ls_feed.specs.Lines.{hello_of}
 use Rattle.ls_feed.specs.Offers.{offer_of}
 use Rattle.ls_feed.specs.Replies.{cause_of, text_of}

@@ -1,4 +1,3 @@
-mod WholeLines
 mod Cells
 mod Replying
 mod Passing

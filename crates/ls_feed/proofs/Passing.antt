@@ -11,7 +11,7 @@ use Rattle.ls_event.specs.EventText.{event_of}
 use Rattle.ls_event.specs.History.{HasFields}
 use Rattle.ls_live.specs.Live.{Pass, IsCause, cause_in, entry_of}
 use Rattle.ls_feed.specs.declared.offer.Offer.{Offer}
-use Rattle.ls_feed.specs.declared.reply.Reply.{Reply}
+use Rattle.ls_feed.specs.declared.reply.FeedReply.{FeedReply}
 use Rattle.ls_feed.specs.Offers.{fields_of, FitsItem}
 use Rattle.ls_feed.specs.Replies.{pass_at, seen_by, ArePasses, IsPassOf, Unchanged, Offered, TrueOf, cause_of}
 use Rattle.ls_feed.proofs.Cells.{event_fits}
@@ -124,7 +124,7 @@ same_pass items adapter item p q is same =
     })
 
 -- a pass was taken out, has moved on, and was put in again
-pub offered_so : (items : List ItemDef) (adapter : ℕ) (o : Offer) (r : Reply) (ps ms qs : List (Option Pass)) (p q : Pass) → o.item < length ps
+pub offered_so : (items : List ItemDef) (adapter : ℕ) (o : Offer) (r : FeedReply) (ps ms qs : List (Option Pass)) (p q : Pass) → o.item < length ps
     → IsPassOf items adapter o.item p → IsPrefix (seen_by (pass_at ps o.item)) p.list → ms ≡ set ps o.item None → IsPrefix p.list q.list
     → q ≡ record p { list = q.list } → TrueOf o q r → qs ≡ set ms o.item (Some q) → Offered items adapter o r ps qs
 offered_so items adapter o r ps ms qs p q l is seen out grows same says in' =
@@ -139,7 +139,7 @@ offered_so items adapter o r ps ms qs p q l is seen out grows same says in' =
     }
 
 -- each pass is then still the adapter's
-pub are_offered : (items : List ItemDef) (adapter : ℕ) (o : Offer) (r : Reply) (ps qs : List (Option Pass)) → ArePasses items adapter ps
+pub are_offered : (items : List ItemDef) (adapter : ℕ) (o : Offer) (r : FeedReply) (ps qs : List (Option Pass)) → ArePasses items adapter ps
     → Offered items adapter o r ps qs → ArePasses items adapter qs
 are_offered items adapter o r ps qs are one = are_put items adapter ps qs o.item one.pass are one.of one.is one.others
 

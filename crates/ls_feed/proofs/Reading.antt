@@ -12,7 +12,7 @@ use Rattle.ls_feed.specs.declared.report.FeedEnd.{FeedEnd}
 use Rattle.ls_feed.specs.declared.report.FeedEnd.TheVariants as end
 use Rattle.ls_feed.specs.Replies.{texts_of}
 use Rattle.ls_feed.specs.Serving.{Served}
-use Rattle.ls_feed.specs.Feeding.{Kept, Stands, Ends, Goes, end_at, IsReady}
+use Rattle.ls_feed.specs.Feeding.{KeptFeed, Stands, Ends, Goes, end_at, IsReady}
 use Rattle.ls_feed.proofs.Going.{ends_so, all_answered}
 
 -- the half of a pipe that was left
@@ -39,25 +39,25 @@ held_none None = tt
 held_none (Some h) = sym (append-nil h)
 
 -- a feed begins
-pub stands_first : (items : List ItemDef) (k : Kept) (held : Option (List ℕ)) → k ≡ record { feeder = record { adapter = None; passes = [] }; carry = [] }
+pub stands_first : (items : List ItemDef) (k : KeptFeed) (held : Option (List ℕ)) → k ≡ record { feeder = record { adapter = None; passes = [] }; carry = [] }
     → Stands items k [] held held
-stands_first items k held is = subst (λ (x : Kept). Stands items x [] held held) (sym is) (record {
+stands_first items k held is = subst (λ (x : KeptFeed). Stands items x [] held held) (sym is) (record {
   lines = [];
   are = record { text = refl; each = tt };
   wrote = record { replies = []; answers = (refl, record { none = refl; unseen = refl }); appends = held_none held };
 })
 
-pub ready_first : (items : List ItemDef) (k : Kept) → k ≡ record { feeder = record { adapter = None; passes = [] }; carry = [] } → IsReady items k
-ready_first items k is = subst (λ (x : Kept). IsReady items x) (sym is) (record { feeder = refl; plain = tt; short = omega arith })
+pub ready_first : (items : List ItemDef) (k : KeptFeed) → k ≡ record { feeder = record { adapter = None; passes = [] }; carry = [] } → IsReady items k
+ready_first items k is = subst (λ (x : KeptFeed). IsReady items x) (sym is) (record { feeder = refl; plain = tt; short = omega arith })
 
 -- a feed between two reads: what was read so far, whose lines are answered
-pub record Between (items : List ItemDef) (k : Kept) (left left' held held' : Option (List ℕ)) : Type 0 where
+pub record Between (items : List ItemDef) (k : KeptFeed) (left left' held held' : Option (List ℕ)) : Type 0 where
   pub read : List ℕ
   pub consumes : Consumes left left' read
   pub stands : Stands items k read held held'
   pub ready : IsReady items k
 
-pub between_first : (items : List ItemDef) (k : Kept) (left held : Option (List ℕ)) → k ≡ record { feeder = record { adapter = None; passes = [] }; carry = [] }
+pub between_first : (items : List ItemDef) (k : KeptFeed) (left held : Option (List ℕ)) → k ≡ record { feeder = record { adapter = None; passes = [] }; carry = [] }
     → Between items k left left held held
 between_first items k left held is = record {
   read = [];
@@ -67,7 +67,7 @@ between_first items k left held is = record {
 }
 
 -- nothing was read
-pub between_kept : (items : List ItemDef) (k : Kept) (l0 l1 l2 h0 h1 h2 : Option (List ℕ)) → Between items k l0 l1 h0 h1 → Keeps l1 l2 → h2 ≡ h1
+pub between_kept : (items : List ItemDef) (k : KeptFeed) (l0 l1 l2 h0 h1 h2 : Option (List ℕ)) → Between items k l0 l1 h0 h1 → Keeps l1 l2 → h2 ≡ h1
     → Between items k l0 l2 h0 h2
 between_kept items k l0 l1 l2 h0 h1 h2 b kept same = record {
   read = b.read;
@@ -77,7 +77,7 @@ between_kept items k l0 l1 l2 h0 h1 h2 b kept same = record {
 }
 
 -- a piece was taken; writing left what is unread
-pub between_on : (items : List ItemDef) (k k' : Kept) (c : List ℕ) (l0 l1 l2 l3 h0 h1 h2 h3 : Option (List ℕ)) → Between items k l0 l1 h0 h1
+pub between_on : (items : List ItemDef) (k k' : KeptFeed) (c : List ℕ) (l0 l1 l2 l3 h0 h1 h2 h3 : Option (List ℕ)) → Between items k l0 l1 h0 h1
     → Consumes l1 l2 c → h2 ≡ h1 → l3 ≡ l2
     → ((read : List ℕ) (held : Option (List ℕ)) → Stands items k read held h2 → Goes items fed.All k' (read ++ c) held h3) → IsReady items k'
     → Between items k' l0 l3 h0 h3
@@ -89,7 +89,7 @@ between_on items k k' c l0 l1 l2 l3 h0 h1 h2 h3 b took same left goes ready = re
 }
 
 -- a feed ends in a piece
-pub served_stopped : (items : List ItemDef) (a : Fed) (k k' : Kept) (c : List ℕ) (l0 l1 l2 l3 h0 h1 h2 h3 : Option (List ℕ)) → (a ≡ fed.All → ⊥)
+pub served_stopped : (items : List ItemDef) (a : Fed) (k k' : KeptFeed) (c : List ℕ) (l0 l1 l2 l3 h0 h1 h2 h3 : Option (List ℕ)) → (a ≡ fed.All → ⊥)
     → Between items k l0 l1 h0 h1 → Consumes l1 l2 c → h2 ≡ h1 → l3 ≡ l2
     → ((read : List ℕ) (held : Option (List ℕ)) → Stands items k read held h2 → Goes items a k' (read ++ c) held h3)
     → Served items (end_at a) l0 l3 h0 h3 k'.feeder.passes
@@ -105,7 +105,7 @@ served_stopped items a k k' c l0 l1 l2 l3 h0 h1 h2 h3 n b took same left goes =
     }
 
 -- a feed ends between two reads
-pub served_closed : (items : List ItemDef) (k : Kept) (l0 l1 h0 h1 : Option (List ℕ)) → Between items k l0 l1 h0 h1
+pub served_closed : (items : List ItemDef) (k : KeptFeed) (l0 l1 h0 h1 : Option (List ℕ)) → Between items k l0 l1 h0 h1
     → Served items end.Closed l0 l1 h0 h1 k.feeder.passes
 served_closed items k l0 l1 h0 h1 b = record {
   read = b.read;
@@ -115,7 +115,7 @@ served_closed items k l0 l1 h0 h1 b = record {
   outcome = all_answered items k b.read h0 h1 b.ready b.stands;
 }
 
-pub served_stop : (items : List ItemDef) (k : Kept) (l0 l1 h0 h1 : Option (List ℕ)) → Between items k l0 l1 h0 h1
+pub served_stop : (items : List ItemDef) (k : KeptFeed) (l0 l1 h0 h1 : Option (List ℕ)) → Between items k l0 l1 h0 h1
     → Served items end.Stopped l0 l1 h0 h1 k.feeder.passes
 served_stop items k l0 l1 h0 h1 b = record {
   read = b.read;
@@ -125,7 +125,7 @@ served_stop items k l0 l1 h0 h1 b = record {
   outcome = all_answered items k b.read h0 h1 b.ready b.stands;
 }
 
-pub served_faulted : (items : List ItemDef) (k : Kept) (l0 l1 h0 h1 : Option (List ℕ)) → Between items k l0 l1 h0 h1
+pub served_faulted : (items : List ItemDef) (k : KeptFeed) (l0 l1 h0 h1 : Option (List ℕ)) → Between items k l0 l1 h0 h1
     → Served items end.ReadFault l0 l1 h0 h1 k.feeder.passes
 served_faulted items k l0 l1 h0 h1 b = record {
   read = b.read;

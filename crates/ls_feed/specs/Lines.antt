@@ -5,31 +5,16 @@ use Rattle.ls_value.specs.Values.{text_eq}
 use Rattle.ls_words.specs.Words.{Halves, split_once}
 use Rattle.ls_words.specs.Numbers.{number_in}
 use Rattle.ls_event.specs.declared.limits.TheConstants.{MOST_ADAPTERS}
+use Rattle.ls_lines.specs.Lines.{IsPlain, ended, AreLines as AreLinesWithin, AreTooLong as AreTooLongFor}
 use Rattle.ls_feed.specs.declared.limits.TheConstants.{LONGEST_LINE}
 
--- no byte of these is LF
-abbrev pub IsPlain : List ℕ → Type 0
-IsPlain [] = Unit {0}
-IsPlain (b ∷ bs) = ((b == 10) ≡ false) × IsPlain bs
+-- bytes are these lines, none longer than a line of a feed may be, each with its LF, and a rest behind them
+abbrev pub AreLines : List ℕ → List (List ℕ) → List ℕ → Type 0
+AreLines bytes lines rest = AreLinesWithin LONGEST_LINE bytes lines rest
 
--- a line that may be acted on: it holds no LF, and isn't too long
-pub record IsLine (line : List ℕ) : Type 0 where
-  pub plain : IsPlain line
-  pub short : length line ≤ LONGEST_LINE
-
--- each of these is a line
-abbrev pub EachLine : List (List ℕ) → Type 0
-EachLine [] = Unit {0}
-EachLine (line ∷ lines) = IsLine line × EachLine lines
-
--- a line with the LF that ends it
-abbrev pub ended : List ℕ → List ℕ
-ended line = line ++ 10 ∷ []
-
--- bytes are these lines, each with its LF, and a rest behind them
-pub record AreLines (bytes : List ℕ) (lines : List (List ℕ)) (rest : List ℕ) : Type 0 where
-  pub text : bytes ≡ flat_map ended lines ++ rest
-  pub each : EachLine lines
+-- bytes begin with a line that is too long
+abbrev pub AreTooLong : List ℕ → Type 0
+AreTooLong bytes = AreTooLongFor LONGEST_LINE bytes
 
 -- the adapter that a hello names, by what stands before and behind its first space: `feed` and a number
 abbrev pub hello_said : Halves → Option ℕ
@@ -38,14 +23,6 @@ hello_said h = if text_eq h.front (codes "feed") then number_in h.back 1 MOST_AD
 -- the adapter that a first line names, if it is a hello
 abbrev pub hello_of : List ℕ → Option ℕ
 hello_of line = option_and_then hello_said (split_once 32 line)
-
--- bytes begin with a line that is too long
-pub record AreTooLong (bytes : List ℕ) : Type 0 where
-  pub line : List ℕ
-  pub behind : List ℕ
-  pub text : bytes ≡ line ++ behind
-  pub plain : IsPlain line
-  pub long : LONGEST_LINE < length line
 
 -- bytes begin with a line that is no hello
 pub record BeginOtherwise (bytes : List ℕ) : Type 0 where

@@ -12,8 +12,8 @@ use Rattle.ls_shared.specs.Offers.{HasOnce}
 use Rattle.ls_feed.specs.declared.offer.Offer.{Offer}
 use Rattle.ls_feed.specs.declared.reply.Bad.{Bad}
 use Rattle.ls_feed.specs.declared.reply.Bad.TheVariants as bad
-use Rattle.ls_feed.specs.declared.reply.Reply.{Reply}
-use Rattle.ls_feed.specs.declared.reply.Reply.TheVariants as reply
+use Rattle.ls_feed.specs.declared.reply.FeedReply.{FeedReply}
+use Rattle.ls_feed.specs.declared.reply.FeedReply.TheVariants as reply
 use Rattle.ls_feed.specs.Offers.{offer_of}
 
 -- the number of a cause in `bad` replies
@@ -29,17 +29,17 @@ code_of bad.Spent = 8
 code_of bad.NoMemory = 9
 
 -- a reply's words: `ok`, `repeated` or `bad`, and a number
-abbrev pub words_of_reply : Reply → List ℕ
+abbrev pub words_of_reply : FeedReply → List ℕ
 words_of_reply (reply.Published number) = codes "ok " ++ decimal number
 words_of_reply (reply.Repeated last) = codes "repeated " ++ decimal last
 words_of_reply (reply.Bad cause) = codes "bad " ++ decimal (code_of cause)
 
 -- a reply's line, with its LF
-abbrev pub text_of : Reply → List ℕ
+abbrev pub text_of : FeedReply → List ℕ
 text_of r = words_of_reply r ++ 10 ∷ []
 
 -- the lines of replies
-abbrev pub texts_of : List Reply → List ℕ
+abbrev pub texts_of : List FeedReply → List ℕ
 texts_of replies = flat_map text_of replies
 
 -- the pass of the item of a number, where a line named the item
@@ -62,7 +62,7 @@ cause_of o p = cause_in p.shape p.list (entry_of p.adapter o.seq o.event)
 -- what a reply to an offer says of the item's pass behind it: `ok` that the event stands there at that number, and no
 -- other one of the adapter with that seq; the others that it is refused for that cause; memory may be wanting at any
 -- time
-abbrev pub TrueOf : Offer → Pass → Reply → Type 0
+abbrev pub TrueOf : Offer → Pass → FeedReply → Type 0
 TrueOf o p (reply.Published number) = HasOnce p.list number p.adapter o.seq o.event
 TrueOf o p (reply.Repeated last) = cause_of o p ≡ Some (refused.Repeated last)
 TrueOf o p (reply.Bad bad.Malformed) = ⊥
@@ -90,7 +90,7 @@ Unchanged ps qs = (item : ℕ) → pass_at qs item ≡ pass_at ps item
 
 -- an offer was made by its item's pass, which has seen what it had and maybe more, and the reply is true of it; all
 -- other passes are as before
-pub record Offered (items : List ItemDef) (adapter : ℕ) (o : Offer) (r : Reply) (ps qs : List (Option Pass))
+pub record Offered (items : List ItemDef) (adapter : ℕ) (o : Offer) (r : FeedReply) (ps qs : List (Option Pass))
     : Type 0 where
   pub pass : Pass
   pub is : pass_at qs o.item ≡ Some pass
@@ -100,18 +100,18 @@ pub record Offered (items : List ItemDef) (adapter : ℕ) (o : Offer) (r : Reply
   pub others : (item : ℕ) → (item ≡ o.item → ⊥) → pass_at qs item ≡ pass_at ps item
 
 -- a reply to what a line offers
-abbrev pub RepliesBy : List ItemDef → ℕ → Result Offer Bad → Reply → List (Option Pass) → List (Option Pass) → Type 0
+abbrev pub RepliesBy : List ItemDef → ℕ → Result Offer Bad → FeedReply → List (Option Pass) → List (Option Pass) → Type 0
 RepliesBy items adapter (Ok o) r ps qs =
     Offered items adapter o r ps qs ⊎ ((r ≡ reply.Bad bad.NoMemory) × Unchanged ps qs)
 RepliesBy items adapter (Err cause) r ps qs =
     ((r ≡ reply.Bad cause) ⊎ (r ≡ reply.Bad bad.NoMemory)) × Unchanged ps qs
 
 -- a reply to a line of an adapter's
-abbrev pub RepliesTo : List ItemDef → ℕ → List ℕ → Reply → List (Option Pass) → List (Option Pass) → Type 0
+abbrev pub RepliesTo : List ItemDef → ℕ → List ℕ → FeedReply → List (Option Pass) → List (Option Pass) → Type 0
 RepliesTo items adapter line r ps qs = RepliesBy items adapter (offer_of items line) r ps qs
 
 -- one reply for each line, in order
-abbrev pub Replies : List ItemDef → ℕ → List (List ℕ) → List Reply → List (Option Pass) → List (Option Pass) → Type 0
+abbrev pub Replies : List ItemDef → ℕ → List (List ℕ) → List FeedReply → List (Option Pass) → List (Option Pass) → Type 0
 Replies items adapter [] [] ps qs = qs ≡ ps
 Replies items adapter [] (r ∷ rs) ps qs = ⊥
 Replies items adapter (line ∷ lines) [] ps qs = ⊥

@@ -7,25 +7,26 @@ use Rattle.ls_live.specs.Live.{Pass}
 use Rattle.ls_feed.specs.declared.report.FeedEnd.{FeedEnd}
 use Rattle.ls_feed.specs.declared.report.FeedEnd.TheVariants as end
 use Rattle.ls_feed.specs.declared.limits.TheConstants.{LONGEST_LINE}
-use Rattle.ls_feed.specs.declared.reply.Reply.{Reply}
-use Rattle.ls_feed.specs.declared.reply.Reply.TheVariants as reply
+use Rattle.ls_feed.specs.declared.reply.FeedReply.{FeedReply}
+use Rattle.ls_feed.specs.declared.reply.FeedReply.TheVariants as reply
 use Rattle.ls_feed.specs.declared.reply.Bad.TheVariants as bad
-use Rattle.ls_feed.specs.Lines.{IsPlain, AreLines, AreTooLong, BeginOtherwise, hello_of}
+use Rattle.ls_lines.specs.Lines.{IsPlain}
+use Rattle.ls_feed.specs.Lines.{AreLines, AreTooLong, BeginOtherwise, hello_of}
 use Rattle.ls_feed.specs.Replies.{Replies, texts_of, text_of}
 
 -- nothing was said and no pass made
-pub record Silent (replies : List Reply) (ps : List (Option Pass)) : Type 0 where
+pub record Silent (replies : List FeedReply) (ps : List (Option Pass)) : Type 0 where
   pub none : replies ≡ []
   pub unseen : ps ≡ []
 
 -- the first line is a hello, and each line behind it has its reply, in order
-pub record Answered (items : List ItemDef) (adapter : ℕ) (first : List ℕ) (lines : List (List ℕ)) (replies : List Reply)
+pub record Answered (items : List ItemDef) (adapter : ℕ) (first : List ℕ) (lines : List (List ℕ)) (replies : List FeedReply)
     (ps : List (Option Pass)) : Type 0 where
   pub hello : hello_of first ≡ Some adapter
   pub replied : Replies items adapter lines replies [] ps
 
 -- the replies to a feed's lines, the first of which is its hello
-abbrev pub Answers : List ItemDef → List (List ℕ) → List Reply → List (Option Pass) → Type 0
+abbrev pub Answers : List ItemDef → List (List ℕ) → List FeedReply → List (Option Pass) → Type 0
 Answers items [] replies ps = Silent replies ps
 Answers items (first ∷ lines) replies ps = (adapter : ℕ) × Answered items adapter first lines replies ps
 
@@ -33,7 +34,7 @@ Answers items (first ∷ lines) replies ps = (adapter : ℕ) × Answered items a
 pub record AllAnswered (items : List ItemDef) (read written : List ℕ) (ps : List (Option Pass)) : Type 0 where
   pub lines : List (List ℕ)
   pub rest : List ℕ
-  pub replies : List Reply
+  pub replies : List FeedReply
   pub are : AreLines read lines rest
   pub plain : IsPlain rest
   pub short : length rest ≤ LONGEST_LINE
@@ -51,7 +52,7 @@ pub record EndsTooLong (items : List ItemDef) (read written : List ℕ) (ps : Li
   pub first : List ℕ
   pub lines : List (List ℕ)
   pub rest : List ℕ
-  pub replies : List Reply
+  pub replies : List FeedReply
   pub are : AreLines read (first ∷ lines) rest
   pub long : AreTooLong rest
   pub answers : Answers items (first ∷ lines) replies ps
@@ -65,7 +66,7 @@ LastText rest text = (text ≡ []) ⊎ (AreTooLong rest × (text ≡ text_of (re
 pub record PartAnswered (items : List ItemDef) (read written : List ℕ) (ps : List (Option Pass)) : Type 0 where
   pub lines : List (List ℕ)
   pub rest : List ℕ
-  pub replies : List Reply
+  pub replies : List FeedReply
   pub last : List ℕ
   pub are : AreLines read lines rest
   pub answers : Answers items lines replies ps

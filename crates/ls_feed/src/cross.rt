@@ -1,6 +1,6 @@
 //! What may go to another thread.
 use crate::offer::Offer;
-use crate::reply::Reply;
+use crate::reply::FeedReply;
 use crate::report::FeedReport;
 use ls_register::House;
 
@@ -10,7 +10,7 @@ fn sends<T: Send>() {}
 /// Offers and replies.
 pub(crate) fn lines() {
     sends::<Offer>();
-    sends::<Reply>();
+    sends::<FeedReply>();
 }
 
 /// What came of a feed.

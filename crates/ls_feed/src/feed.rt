@@ -1,29 +1,28 @@
 //! A feed in the middle of its bytes: pieces come, and its lines are answered as they end.
-ghost use Rattle.std.specs.Prelude.{◌≡◌, ◌<◌, ◌≤◌, [], ◌∷◌, ◌++◌, ⊤, None, length, slice_index, slice_set, take};
-ghost use Rattle.std.specs.Prelude.{MatchOption};
+ghost use Rattle.std.specs.Prelude.{◌≡◌, ◌<◌, ◌≤◌, [], ◌∷◌, ◌++◌, None, length, slice_set};
+ghost use Rattle.std.specs.Prelude.{IfOk, OnOk, IsErrOf};
 ghost use Rattle.std.specs.Prelude.{List, ℕ};
 ghost use mathlib.Core.List.{IsPrefix};
 ghost use Rattle.std.specs.declared.option.Option.{Option as Optional};
 ghost use Rattle.ls_outside.specs.Causes.{Rose};
 ghost use Rattle.ls_event.specs.History.{HasFields};
 ghost use Rattle.ls_event.specs.declared.limits.TheConstants.{MOST_ADAPTERS};
-ghost use Rattle.ls_feed.specs.Lines.{IsPlain, ended};
 ghost use Rattle.ls_feed.specs.Offers.{FitsItem};
 ghost use Rattle.ls_feed.specs.Replies.{ArePasses, IsPassOf, Offered, RepliesTo, TrueOf, pass_at, seen_by, text_of};
-ghost use Rattle.ls_feed.specs.Feeding.{IsFeeder, IsReady, Wrote, Acts, Stands, Goes, Sends, SaysTooLong};
-ghost use Rattle.ls_feed.specs.declared.reply.Reply.TheVariants as answer_is;
+ghost use Rattle.ls_feed.specs.Feeding.{IsFeeder, IsReady, Wrote, Acts, Stands, Goes, GoesNext, Sends, SaysTooLong};
+ghost use Rattle.ls_feed.specs.declared.reply.FeedReply.TheVariants as answer_is;
 ghost use Rattle.ls_feed.specs.declared.reply.Bad.TheVariants as bad;
 
 use crate::limits::LONGEST_LINE;
 use crate::offer::{Offer, hello_of, read_offer};
 use crate::passes::Passes;
-use crate::reply::{Bad, Reply, append_reply, reply_to};
+use crate::reply::{Bad, FeedReply, append_reply, reply_to};
 use crate::report::{FeedEnd, FeedReport};
+use ls_lines::{LineCutter, LineRefused};
 use ls_live::PubPass;
 use ls_outside::{Gate, Pipe, Put, Sink, write_all};
 use ls_register::House;
 use ls_shared::Shared;
-use memchr::memchr;
 use std::alloc::Global;
 use std::marker::Model;
 use std::sync::Wait;
@@ -64,23 +63,28 @@ impl<N: House> Model for Feeder<N> {
     ghost view = { λ f. record { adapter = f.adapter; passes = f.passes } };
 }
 
-/// Who feeds, and the bytes behind the last line that ended.
+/// Who feeds, and what cuts its lines.
 #[derive(Drop)]
 pub(crate) struct Feed<N: House> {
     feeder: Feeder<N>,
-    carry: Vec<u8>,
+    lines: LineCutter,
 }
 
 impl<N: House> Model for Feed<N> {
-    ghost use Rattle.ls_feed.specs.Feeding.{Kept};
+    ghost use Rattle.ls_feed.specs.Feeding.{KeptFeed};
 
-    ghost Value = { Kept };
+    ghost Value = { KeptFeed };
 
-    ghost view = { λ f. record { feeder = f.feeder; carry = f.carry.items } };
+    ghost view = { λ f. record { feeder = f.feeder; carry = f.lines.carry } };
+
+    ghost use Rattle.std.specs.Prelude.{◌≡◌};
+    ghost use Rattle.ls_feed.specs.declared.limits.TheConstants.{LONGEST_LINE};
+
+    ghost invariant = { λ f. f.lines.limit ≡ LONGEST_LINE };
 }
 
 /// Writes a reply.
-fn send<C: Sink>(conn: &mut C, text: &mut Vec<u8>, reply: Reply) -> Fed
+fn send<C: Sink>(conn: &mut C, text: &mut Vec<u8>, reply: FeedReply) -> Fed
     ensures sends { Sends result (C.held conn.old) (C.held conn.new) (text_of reply) }
     ensures cause { result ≡ Fed.WriteFault → Rose (C.faults conn.old) (C.faults conn.new) }
     ensures later { C.faults conn.old ≤ C.faults conn.new }
@@ -126,7 +130,7 @@ fn offer_by<N: House, R: Wait, G: Gate>(
     pass: &mut PubPass<N>,
     offer: Offer,
     gate: &G,
-) -> Reply
+) -> FeedReply
     requires { HasFields pass.old.shape.fields offer.event }
     ensures begins { IsPrefix pass.old.list pass.new.list }
     ensures same { pass.new ≡ record pass.old { list = pass.new.list } }
@@ -134,7 +138,7 @@ fn offer_by<N: House, R: Wait, G: Gate>(
 {
     let Offer { seq, event, .. } = offer;
     match shared.offer(rt, pass, seq, event, gate) {
-        Ok(no) => Reply::Published { no },
+        Ok(no) => FeedReply::Published { no },
         Err(cause) => reply_to(cause),
     }
 }
@@ -147,7 +151,7 @@ fn offered<N: House, R: Wait, G: Gate>(
     adapter: u8,
     offer: Offer,
     gate: &G,
-) -> Reply
+) -> FeedReply
     requires some { 1 ≤ adapter }
     requires most { adapter ≤ MOST_ADAPTERS }
     requires passes { ArePasses N.deed.config adapter passes.old }
@@ -172,7 +176,7 @@ fn answer<N: House, R: Wait, G: Gate>(
     adapter: u8,
     line: &[u8],
     gate: &G,
-) -> Reply
+) -> FeedReply
     requires some { 1 ≤ adapter }
     requires most { adapter ≤ MOST_ADAPTERS }
     requires passes { ArePasses N.deed.config adapter passes.old }
@@ -181,10 +185,10 @@ fn answer<N: House, R: Wait, G: Gate>(
 {
     let offer = match read_offer(alloc, &shared.config().items, line) {
         Ok(offer) => offer,
-        Err(cause) => return Reply::Bad(cause),
+        Err(cause) => return FeedReply::Bad(cause),
     };
     if passes.reserve(offer.item).is_err() {
-        return Reply::Bad(Bad::NoMemory);
+        return FeedReply::Bad(Bad::NoMemory);
     }
     offered(rt, shared, passes, adapter, offer, gate)
 }
@@ -247,7 +251,7 @@ impl<N: House> Feeder<N> {
         if self.adapter.is_none() {
             return Fed::BadHello;
         }
-        match send(conn, &mut self.text, Reply::Bad(Bad::Malformed)) {
+        match send(conn, &mut self.text, FeedReply::Bad(Bad::Malformed)) {
             Fed::All => Fed::LongLine,
             failed => failed,
         }
@@ -265,7 +269,7 @@ impl<N: House> Feed<N> {
                 passes: Passes::new(alloc),
                 text: Vec::new(alloc),
             },
-            carry: Vec::new(alloc),
+            lines: LineCutter::new(alloc, LONGEST_LINE),
         }
     }
 
@@ -279,59 +283,43 @@ impl<N: House> Feed<N> {
         }
     }
 
-    /// Takes the rest of a line, which has ended, and answers the line.
-    fn line<R: Wait, C: Sink, G: Gate>(
+    /// Takes bytes from the front of a piece, up to the end of the first line in it, and answers the line; all of them,
+    /// where none ends. Answers how many they were, or why the feed ends.
+    fn next<R: Wait, C: Sink, G: Gate>(
         &mut self,
         rt: &R,
         alloc: Global,
         conn: &mut C,
         shared: &Shared<N>,
         gate: &G,
-        rest: &[u8],
-    ) -> Fed
+        piece: &[u8],
+    ) -> Result<usize, Fed>
         requires ready { IsReady N.deed.config self.old }
-        requires plain { IsPlain rest.now }
-        ensures ready { result ≡ Fed.All → IsReady N.deed.config self.new }
+        requires some { 0 < length piece.now }
+        ensures used { IfOk result (λ used. (0 < used) × (used ≤ length piece.now)) }
+        ensures ready { OnOk result (IsReady N.deed.config self.new) }
+        ensures stops { IsErrOf result Fed.All → ⊥ }
         ensures goes { (read : List ℕ) (held : Optional (List ℕ))
             → Stands N.deed.config self.old read held (C.held conn.old)
-            → Goes N.deed.config result self.new (read ++ ended rest.now) held (C.held conn.new) }
-        ensures cause { result ≡ Fed.WriteFault → Rose (C.faults conn.old) (C.faults conn.new) }
+            → GoesNext N.deed.config result self.new read piece.now held (C.held conn.new) }
+        ensures cause { IsErrOf result Fed.WriteFault → Rose (C.faults conn.old) (C.faults conn.new) }
         ensures later { C.faults conn.old ≤ C.faults conn.new }
         ensures source { C.gives conn.new ≡ C.gives conn.old }
     {
-        if rest.len() > LONGEST_LINE - self.carry.len() {
-            return self.feeder.refuse(conn);
-        }
-        if self.carry.is_empty() {
-            return self.feeder.act(rt, alloc, conn, shared, gate, rest);
-        }
-        let Ok(()) = self.carry.extend_from_slice(rest) else {
-            return Fed::NoMemory;
+        let used = match self.lines.take(piece) {
+            Ok(Some(used)) => used,
+            Ok(None) => return Ok(piece.len()),
+            Err(LineRefused::TooLong) => return Err(self.feeder.refuse(conn)),
+            Err(LineRefused::NoMemory) => return Err(Fed::NoMemory),
         };
-        let fed = self.feeder.act(rt, alloc, conn, shared, gate, &self.carry);
-        self.carry.clear();
-        fed
-    }
-
-    /// Takes bytes that end no line.
-    fn keep<C: Sink>(&mut self, conn: &mut C, bytes: &[u8]) -> Fed
-        requires ready { IsReady N.deed.config self.old }
-        requires plain { IsPlain bytes.now }
-        ensures ready { result ≡ Fed.All → IsReady N.deed.config self.new }
-        ensures goes { (read : List ℕ) (held : Optional (List ℕ))
-            → Stands N.deed.config self.old read held (C.held conn.old)
-            → Goes N.deed.config result self.new (read ++ bytes.now) held (C.held conn.new) }
-        ensures cause { result ≡ Fed.WriteFault → Rose (C.faults conn.old) (C.faults conn.new) }
-        ensures later { C.faults conn.old ≤ C.faults conn.new }
-        ensures source { C.gives conn.new ≡ C.gives conn.old }
-    {
-        if bytes.len() > LONGEST_LINE - self.carry.len() {
-            return self.feeder.refuse(conn);
+        match self
+            .feeder
+            .act(rt, alloc, conn, shared, gate, self.lines.line())
+        {
+            Fed::All => {}
+            stopped => return Err(stopped),
         }
-        let Ok(()) = self.carry.extend_from_slice(bytes) else {
-            return Fed::NoMemory;
-        };
-        Fed::All
+        Ok(used)
     }
 
     /// Takes a piece of the bytes. Each line that ends in it is answered.
@@ -354,20 +342,12 @@ impl<N: House> Feed<N> {
         ensures source { C.gives conn.new ≡ C.gives conn.old }
     {
         let mut rest = piece;
-        while let Some(len) = line_len(rest) {
-            match self.line(rt, alloc, conn, shared, gate, &rest[..len]) {
-                Fed::All => rest = &rest[len + 1..],
-                stopped => return stopped,
+        while !rest.is_empty() {
+            match self.next(rt, alloc, conn, shared, gate, rest) {
+                Ok(used) => rest = &rest[used..],
+                Err(stopped) => return stopped,
             }
         }
-        self.keep(conn, rest)
+        Fed::All
     }
-}
-
-/// How long the first line of these bytes is, without its end, if it ends in them.
-fn line_len(bytes: &[u8]) -> Option<usize>
-    ensures none { MatchOption result (IsPlain bytes.now) (λ len. IsPlain (take len bytes.now)) }
-    ensures some { MatchOption result ⊤ (λ len. (len < length bytes.now) × (slice_index bytes.now len ≡ 10)) }
-{
-    memchr(b'\n', bytes)
 }

@@ -2,7 +2,7 @@
 //!
 //! [`serve_feed`] serves one connection: its first line is the hello, `feed` and the adapter's number, and each line
 //! behind it is an item's name, a seq and an event's text. What a line offers, [`read_offer`] reads as an [`Offer`];
-//! each line has its [`Reply`] in order. The [`FeedReport`] says why the feed ended, and has the passes of its adapter,
+//! each line has its [`FeedReply`] in order. The [`FeedReport`] says why the feed ended, and has the passes of its adapter,
 //! which have seen each event that it published:
 //!
 //! ```text
@@ -27,6 +27,6 @@ mod serving;
 pub use limits::LONGEST_LINE;
 pub use offer::{Offer, read_offer};
 pub use passes::Passes;
-pub use reply::{Bad, Reply};
+pub use reply::{Bad, FeedReply};
 pub use report::{FeedEnd, FeedReport};
 pub use serving::serve_feed;

@@ -33,7 +33,7 @@ pub enum Bad {
 
 /// The reply to a line.
 #[derive(Clone, Copy, Debug, PartialEq, Eq)]
-pub enum Reply {
+pub enum FeedReply {
     /// Its event was published, with this number: `ok`.
     Published { no: u64 },
     /// Its seq isn't above the adapter's last one on the item, which is this one: `repeated`.
@@ -62,28 +62,30 @@ impl Bad {
 }
 
 /// The reply to an offer that is refused. An offer is never refused for a slot that lags.
-pub(crate) fn reply_to(cause: PublishRefused) -> Reply
+pub(crate) fn reply_to(cause: PublishRefused) -> FeedReply
     ensures { (o : Offer) (p : Pass) → IsCause (cause_of o p) cause → TrueOf o p result }
 {
     match cause {
-        PublishRefused::Repeated { last } => Reply::Repeated { last },
-        PublishRefused::NoKey => Reply::Bad(Bad::NoKey),
-        PublishRefused::BadCommand => Reply::Bad(Bad::BadCommand),
-        PublishRefused::TooManyKeys => Reply::Bad(Bad::TooManyKeys),
-        PublishRefused::TooLong { bytes: _ } => Reply::Bad(Bad::TooLong),
-        PublishRefused::Spent => Reply::Bad(Bad::Spent),
-        PublishRefused::Backlog { slot: _ } | PublishRefused::NoMemory => Reply::Bad(Bad::NoMemory),
+        PublishRefused::Repeated { last } => FeedReply::Repeated { last },
+        PublishRefused::NoKey => FeedReply::Bad(Bad::NoKey),
+        PublishRefused::BadCommand => FeedReply::Bad(Bad::BadCommand),
+        PublishRefused::TooManyKeys => FeedReply::Bad(Bad::TooManyKeys),
+        PublishRefused::TooLong { bytes: _ } => FeedReply::Bad(Bad::TooLong),
+        PublishRefused::Spent => FeedReply::Bad(Bad::Spent),
+        PublishRefused::Backlog { slot: _ } | PublishRefused::NoMemory => FeedReply::Bad(
+            Bad::NoMemory,
+        ),
     }
 }
 
 /// Appends a reply's words and its LF. After `NoMemory` some of it may be there.
-pub(crate) fn append_reply(text: &mut Vec<u8>, reply: Reply) -> Result<(), NoMemory>
+pub(crate) fn append_reply(text: &mut Vec<u8>, reply: FeedReply) -> Result<(), NoMemory>
     ensures { OnOk result (text.new.items ≡ text.old.items ++ text_of reply) }
 {
     let (word, number): (&[u8], u64) = match reply {
-        Reply::Published { no } => (b"ok ", no),
-        Reply::Repeated { last } => (b"repeated ", last),
-        Reply::Bad(cause) => (b"bad ", cause.code()),
+        FeedReply::Published { no } => (b"ok ", no),
+        FeedReply::Repeated { last } => (b"repeated ", last),
+        FeedReply::Bad(cause) => (b"bad ", cause.code()),
     };
     text.extend_from_slice(word)?;
     append_decimal(text, number)?;

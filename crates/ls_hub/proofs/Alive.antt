@@ -4,8 +4,8 @@ use Rattle.std.proofs.Common.{Some, None, slice_get, nat_le, ◌&&◌}
 use Rattle.std.specs.Option.{option_map_or}
 use Rattle.std.proofs.lemmas.Bool.Decides.{nat_tests}
 use Rattle.std.proofs.lemmas.List.Sums.{sum_by-cons}
-use Rattle.ls_world.specs.World.{Session, alive, is_alive, change, ended, timed_out, unless_timed_out}
-use Rattle.ls_world.specs.declared.TheConstants.{MOST_UNBOUND}
+use Rattle.ls_record.specs.Records.{Session, alive, is_alive, change, ended, timed_out, unless_timed_out}
+use Rattle.ls_record.specs.declared.TheConstants.{MOST_UNBOUND}
 use Rattle.ls_hub.specs.Clock.{without_place}
 use Rattle.ls_hub.specs.Hub.{living_from}
 

@@ -6,14 +6,15 @@ use Rattle.std.proofs.lemmas.List.{length-map, take_at}
 use Rattle.ls_value.specs.declared.limits.TheConstants.{GREATEST_NUMBER}
 use Rattle.ls_request.specs.declared.request.Create.{Create}
 use Rattle.ls_request.specs.declared.request.LinkKind.{LinkKind}
-use Rattle.ls_world.specs.World.{World, Live, alive, all_live, opened, change}
+use Rattle.ls_world.specs.World.{World}
+use Rattle.ls_record.specs.Records.{LiveSlot, alive, all_live, opened, change}
 use Rattle.ls_world.specs.Acting.{create_code, is_set_of}
-use Rattle.ls_world.specs.Cases.{with_found}
+use Rattle.ls_record.specs.Cases.{with_found}
 use Rattle.ls_world.specs.Steps.{Stepped, stays, connects, creates, created, refuses_stream}
-use Rattle.ls_world.specs.declared.TheConstants.{MOST_SESSIONS}
+use Rattle.ls_record.specs.declared.TheConstants.{MOST_SESSIONS}
 use Rattle.ls_cells.specs.Cells.{StandsCells}
 use Rattle.ls_cells.proofs.Lives.{all_live_more}
-use Rattle.ls_session.specs.Record.{begun_anew}
+use Rattle.ls_session.specs.Record.{created as session_created}
 use Rattle.ls_session.specs.Session.{StandsSession}
 use Rattle.ls_session.specs.declared.session.Session.{Session as Kept}
 use Rattle.ls_hub.specs.Hub.{StandsHub, StandsAsBefore, Prints, seen, living_from}
@@ -21,7 +22,7 @@ use Rattle.ls_hub.specs.declared.hub.Connection.{Connection as Linked}
 use Rattle.ls_hub.specs.declared.hub.Hub.{Hub}
 use Rattle.ls_hub.proofs.Alive.{living_count, living_next}
 use Rattle.ls_hub.proofs.Connected.{linked_to}
-use Rattle.ls_hub.proofs.Sessions.{as_many, kept_more, anew_is}
+use Rattle.ls_hub.proofs.Sessions.{as_many, kept_more, anew_is, numbers_more}
 
 pub few : (m n : ℕ) → n < m → nat_le m n ≡ false
 few m n low = grind (arith, nat_tests)
@@ -53,7 +54,7 @@ refused_printed h w n c code before after some did =
 pub begun : (h h' : Hub) (w : World) (n : ℕ) (c : Create) (place : ℕ) (k : Kept) → StandsHub h w → h'.config ≡ h.config → h'.tick ≡ h.tick
     → h'.cells ≡ h.cells
     → h'.living.items ≡ h.living.items ++ place ∷ [] → place ≡ length h.sessions.items → h'.sessions.items ≡ h.sessions.items ++ k ∷ []
-    → StandsSession k (begun_anew h.tick (opened (place + 1) c.keepalive c.bandwidth c.length))
+    → StandsSession k (session_created (place + 1) h.tick (opened (place + 1) c.keepalive c.bandwidth c.length))
     → map seen h'.connections.items ≡ change n (linked_to place 1) (map seen h.connections.items)
     → StandsHub h' (created w n c)
 begun h h' w n c place k st config tick cells living last more stands given =
@@ -67,11 +68,12 @@ begun h h' w n c place k st config tick cells living last more stands given =
       in_range = st.in_range;
       definitions = ap (λ x. x.items) config ∙ st.definitions;
       cells = subst (λ x. StandsCells x w.items (all_live (w.sessions ++ opened (place + 1) c.keepalive c.bandwidth c.length ∷ []))) (sym cells)
-          (subst (λ (vs : List Live). StandsCells h.cells w.items vs)
+          (subst (λ (vs : List LiveSlot). StandsCells h.cells w.items vs)
           (sym (all_live_more w.sessions (opened (place + 1) c.keepalive c.bandwidth c.length) refl)) st.cells);
       sessions = rw more
           (kept_more w.tick h.sessions.items w.sessions k (opened (place + 1) c.keepalive c.bandwidth c.length) st.sessions
-          (anew_is w.tick h.tick k (opened (place + 1) c.keepalive c.bandwidth c.length) (omega (arith, st.tick)) stands));
+          (anew_is w.tick (place + 1) h.tick h.tick k (opened (place + 1) c.keepalive c.bandwidth c.length) (omega (arith, st.tick)) stands));
+      numbers = rw more (numbers_more 0 h.sessions.items k st.numbers (omega (arith, stands.number, last)));
       living = living ∙ ap (λ ns. ns ++ place ∷ []) st.living
           ∙ ap (λ m. living_from 0 w.sessions ++ m ∷ []) (last ∙ as_many w.tick h.sessions.items w.sessions st.sessions)
           ∙ sym (living_next w.sessions (opened (place + 1) c.keepalive c.bandwidth c.length) refl);
@@ -100,6 +102,7 @@ same_hub h h' same w st =
       definitions = ap (λ x. x.items) same.config ∙ st.definitions;
       cells = subst (λ x. StandsCells x w.items (all_live w.sessions)) (sym same.cells) st.cells;
       sessions = rw same.sessions st.sessions;
+      numbers = rw same.sessions st.numbers;
       living = same.living ∙ st.living;
       connections = ap (map seen) same.connections ∙ st.connections;
     }
@@ -122,6 +125,7 @@ disconnected h h' w name l n st many config tick cells sessions living is =
       definitions = ap (λ x. x.items) config ∙ st.definitions;
       cells = subst (λ x. StandsCells x w.items (all_live w.sessions)) (sym cells) st.cells;
       sessions = rw sessions st.sessions;
+      numbers = rw sessions st.numbers;
       living = ap (λ x. x.items) living ∙ st.living;
       connections = ap (map seen) is ∙ seen_first n h.connections.items ∙ ap (take n) st.connections
           ∙ take_at w.connections (record { name = name; link = l; session = None; epoch = 0 } ∷ []) n (sym many);

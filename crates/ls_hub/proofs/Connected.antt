@@ -7,12 +7,14 @@ use Rattle.ls_line.specs.Lines.{text_of_line}
 use Rattle.ls_request.specs.declared.request.LinkKind.TheVariants as link
 use Rattle.ls_step.specs.Notes.{text_of_out}
 use Rattle.ls_step.specs.declared.out.Out.TheVariants as out
-use Rattle.ls_world.specs.World.{World, Connection, change}
-use Rattle.ls_world.specs.Acting.{message_of}
-use Rattle.ls_world.specs.Cases.{with_found}
-use Rattle.ls_world.specs.Steps.{Stepped, stays, on, session_of, epoch_of, name_of, link_of, is_opening, malformed, refuses, refuses_stream}
+use Rattle.ls_world.specs.World.{World, Connection}
+use Rattle.ls_record.specs.Records.{change}
+use Rattle.ls_record.specs.Acting.{message_of}
+use Rattle.ls_record.specs.Cases.{with_found}
+use Rattle.ls_world.specs.Steps.{Stepped, stays, on, session_of, epoch_of, name_of, link_of, is_opening, malformed}
+use Rattle.ls_world.specs.Steps.{refuses, refuses_stream}
 use Rattle.ls_hub.specs.Hub.{StandsHub, Prints, seen, session_at, epoch_at, name_at, link_at}
-use Rattle.ls_hub.specs.Requests.{malformed_line}
+use Rattle.ls_acts.specs.Answers.{malformed_line}
 use Rattle.ls_hub.proofs.Repeats.{text_one}
 use Rattle.ls_hub.specs.declared.hub.Hub.{Hub}
 use Rattle.ls_hub.specs.declared.hub.Connection.{Connection as Linked}

@@ -7,20 +7,27 @@ use Rattle.ls_value.specs.declared.limits.TheConstants.{GREATEST_NUMBER}
 pub use Rattle.ls_words.proofs.Decimals.{on_failed}
 use Rattle.ls_step.specs.declared.out.Out.TheVariants as out
 use Rattle.ls_step.specs.Notes.{text_of_out}
-use Rattle.ls_world.specs.Cases.{with_found}
-use Rattle.ls_world.specs.Lines.{text_at}
-use Rattle.ls_world.specs.World.{World, Item, Live, Session, Life, Alive, Ending, Ended, RoundLine, change, is_alive, round_of, taken_in, on_board}
-use Rattle.ls_world.specs.World.{numbered, trimmed, on_stream, with_line, is_unsent, is_to_loop, is_bound, unbound_at, is_due, least_wait}
-use Rattle.ls_world.specs.Steps.{Once, SessionTurn, TurnGives, Gave, Idle, NotDue, Spent, Superseded, Unbound, Over, waits_until, session_of}
-use Rattle.ls_world.specs.Steps.{epoch_of, name_of, next_given, round_turn, turn_owing, turn_bound, session_turn, took, take_once, loop_text}
-use Rattle.ls_world.specs.Steps.{gives_unbound, with_session, ends}
-use Rattle.ls_session.specs.Record.{Record, begun_anew}
+use Rattle.ls_record.specs.Cases.{with_found}
+use Rattle.ls_record.specs.Lines.{text_at}
+use Rattle.ls_world.specs.World.{World}
+use Rattle.ls_record.specs.Records.{Item, LiveSlot, Session, Life, Alive, Ending, Closed, RoundLine, change, is_alive}
+use Rattle.ls_record.specs.Records.{round_of, taken_in, on_board}
+use Rattle.ls_record.specs.Records.{numbered, trimmed, on_stream, with_line, is_unsent, is_to_loop, is_bound}
+use Rattle.ls_record.specs.Records.{unbound_at, is_due, least_wait}
+use Rattle.ls_world.specs.Steps.{Once, session_of}
+use Rattle.ls_record.specs.Turning.{SessionTurn, TurnGives, Send, Idle, NotDue, Spent, Superseded, Unbound, Ended}
+use Rattle.ls_record.specs.Turning.{waits_until}
+use Rattle.ls_world.specs.Steps.{epoch_of, name_of, took, take_once}
+use Rattle.ls_record.specs.Turning.{next_given, round_turn, turn_owing, turn_bound, session_turn, loop_text}
+use Rattle.ls_record.specs.Turning.{gives_unbound}
+use Rattle.ls_world.specs.Steps.{with_session, ends}
+use Rattle.ls_session.specs.Record.{Record}
 use Rattle.ls_session.specs.declared.session.Session.{Session as Kept}
 use Rattle.ls_hub.specs.declared.hub.Hub.{Hub}
 use Rattle.ls_cells.specs.Cells.{AllCells, StandsCells}
 use Rattle.ls_session.specs.Session.{StandsSession, current_of}
 use Rattle.ls_session.specs.declared.session.Turn.{Turn}
-use Rattle.ls_hub.specs.Hub.{StandsHub, DidOnce, IsSession, AreSessions, seen, session_at, place_in, name_at}
+use Rattle.ls_hub.specs.Hub.{StandsHub, DidOnce, IsSession, AreSessions, seen, session_at, place_in, name_at, AreNumbered}
 use Rattle.ls_hub.specs.Quiet.{StandsQuiet}
 use Rattle.ls_hub.specs.Turning.{turn_from, EndsAs, TurnEnded, TurnFailed, out_of_turn, gave_line}
 use Rattle.ls_hub.proofs.Quieted.{quiet_all, quiet_at}
@@ -29,7 +36,7 @@ use Rattle.ls_hub.proofs.Telling.{turn_begun}
 use Rattle.ls_cells.proofs.Lives.{SessionAt, session_at as session_at_place}
 use Rattle.ls_hub.proofs.Alive.{living_changed}
 use Rattle.ls_hub.proofs.Connected.{session_is, name_is}
-use Rattle.ls_hub.proofs.Sessions.{as_many, none_kept, kept_read, kept_changed, anew_is}
+use Rattle.ls_hub.proofs.Sessions.{as_many, none_kept, kept_read, kept_changed, number_read, numbers_set}
 use Rattle.ls_hub.proofs.KeptSessions.{change_same}
 
 -- a connection has no session, or the one of a place
@@ -101,10 +108,10 @@ pub record ChangedAt (h h' : Hub) (place : ℕ) (k : Kept) : Type 0 where
 
 pub changed_at : (h h' : Hub) (w : World) (place : ℕ) (k : Kept) (s s' : Session) (at : SessionAt w.sessions place s) → StandsHub h w
     → slice_get w.sessions place ≡ Some s
-    → ChangedAt h h' place k → IsSession w.tick k s' → is_alive s'.life ≡ is_alive s.life
+    → ChangedAt h h' place k → IsSession w.tick k s' → k.number ≡ place + 1 → is_alive s'.life ≡ is_alive s.life
     → StandsCells h'.cells w.items (at.before ++ s'.board.round ++ at.after)
     → StandsHub h' (record w { sessions = change place (λ x. s') w.sessions })
-changed_at h h' w place k s s' at st found same is lives cells =
+changed_at h h' w place k s s' at st found same is number lives cells =
     record {
       set = ap (λ c. c.set) same.config ∙ st.set;
       tick = same.tick ∙ st.tick;
@@ -113,6 +120,7 @@ changed_at h h' w place k s s' at st found same is lives cells =
       cells = subst (StandsCells h'.cells w.items) (append_assoc at.before s'.board.round at.after ∙ sym (at.changed (λ x. s'))) cells;
       sessions = subst (λ ks. AreSessions w.tick ks (change place (λ x. s') w.sessions)) (sym same.sessions)
           (kept_changed w.tick h.sessions.items w.sessions place k s (λ x. s') st.sessions found is);
+      numbers = subst (AreNumbered 0) (sym same.sessions) (numbers_set 0 h.sessions.items place k st.numbers (omega (arith, number)));
       living = ap (λ x. x.items) same.living ∙ st.living ∙ sym (living_changed 0 w.sessions place s (λ x. s') found lives);
       connections = ap (λ cs. map seen cs.items) same.connections ∙ st.connections;
     }
@@ -155,7 +163,7 @@ round_alive now items s = by_left (list_any (is_due now s) s.board.round && nat_
         (round_of (is_due now s) items s.board.lines s.board.round).came refl refl
 
 abbrev looped : ℕ → Session → SessionTurn
-looped now s = record { session = unbound_at now s; gives = Gave loop_text }
+looped now s = record { session = unbound_at now s; gives = Send loop_text }
 
 owing_alive : (now : ℕ) (items : List Item) (s : Session) (owed : List (List ℕ))
     → is_alive (turn_owing now items s owed).session.life ≡ is_alive s.life
@@ -182,7 +190,7 @@ turn_alive now items epoch s = by_newer (nat_lt epoch (length s.streams))
     by_life : (l : Life) → s.life ≡ l → is_alive (turn_bound now items s l).session.life ≡ is_alive s.life
     by_life Alive is = owing_alive now items s s.owed
     by_life (Ending code) is = ap is_alive (sym is)
-    by_life (Ended code) is = refl
+    by_life (Closed code) is = refl
 
     by_bound : (b : Bool) → is_alive (cond b (turn_bound now items s s.life) (unbound s)).session.life ≡ is_alive s.life
     by_bound true = by_life s.life refl
@@ -195,13 +203,13 @@ turn_alive now items epoch s = by_newer (nat_lt epoch (length s.streams))
 
 -- where no number is left, it has a newer stream, none is bound, or it had ended before, it stays as it is
 abbrev Stays : Session → SessionTurn → TurnGives → Type 0
-Stays s st (Gave text) = Unit {0}
+Stays s st (Send text) = Unit {0}
 Stays s st Idle = Unit {0}
 Stays s st (NotDue tick) = Unit {0}
 Stays s st Spent = st.session ≡ s
 Stays s st (Superseded epoch) = st.session ≡ s
 Stays s st Unbound = st.session ≡ s
-Stays s st (Over code) = st.session ≡ s
+Stays s st (Ended code) = st.session ≡ s
 
 waits_stay : (s board : Session) (wait : Option ℕ) → Stays s (record { session = board; gives = waits_until wait }) (waits_until wait)
 waits_stay s board None = tt
@@ -239,7 +247,7 @@ owing_stays now items s [] = by_over (is_to_loop s.streams)
 unbound_stays : (s : Session) (l : Life) → Stays s (record { session = s; gives = gives_unbound l }) (gives_unbound l)
 unbound_stays s Alive = refl
 unbound_stays s (Ending code) = refl
-unbound_stays s (Ended code) = refl
+unbound_stays s (Closed code) = refl
 
 turn_stays : (now : ℕ) (items : List Item) (epoch : ℕ) (s : Session)
     → Stays s (session_turn now items epoch s) (session_turn now items epoch s).gives
@@ -248,7 +256,7 @@ turn_stays now items epoch s = by_newer (nat_lt epoch (length s.streams))
     by_life : (l : Life) → Stays s (turn_bound now items s l) (turn_bound now items s l).gives
     by_life Alive = owing_stays now items s s.owed
     by_life (Ending code) = tt
-    by_life (Ended code) = refl
+    by_life (Closed code) = refl
 
     by_bound : (b : Bool) → Stays s (cond b (turn_bound now items s s.life) (unbound s)) (cond b (turn_bound now items s s.life) (unbound s)).gives
     by_bound true = by_life s.life
@@ -270,7 +278,7 @@ took_did : (h : Hub) (w : World) (connection place : ℕ) (s s' : Session) (give
     → slice_get w.sessions place ≡ Some s → Stays s (record { session = s'; gives = gives }) gives → EndsAs gives t current → name ≡ name_of w connection
     → after ≡ before ++ text_of_out (out_of_turn name current t) → StandsHub h (record w { sessions = change place (λ x. s') w.sessions })
     → DidOnce (took w connection place s' gives) (gave_line t) before after h
-took_did h w connection place s s' (Gave said) name current t before after found same e is text st =
+took_did h w connection place s s' (Send said) name current t before after found same e is text st =
     record {
       more = ap gave_line (sym e.0);
       text = text ∙ ap (λ u. before ++ text_of_out (out_of_turn name current u)) e.0
@@ -299,7 +307,7 @@ took_did h w connection place s s' Unbound name current t before after found sam
       text = text ∙ ap (λ u. before ++ text_of_out (out_of_turn name current u)) e;
       stands = stayed h w place s s' found same st;
     }
-took_did h w connection place s s' (Over code) name current t before after found same e is text st =
+took_did h w connection place s s' (Ended code) name current t before after found same e is text st =
     record {
       more = ap gave_line (sym e);
       text = text ∙ ap (λ u. before ++ text_of_out (out_of_turn name current u)) e;
@@ -311,7 +319,7 @@ pub record TurnThere (w : World) (epoch place : ℕ) (t : Turn) (k : Kept) (c : 
   pub session : Session
   pub found : slice_get w.sessions place ≡ Some session
   pub at : SessionAt w.sessions place session
-  pub ended : TurnEnded w.tick w.items at.before at.after session (session_turn w.tick w.items epoch session) t k c
+  pub ended : TurnEnded w.tick w.items at.before at.after (place + 1) session (session_turn w.tick w.items epoch session) t k c
 
 -- what is kept of it, and the slots of all sessions around those of its round
 record RoundThere (h : Hub) (w : World) (place : ℕ) (k : Kept) : Type 0 where
@@ -319,7 +327,8 @@ record RoundThere (h : Hub) (w : World) (place : ℕ) (k : Kept) : Type 0 where
   found : slice_get w.sessions place ≡ Some session
   at : SessionAt w.sessions place session
   kept : IsSession w.tick k session
-  early : kept.asking.tick ≤ h.tick
+  number : kept.asking.number ≡ place + 1
+  early : kept.asking.floor ≤ h.tick
   in_range : h.tick ≤ GREATEST_TICK
   cells : StandsCells h.cells w.items (at.before ++ kept.asking.session.board.round ++ at.after)
 
@@ -333,6 +342,7 @@ round_there h w place k st low is =
       found = kept.found;
       at = at;
       kept = kept.stands;
+      number = omega (arith, kept.stands.stands.number, number_read 0 h.sessions.items place k st.numbers low is);
       early = omega (arith, kept.stands.early, st.tick);
       in_range = omega (arith, st.tick, st.in_range);
       cells = subst (StandsCells h.cells w.items) (at.all ∙ sym (append_assoc at.before kept.session.board.round at.after)
@@ -341,9 +351,9 @@ round_there h w place k st low is =
 
 pub turn_there : (h : Hub) (w : World) (epoch place : ℕ) (k k' : Kept) (t : Turn) (c : AllCells) → StandsHub h w → place < length h.sessions.items
     → k ≡ get_or h.sessions.items place k
-    → ((items : List Item) (first others : List Live) (r : Record) → StandsSession k r → r.tick ≤ h.tick → h.tick ≤ GREATEST_TICK
+    → ((items : List Item) (first others : List LiveSlot) (r : Record) → StandsSession k r → r.floor ≤ h.tick → h.tick ≤ GREATEST_TICK
     → StandsCells h.cells items (first ++ r.session.board.round ++ others)
-    → TurnEnded h.tick items first others r.session (turn_from h.tick items epoch r) t k' c)
+    → TurnEnded h.tick items first others r.number r.session (turn_from h.tick items epoch r) t k' c)
     → TurnThere w epoch place t k' c
 turn_there h w epoch place k k' t c st low is turned =
     let x : RoundThere h w place k = round_there h w place k st low is in
@@ -353,17 +363,19 @@ turn_there h w epoch place k k' t c st low is turned =
       session = s;
       found = x.found;
       at = x.at;
-      ended = subst (λ (y : Session). TurnEnded w.tick w.items x.at.before x.at.after y (session_turn w.tick w.items epoch s) t k' c) x.kept.session
-          (subst (λ (y : SessionTurn). TurnEnded w.tick w.items x.at.before x.at.after r.session y t k' c)
+      ended = subst (λ (n : ℕ). TurnEnded w.tick w.items x.at.before x.at.after n s (session_turn w.tick w.items epoch s) t k' c) x.number
+          (subst (λ (y : Session). TurnEnded w.tick w.items x.at.before x.at.after r.number y (session_turn w.tick w.items epoch s) t k' c)
+          x.kept.session
+          (subst (λ (y : SessionTurn). TurnEnded w.tick w.items x.at.before x.at.after r.number r.session y t k' c)
           (turn_begun w.tick w.items epoch r s x.kept.session x.kept.first)
-          (subst (λ n. TurnEnded n w.items x.at.before x.at.after r.session (turn_from n w.items epoch r) t k' c) st.tick
-          (turned w.items x.at.before x.at.after r x.kept.stands x.early x.in_range x.cells)));
+          (subst (λ n. TurnEnded n w.items x.at.before x.at.after r.number r.session (turn_from n w.items epoch r) t k' c) st.tick
+          (turned w.items x.at.before x.at.after r x.kept.stands x.early x.in_range x.cells))));
     }
 
 pub kept_there : (w : World) (epoch place : ℕ) (t : Turn) (k : Kept) (c : AllCells) → (x : TurnThere w epoch place t k c) → (k' : Kept) → k' ≡ k
-    → StandsSession k' (begun_anew w.tick (session_turn w.tick w.items epoch x.session).session)
+    → StandsSession k' x.ended.session.asking
 kept_there w epoch place t k c x k' same =
-    subst (λ (y : Kept). StandsSession y (begun_anew w.tick (session_turn w.tick w.items epoch x.session).session)) (sym same) x.ended.session
+    subst (λ (y : Kept). StandsSession y x.ended.session.asking) (sym same) x.ended.session.stands
 
 -- the hub after it
 pub turned_stands : (h h' : Hub) (w : World) (epoch place : ℕ) (k' : Kept) (t : Turn) → StandsHub h w → ChangedAt h h' place k'
@@ -371,7 +383,7 @@ pub turned_stands : (h h' : Hub) (w : World) (epoch place : ℕ) (k' : Kept) (t 
     → StandsHub h' (record w { sessions = change place (λ y. (session_turn w.tick w.items epoch x.session).session) w.sessions })
 turned_stands h h' w epoch place k' t st same x =
     let s' : Session = (session_turn w.tick w.items epoch x.session).session in
-    changed_at h h' w place k' x.session s' x.at st x.found same (anew_is w.tick w.tick k' s' (omega arith) x.ended.session)
+    changed_at h h' w place k' x.session s' x.at st x.found same x.ended.session x.ended.numbered
     (turn_alive w.tick w.items epoch x.session) x.ended.cells
 
 -- a turn on a connection
@@ -399,36 +411,37 @@ take_did h h' w connection epoch place k' name t text last st linked newest same
 -- one that failed: no line was numbered or given. Nothing was done; or its line found no room; or the session or the slot
 -- wanted memory
 pub nothing_failed : (h : Hub) (w : World) → StandsHub h w → StandsQuiet w h
-nothing_failed h w st = record { after = w; rest = refl; quiet = quiet_all w.items w.sessions; stands = st }
+nothing_failed h w st = record { after = w; passed = record { rest = refl; sessions = quiet_all w.items w.sessions }; stands = st }
 
 pub text_failed : (h h' : Hub) (w : World) (epoch place : ℕ) (k' : Kept) (t : Turn) → StandsHub h w → ChangedAt h h' place k'
     → (x : TurnThere w epoch place t k' h'.cells) → (t ≡ turn.Send → ⊥) → StandsQuiet w h'
 text_failed h h' w epoch place k' t st same x none =
     record {
       after = record w { sessions = change place (λ y. (session_turn w.tick w.items epoch x.session).session) w.sessions };
-      rest = refl;
-      quiet = quiet_at w.items w.sessions place x.session (session_turn w.tick w.items epoch x.session).session x.found (x.ended.quiet none);
+      passed = record {
+        rest = refl;
+        sessions = quiet_at w.items w.sessions place x.session (session_turn w.tick w.items epoch x.session).session x.found (x.ended.quiet none);
+      };
       stands = turned_stands h h' w epoch place k' t st same x;
     }
 
 pub turn_failed : (h h' : Hub) (w : World) (place : ℕ) (k k' : Kept) → StandsHub h w → place < length h.sessions.items
     → k ≡ get_or h.sessions.items place k → ChangedAt h h' place k'
-    → ((items : List Item) (first others : List Live) (r : Record) → StandsSession k r → r.tick ≤ h.tick → h.tick ≤ GREATEST_TICK
-    → StandsCells h.cells items (first ++ r.session.board.round ++ others) → TurnFailed h.tick items first others r.session k' h'.cells)
+    → ((items : List Item) (first others : List LiveSlot) (r : Record) → StandsSession k r → r.floor ≤ h.tick → h.tick ≤ GREATEST_TICK
+    → StandsCells h.cells items (first ++ r.session.board.round ++ others) → TurnFailed h.tick items first others r.number r.session k' h'.cells)
     → StandsQuiet w h'
 turn_failed h h' w place k k' st low is same failed =
     let x : RoundThere h w place k = round_there h w place k st low is in
-    let f : TurnFailed w.tick w.items x.at.before x.at.after x.session k' h'.cells =
-    subst (λ (y : Session). TurnFailed w.tick w.items x.at.before x.at.after y k' h'.cells) x.kept.session
-    (subst (λ n. TurnFailed n w.items x.at.before x.at.after x.kept.asking.session k' h'.cells) st.tick
+    let f : TurnFailed w.tick w.items x.at.before x.at.after x.kept.asking.number x.session k' h'.cells =
+    subst (λ (y : Session). TurnFailed w.tick w.items x.at.before x.at.after x.kept.asking.number y k' h'.cells) x.kept.session
+    (subst (λ n. TurnFailed n w.items x.at.before x.at.after x.kept.asking.number x.kept.asking.session k' h'.cells) st.tick
     (failed w.items x.at.before x.at.after x.kept.asking x.kept.stands x.early x.in_range x.cells)) in
     record {
       after = record w { sessions = change place (λ y. f.asking.session) w.sessions };
-      rest = refl;
-      quiet = quiet_at w.items w.sessions place x.session f.asking.session x.found f.quiet;
+      passed = record { rest = refl; sessions = quiet_at w.items w.sessions place x.session f.asking.session x.found f.quiet };
       stands = changed_at h h' w place k' x.session f.asking.session x.at st x.found same
           (record { asking = f.asking; session = refl; early = f.early; first = f.first; stands = f.session })
-          (ap (λ (y : Session). is_alive y.life) f.quiet.rest) f.cells;
+          (f.session.number ∙ f.numbered ∙ x.number) (ap (λ (y : Session). is_alive y.life) f.quiet.rest) f.cells;
     }
 
 -- a turn without a session

@@ -3,8 +3,9 @@ use Rattle.std.proofs.Common.{◌≡◌, ◌==◌, ◌&&◌, ℕ, zero, suc, Lis
 use Rattle.std.proofs.Common.{slice_get, Some, None}
 use Rattle.std.proofs.lemmas.Bool.{eqb-true}
 use Rattle.ls_value.proofs.Rows.{and_left, and_right}
-use Rattle.ls_world.specs.Lawful.{Each, Apart}
-use Rattle.ls_world.specs.World.{Item, Live, Session, change, is_at, live_at, enqueue_slot, enqueue_at, history_of}
+use Rattle.ls_value.specs.Each.{Each}
+use Rattle.ls_record.specs.Apart.{Apart}
+use Rattle.ls_record.specs.Records.{Item, LiveSlot, Session, change, is_at, live_at, enqueue_slot, enqueue_at, history_of}
 use Rattle.ls_session.specs.declared.session.Session.{Session as Kept}
 use Rattle.ls_hub.specs.Hub.{IsSession, AreSessions}
 
@@ -33,27 +34,27 @@ change_as zero (y ∷ xs) x f g found is =
 change_as (suc n) (y ∷ xs) x f g found is = ap (λ ys. y ∷ ys) (change_as n xs x f g found is)
 
 -- the slot of a rank in a subscription, among those of a round
-pub record LiveAt (vs : List Live) (sub rank : ℕ) (v : Live) : Type 0 where
-  pub before : List Live
-  pub behind : List Live
+pub record LiveAt (vs : List LiveSlot) (sub rank : ℕ) (v : LiveSlot) : Type 0 where
+  pub before : List LiveSlot
+  pub behind : List LiveSlot
   pub round : vs ≡ before ++ v ∷ behind
   pub enqueued : (items : List Item) → map (enqueue_at items sub rank) vs ≡ before ++ enqueue_slot (history_of items v.item) v ∷ behind
 
 -- a slot of another rank or subscription doesn't move
-other_at : (sub rank : ℕ) (u v : Live) → is_at sub rank v ≡ true → is_at v.sub v.rank u ≡ false → is_at sub rank u ≡ false
+other_at : (sub rank : ℕ) (u v : LiveSlot) → is_at sub rank v ≡ true → is_at v.sub v.rank u ≡ false → is_at sub rank u ≡ false
 other_at sub rank u v is other =
     let s : sub ≡ v.sub = eqb-true sub v.sub (and_left (sub == v.sub) (rank == v.rank) is) in
     let r : rank ≡ v.rank = eqb-true rank v.rank (and_right (sub == v.sub) (rank == v.rank) is) in
     ap (λ k. (k == u.sub) && (rank == u.rank)) s ∙ ap (λ k. (v.sub == u.sub) && (k == u.rank)) r ∙ other
 
-others_stay : (items : List Item) (sub rank : ℕ) (v : Live) (vs : List Live) → is_at sub rank v ≡ true → Each (λ u. is_at v.sub v.rank u ≡ false) vs
+others_stay : (items : List Item) (sub rank : ℕ) (v : LiveSlot) (vs : List LiveSlot) → is_at sub rank v ≡ true → Each (λ u. is_at v.sub v.rank u ≡ false) vs
     → map (enqueue_at items sub rank) vs ≡ vs
 others_stay items sub rank v [] is e = refl
 others_stay items sub rank v (u ∷ vs) is e =
     ap (λ b. cond b (enqueue_slot (history_of items u.item) u) u ∷ map (enqueue_at items sub rank) vs) (other_at sub rank u v is e.0)
     ∙ ap (λ us. u ∷ us) (others_stay items sub rank v vs is e.1)
 
-pub live_found : (vs : List Live) (sub rank : ℕ) (v : Live) → Apart vs → live_at sub rank vs ≡ Some v → LiveAt vs sub rank v
+pub live_found : (vs : List LiveSlot) (sub rank : ℕ) (v : LiveSlot) → Apart vs → live_at sub rank vs ≡ Some v → LiveAt vs sub rank v
 live_found [] sub rank v apart found = absurd (let x : None ≡ Some v = found in cc)
 live_found (u ∷ vs) sub rank v apart found = by_test (is_at sub rank u) refl found (λ f. live_found vs sub rank v apart.1 f)
   where

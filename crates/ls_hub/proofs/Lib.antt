@@ -1,10 +1,6 @@
 pub mod Alive
 pub mod Sessions
 pub mod Connected
-pub mod Asking
-pub mod Joining
-pub mod JoinedSlots
-pub mod Leaving
 pub mod Begun
 pub mod Requested
 pub mod Operated
@@ -13,7 +9,6 @@ pub mod Quieted
 pub mod RoundTurns
 pub mod Telling
 pub mod Skipping
-pub mod Lights
 pub mod KeptSessions
 pub mod Hubs
 pub mod Publishing

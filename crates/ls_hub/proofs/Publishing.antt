@@ -16,21 +16,24 @@ use Rattle.ls_step.specs.declared.out.Out.{Out}
 use Rattle.ls_step.specs.declared.out.Out.TheVariants as out
 use Rattle.ls_step.specs.declared.limits.TheConstants.{LONGEST_NOTE}
 use Rattle.ls_step.specs.Notes.{text_of_out, room_for}
-use Rattle.ls_world.specs.Cases.{with_found}
-use Rattle.ls_world.specs.Lawful.{Apart}
+use Rattle.ls_record.specs.Cases.{with_found}
+use Rattle.ls_record.specs.Apart.{Apart}
 use Rattle.ls_world.specs.Script.{text_of_outs}
-use Rattle.ls_world.specs.World.{World, Item, Live, Session, change, definitions, all_live, live_at, on_board, enqueued_in, history_of, enqueue_slot}
+use Rattle.ls_world.specs.World.{World}
+use Rattle.ls_record.specs.Records.{Item, LiveSlot, Session, change, definitions, all_live, live_at, on_board}
+use Rattle.ls_record.specs.Records.{enqueued_in, history_of, enqueue_slot}
 use Rattle.ls_turns.specs.declared.slot_ref.SlotRef.{SlotRef}
 use Rattle.ls_subs.specs.Standing.{ref_of}
 use Rattle.ls_world.specs.Steps.{session_of, with_session}
-use Rattle.ls_world.specs.Steps.{Once, Stepped, stays, ends, goes_on, grown, is_whole, cause_to_refuse, publishes, enqueue_once}
+use Rattle.ls_world.specs.Steps.{Once, Stepped, stays, ends, goes_on, cause_to_refuse, publishes, enqueue_once}
+use Rattle.ls_record.specs.Records.{grown, is_whole}
 use Rattle.ls_world.proofs.Parts.{published_by, published, enqueued_by}
 use Rattle.ls_session.specs.Record.{Record}
 use Rattle.ls_session.specs.declared.session.Session.{Session as Kept}
 use Rattle.ls_hub.specs.declared.hub.Hub.{Hub}
 use Rattle.ls_cells.specs.Cells.{AllCells, StandsCells, far_in}
 use Rattle.ls_session.specs.Session.{StandsSession}
-use Rattle.ls_hub.specs.Hub.{StandsHub, Prints, DidOnce, IsSession, AreSessions, seen, session_at, slot_in, outs_published, out_enqueued, has_moved}
+use Rattle.ls_hub.specs.Hub.{StandsHub, Prints, DidOnce, IsSession, AreSessions, seen, session_at, slot_in, outs_published, out_enqueued, has_moved, AreNumbered}
 use Rattle.ls_cells.proofs.Lives.{SessionAt, session_at as session_at_place, middle}
 use Rattle.ls_hub.proofs.Alive.{living_changed}
 use Rattle.ls_hub.proofs.Sessions.{kept_read}
@@ -61,6 +64,7 @@ with_cells h h' w same st cells =
       definitions = ap (λ c. c.items) same.config ∙ st.definitions;
       cells = cells;
       sessions = subst (λ ks. AreSessions w.tick ks.items w.sessions) (sym same.sessions) st.sessions;
+      numbers = subst (λ ks. AreNumbered 0 ks.items) (sym same.sessions) st.numbers;
       living = ap (λ x. x.items) same.living ∙ st.living;
       connections = ap (λ cs. map seen cs.items) same.connections ∙ st.connections;
     }
@@ -75,6 +79,7 @@ with_event h h' w n e same st cells =
       definitions = ap (λ c. c.items) same.config ∙ st.definitions ∙ sym (grown_definitions w.items n e);
       cells = cells;
       sessions = subst (λ ks. AreSessions w.tick ks.items w.sessions) (sym same.sessions) st.sessions;
+      numbers = subst (λ ks. AreNumbered 0 ks.items) (sym same.sessions) st.numbers;
       living = ap (λ x. x.items) same.living ∙ st.living;
       connections = ap (λ cs. map seen cs.items) same.connections ∙ st.connections;
     }
@@ -110,14 +115,14 @@ first_is cause n refused.NoMemory some a = absurd (some refl)
 -- what a publish does to the cells
 pub record PublishDid (c c' : AllCells) (n : ℕ) (e : Entry) (answer : Result ℕ PublishRefused) : Type 0 where
   pub some : answer ≡ Err refused.NoMemory → ⊥
-  pub first : (items : List Item) (lives : List Live) (i : Item) → StandsCells c items lives → slice_get items n ≡ Some i
+  pub first : (items : List Item) (lives : List LiveSlot) (i : Item) → StandsCells c items lives → slice_get items n ≡ Some i
       → AnswersFirst (refusal (shape_of i.definition) i.history (far_in n (length i.history) lives) e) (length i.history + 1) answer
-  pub stands : OnOk answer ((items : List Item) (lives : List Live) → StandsCells c items lives → StandsCells c' (change n (grown e) items) lives)
-  pub same : OnErr answer ((items : List Item) (lives : List Live) → StandsCells c items lives → StandsCells c' items lives)
+  pub stands : OnOk answer ((items : List Item) (lives : List LiveSlot) → StandsCells c items lives → StandsCells c' (change n (grown e) items) lives)
+  pub same : OnErr answer ((items : List Item) (lives : List LiveSlot) → StandsCells c items lives → StandsCells c' items lives)
 
 -- one that failed left all as it was, where its answer has room
 pub publish_failed : (h h' : Hub) (w : World) (answer : Result ℕ PublishRefused) → ChangedCells h h' → StandsHub h w
-    → OnErr answer ((items : List Item) (lives : List Live) → StandsCells h.cells items lives → StandsCells h'.cells items lives)
+    → OnErr answer ((items : List Item) (lives : List LiveSlot) → StandsCells h.cells items lives → StandsCells h'.cells items lives)
     → ((answer ≡ Err refused.NoMemory → ⊥) → ⊥) → StandsHub h' w
 publish_failed h h' w (Ok n) same st kept room = absurd (room (λ e. let x : Ok n ≡ Err refused.NoMemory = e in cc))
 publish_failed h h' w (Err cause) same st kept room = with_cells h h' w same st (kept w.items (all_live w.sessions) st.cells)
@@ -154,14 +159,14 @@ publishes_did h h' w n e answer before after same st p whole text = by_item (sli
         ap_prints s false is p = absurd cc
 
 -- the slot of a rank in a subscription of a connection's session
-pub record SlotIn (w : World) (connection sub rank : ℕ) (v : Live) : Type 0 where
+pub record SlotIn (w : World) (connection sub rank : ℕ) (v : LiveSlot) : Type 0 where
   pub place : ℕ
   pub session : Session
   pub linked : session_of w connection ≡ Some place
   pub found : slice_get w.sessions place ≡ Some session
   pub at : live_at sub rank session.board.round ≡ Some v
 
-pub slot_found : (w : World) (connection sub rank : ℕ) (v : Live) → slot_in w connection sub rank ≡ Some v → SlotIn w connection sub rank v
+pub slot_found : (w : World) (connection sub rank : ℕ) (v : LiveSlot) → slot_in w connection sub rank ≡ Some v → SlotIn w connection sub rank v
 slot_found w connection sub rank v is = by_linked (session_of w connection) refl is
   where
     by_session : (n : ℕ) (o : Option Session) → session_of w connection ≡ Some n → slice_get w.sessions n ≡ o
@@ -189,7 +194,7 @@ none_found w connection sub rank is = by_linked (session_of w connection) is
 
 -- by its name
 pub record NamedIn (w : World) (connection sub rank : ℕ) (slot : SlotRef) : Type 0 where
-  pub live : Live
+  pub live : LiveSlot
   pub is : slot ≡ ref_of live
   pub there : SlotIn w connection sub rank live
 
@@ -198,7 +203,7 @@ pub named_in : (w : World) (connection sub rank : ℕ) (o : Option SlotRef) (slo
     → NamedIn w connection sub rank slot
 named_in w connection sub rank o slot is some = by_slot (slot_in w connection sub rank) refl (sym is ∙ some)
   where
-    by_slot : (v : Option Live) → slot_in w connection sub rank ≡ v → option_map ref_of v ≡ Some slot → NamedIn w connection sub rank slot
+    by_slot : (v : Option LiveSlot) → slot_in w connection sub rank ≡ v → option_map ref_of v ≡ Some slot → NamedIn w connection sub rank slot
     by_slot None at is = absurd (let x : None ≡ Some slot = is in cc)
     by_slot (Some v) at is = let same : ref_of v ≡ slot = cc in record { live = v; is = sym same; there = slot_found w connection sub rank v at }
 
@@ -208,7 +213,7 @@ pub no_slot : (h : Hub) (w : World) (connection sub rank : ℕ) (o : Option Slot
     → DidOnce (enqueue_once connection sub rank w) false text last h
 no_slot h w connection sub rank o text last st is none said = by_slot (slot_in w connection sub rank) refl (sym is ∙ none)
   where
-    by_slot : (v : Option Live) → slot_in w connection sub rank ≡ v → option_map ref_of v ≡ None
+    by_slot : (v : Option LiveSlot) → slot_in w connection sub rank ≡ v → option_map ref_of v ≡ None
         → DidOnce (enqueue_once connection sub rank w) false text last h
     by_slot None at is =
         subst (λ (x : Once). DidOnce x false text last h) (sym (none_found w connection sub rank at)) (record { more = refl; text = said; stands = st })
@@ -237,7 +242,7 @@ slot_there h w connection place sub rank k o st linked low is finds =
 
 -- what an enqueue does to the cells
 abbrev pub EnqueueDid : AllCells → AllCells → ℕ → ℕ → Option Enqueued → Type 0
-EnqueueDid c c' item slot answer = (items : List Item) (a b : List Live) (v : Live) → StandsCells c items (a ++ v ∷ b) → v.item ≡ item → v.number ≡ slot
+EnqueueDid c c' item slot answer = (items : List Item) (a b : List LiveSlot) (v : LiveSlot) → StandsCells c items (a ++ v ∷ b) → v.item ≡ item → v.number ≡ slot
     → (answer ≡ Some (enqueue_answer (length (history_of items v.item)) v.slot.last))
     × StandsCells c' items (a ++ enqueue_slot (history_of items v.item) v ∷ b)
 
@@ -260,7 +265,7 @@ keeps_enqueued now items sub rank s k is =
     }
 
 -- a slot takes an event, or is up to date
-enqueue_at_place : (h h' : Hub) (w : World) (connection place sub rank : ℕ) (s : Session) (v : Live) (answer : Option Enqueued) (text last : List ℕ)
+enqueue_at_place : (h h' : Hub) (w : World) (connection place sub rank : ℕ) (s : Session) (v : LiveSlot) (answer : Option Enqueued) (text last : List ℕ)
     → StandsHub h w → ChangedCells h h' → session_of w connection ≡ Some place → slice_get w.sessions place ≡ Some s → Apart s.board.round
     → live_at sub rank s.board.round ≡ Some v → EnqueueDid h.cells h'.cells v.item v.number answer
     → last ≡ text ++ text_of_out (out_enqueued answer) → DidOnce (enqueue_once connection sub rank w) (has_moved answer) text last h'
@@ -302,6 +307,7 @@ enqueue_at_place h h' w connection place sub rank s v answer text last st same l
       sessions = subst (λ ks. AreSessions w.tick ks.items (change place (on_board (enqueued_in w.items sub rank)) w.sessions)) (sym same.sessions)
           (are_same w.tick h.sessions.items w.sessions place s (on_board (enqueued_in w.items sub rank)) found
           (keeps_enqueued w.tick w.items sub rank s) st.sessions);
+      numbers = subst (λ ks. AreNumbered 0 ks.items) (sym same.sessions) st.numbers;
       living = ap (λ x. x.items) same.living ∙ st.living ∙ sym (living_changed 0 w.sessions place s (on_board (enqueued_in w.items sub rank)) found refl);
       connections = ap (λ cs. map seen cs.items) same.connections ∙ st.connections;
     }

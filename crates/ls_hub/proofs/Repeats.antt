@@ -7,10 +7,13 @@ use Rattle.ls_step.specs.declared.out.Out.{Out}
 use Rattle.ls_step.specs.Notes.{text_of_out}
 use Rattle.ls_world.specs.World.{World}
 use Rattle.ls_world.specs.Script.{text_of_outs}
-use Rattle.ls_world.specs.Steps.{Once, Stepped, repeated, stays}
+use Rattle.ls_world.specs.Steps.{Once, Stepped, repeated, stays, take_once, enqueue_once}
+use Rattle.ls_step.specs.declared.step.Step.TheVariants as step
 use Rattle.ls_hub.specs.Hub.{StandsHub, Prints, DidOnce}
 use Rattle.ls_hub.specs.declared.hub.Hub.{Hub}
-use Rattle.ls_hub.specs.Repeats.{nth_world, nth_outs, all_go_on, Going}
+use Rattle.ls_world.specs.Repeats.{nth_world, nth_outs, all_go_on}
+use Rattle.ls_hub.specs.Repeats.{Going}
+use Rattle.ls_hub.specs.Quiet.{FailedBehind, DidFewer, FailedIn}
 
 -- one more
 world_next : (f : World → Once) (n : ℕ) (w : World) → nth_world f (suc n) w ≡ (f (nth_world f n w)).after
@@ -95,3 +98,13 @@ going_ended f w n times before after last h h' again low g d ends =
       text = texts_more (nth_outs f n w) one before after last g.text (d.text ∙ ap (λ t. after ++ t) (sym (text_one (f (nth_world f n w)).out)));
       stands = d.stands;
     })
+
+-- what is left where a take or an enqueue wants memory
+pub take_failed : (w : World) (connection times : ℕ) (h : Hub) → FailedBehind (take_once connection) w times h → FailedIn w (step.Take connection) times h
+take_failed w connection times h f =
+    (f.quiet.after, record { done = f.done; fewer = f.fewer; goes = f.goes; passed = f.quiet.passed }, f.quiet.stands)
+
+pub enqueue_failed : (w : World) (connection sub rank times : ℕ) (h : Hub) → DidFewer (enqueue_once connection sub rank) w times h
+    → FailedIn w (step.Enqueue connection sub rank) times h
+enqueue_failed w connection sub rank times h f =
+    (nth_world (enqueue_once connection sub rank) f.done w, record { done = f.done; fewer = f.fewer; goes = f.goes; is = refl }, f.stands)

@@ -14,16 +14,20 @@ use Rattle.ls_request.specs.declared.request.RequestRefused.TheVariants as unrea
 use Rattle.ls_request.specs.Requests.{request_of, req_behind}
 use Rattle.ls_step.specs.Notes.{text_of_out}
 use Rattle.ls_step.specs.declared.out.Out.TheVariants as out
-use Rattle.ls_world.specs.World.{World, Session, is_alive, change}
+use Rattle.ls_world.specs.World.{World}
+use Rattle.ls_record.specs.Records.{Session, is_alive, change}
 use Rattle.ls_session.specs.Record.{Record}
 use Rattle.ls_session.specs.Session.{StandsSession}
 use Rattle.ls_session.specs.declared.session.Session.{Session as Kept}
 use Rattle.ls_hub.proofs.Sessions.{KeptAt, kept_read, none_kept}
-use Rattle.ls_world.specs.Cases.{with_found}
-use Rattle.ls_world.specs.Steps.{Stepped, with_living, session_named, refuses, operates, operated, acts, malformed, request_over, requests}
-use Rattle.ls_world.proofs.Rules.{found_none}
+use Rattle.ls_record.specs.Cases.{with_found}
+use Rattle.ls_world.specs.Steps.{Stepped, with_living, session_named, refuses, operates, operated, acts, malformed}
+use Rattle.ls_world.specs.Steps.{requests}
+use Rattle.ls_record.specs.Acting.{request_over}
+use Rattle.ls_record.proofs.Rules.{found_none}
 use Rattle.ls_hub.specs.Hub.{StandsHub, Prints, name_at}
-use Rattle.ls_hub.specs.Requests.{living_place, IsLiving, DidOperate, unless_refused, answer_line, operation, operation_code}
+use Rattle.ls_acts.specs.Answers.{answer_line}
+use Rattle.ls_hub.specs.Requests.{living_place, IsLiving, DidOperate, unless_refused, operation, operation_code}
 use Rattle.ls_hub.specs.declared.hub.Hub.{Hub}
 use Rattle.ls_hub.proofs.Connected.{line_printed}
 

@@ -9,17 +9,19 @@ use Rattle.ls_event.specs.Slots.{Slot, passed}
 use Rattle.ls_event.specs.Cuts.{cut, is_pending}
 use Rattle.ls_mirror.specs.Client.{What}
 use Rattle.ls_value.specs.declared.limits.TheConstants.{GREATEST_NUMBER}
-use Rattle.ls_world.specs.Came.{Came, came_by}
-use Rattle.ls_world.specs.Cases.{with_found}
-use Rattle.ls_world.specs.Cutting.{Wanted, Turn, what_of_cut, turn_within, turn}
-use Rattle.ls_world.specs.Lines.{Tells, came}
-use Rattle.ls_world.specs.World.{Item, Live, Session, Life, Alive, Ending, Ended, RoundLine, Round, history_of, change, live_turn, round_of}
-use Rattle.ls_world.specs.World.{on_board, numbered, trimmed, is_unsent, is_to_loop, is_bound, unbound_at}
-use Rattle.ls_world.specs.World.{is_due, due_at, is_waiting, waits_of, least_of, least_wait}
-use Rattle.ls_world.specs.Steps.{SessionTurn, Gave, Spent, Superseded, waits_until, next_given, round_turn, turn_owing, turn_bound, session_turn}
-use Rattle.ls_world.specs.Steps.{loop_text, gives_unbound}
-use Rattle.ls_world.proofs.Parts.{turn_or, turn_by, given_by}
-use Rattle.ls_world.proofs.Turns.{turn_ends}
+use Rattle.ls_record.specs.Came.{Came, came_by}
+use Rattle.ls_record.specs.Cases.{with_found}
+use Rattle.ls_record.specs.Cutting.{Wanted, Turn, what_of_cut, turn_within, turn}
+use Rattle.ls_record.specs.Lines.{Tells, came}
+use Rattle.ls_record.specs.Records.{Item, LiveSlot, Session, Life, Alive, Ending, Closed, RoundLine, Round, history_of}
+use Rattle.ls_record.specs.Records.{change, live_turn, round_of}
+use Rattle.ls_record.specs.Records.{on_board, numbered, trimmed, is_unsent, is_to_loop, is_bound, unbound_at}
+use Rattle.ls_record.specs.Records.{is_due, due_at, is_waiting, waits_of, least_of, least_wait}
+use Rattle.ls_record.specs.Turning.{SessionTurn, Send, Spent, Superseded, waits_until, next_given, round_turn}
+use Rattle.ls_record.specs.Turning.{turn_owing, turn_bound, session_turn}
+use Rattle.ls_record.specs.Turning.{loop_text, gives_unbound}
+use Rattle.ls_record.proofs.Parts.{turn_or, turn_by, given_by}
+use Rattle.ls_record.proofs.Turns.{turn_ends}
 use Rattle.ls_hub.specs.Turning.{before_ticks, given_behind, round_behind, rest_of_round, owing_from, bound_from, epoch_from}
 
 -- the place of an element in a list
@@ -119,12 +121,12 @@ turn_told h w s cs t what is some =
     ∙ ap (λ o. turn_or s t o (turn_within (s.last + s.owed + 1) h w (passed s t) cs)) some
 
 -- a round by the turn of its first slot
-abbrev met : Live → List Live → Round → Turn → Round
+abbrev met : LiveSlot → List LiveSlot → Round → Turn → Round
 met v vs rest t =
     with_found t.came (record rest { kept = record v { slot = t.slot } ∷ rest.kept })
     (λ c. record { kept = vs; came = Some (record { live = record v { slot = t.slot }; came = c }) })
 
-abbrev nothing : Live → Turn
+abbrev nothing : LiveSlot → Turn
 nothing v = record { slot = v.slot; came = None }
 
 -- whether no number is left
@@ -138,12 +140,12 @@ none_left false true full is = sym is
 none_left false false full is = refl
 
 -- a slot that has nothing stands before the others
-nothing_kept : (now : ℕ) (s : Session) (first : List Live) (wait : Option ℕ) (v : Live) (kept : List Live) (o : Option RoundLine)
+nothing_kept : (now : ℕ) (s : Session) (first : List LiveSlot) (wait : Option ℕ) (v : LiveSlot) (kept : List LiveSlot) (o : Option RoundLine)
     → given_behind now s first wait (record { kept = v ∷ kept; came = o }) ≡ given_behind now s (first ++ v ∷ []) wait (record { kept = kept; came = o })
 nothing_kept now s first wait v kept None =
-    ap (λ (vs : List Live). given_behind now s [] wait (record { kept = vs; came = None })) (sym (append_assoc first (v ∷ []) kept))
+    ap (λ (vs : List LiveSlot). given_behind now s [] wait (record { kept = vs; came = None })) (sym (append_assoc first (v ∷ []) kept))
 nothing_kept now s first wait v kept (Some t) =
-    ap (λ (vs : List Live). given_behind now s [] wait (record { kept = vs; came = Some t })) (sym (append_assoc first (v ∷ []) kept))
+    ap (λ (vs : List LiveSlot). given_behind now s [] wait (record { kept = vs; came = Some t })) (sym (append_assoc first (v ∷ []) kept))
 
 -- the least of ticks, one of which was met
 least_met : (wait : Option ℕ) (tick : ℕ) (ticks : List ℕ)
@@ -161,7 +163,7 @@ least_one (Some tick) = refl
 
 module _ (now : ℕ) (items : List Item) (s : Session) where
   -- the first slot behind has nothing to give: it is before the next one
-  slot_passed : (first : List Live) (wait next : Option ℕ) (v : Live) (rest : List Live)
+  slot_passed : (first : List LiveSlot) (wait next : Option ℕ) (v : LiveSlot) (rest : List LiveSlot)
       → (list_any (is_due now s) (v ∷ rest) && is_full s) ≡ (list_any (is_due now s) rest && is_full s)
       → live_turn (is_due now s) items s.board.lines v ≡ nothing v
       → least_of (before_ticks wait (waits_of now items s (v ∷ rest))) ≡ least_of (before_ticks next (waits_of now items s rest))
@@ -177,7 +179,7 @@ module _ (now : ℕ) (items : List Item) (s : Session) where
       (round_of (is_due now s) items s.board.lines rest).came)
 
   -- a number is left for what the slots behind give
-  left_for : (first : List Live) (wait : Option ℕ) (vs : List Live) → is_full s ≡ false
+  left_for : (first : List LiveSlot) (wait : Option ℕ) (vs : List LiveSlot) → is_full s ≡ false
       → round_behind now items s first wait vs
       ≡ given_behind now s first (least_of (before_ticks wait (waits_of now items s vs))) (round_of (is_due now s) items s.board.lines vs)
   left_for first wait vs left =
@@ -186,14 +188,14 @@ module _ (now : ℕ) (items : List Item) (s : Session) where
       (none_left (list_any (is_due now s) vs) false (is_full s) left)
 
   -- a slot that doesn't wait
-  unwaited : (v : Live) (rest : List Live) → is_waiting now items s v ≡ false → waits_of now items s (v ∷ rest) ≡ waits_of now items s rest
+  unwaited : (v : LiveSlot) (rest : List LiveSlot) → is_waiting now items s v ≡ false → waits_of now items s (v ∷ rest) ≡ waits_of now items s rest
   unwaited v rest is = ap (λ b. cond b (due_at now s v ∷ waits_of now items s rest) (waits_of now items s rest)) is
 
-  due_unwaited : (v : Live) → is_due now s v ≡ true → is_waiting now items s v ≡ false
+  due_unwaited : (v : LiveSlot) → is_due now s v ≡ true → is_waiting now items s v ≡ false
   due_unwaited v due = ap (λ b. not b && is_pending (history_of items v.item) v.slot) due
 
   -- a due slot has nothing
-  due_passed : (first : List Live) (wait : Option ℕ) (v : Live) (rest : List Live) → is_due now s v ≡ true → is_full s ≡ false
+  due_passed : (first : List LiveSlot) (wait : Option ℕ) (v : LiveSlot) (rest : List LiveSlot) → is_due now s v ≡ true → is_full s ≡ false
       → cut (history_of items v.item) v.slot ≡ None
       → round_behind now items s first wait (v ∷ rest) ≡ round_behind now items s (first ++ v ∷ []) wait rest
   due_passed first wait v rest due left none =
@@ -203,14 +205,14 @@ module _ (now : ℕ) (items : List Item) (s : Session) where
       (ap (λ ticks. least_of (before_ticks wait ticks)) (unwaited v rest (due_unwaited v due)))
 
   -- a slot that isn't due has nothing, or waits
-  undue_passed : (first : List Live) (wait next : Option ℕ) (v : Live) (rest : List Live) → is_due now s v ≡ false
+  undue_passed : (first : List LiveSlot) (wait next : Option ℕ) (v : LiveSlot) (rest : List LiveSlot) → is_due now s v ≡ false
       → least_of (before_ticks wait (waits_of now items s (v ∷ rest))) ≡ least_of (before_ticks next (waits_of now items s rest))
       → round_behind now items s first wait (v ∷ rest) ≡ round_behind now items s (first ++ v ∷ []) next rest
   undue_passed first wait next v rest undue least =
       slot_passed first wait next v rest (ap (λ b. (b || list_any (is_due now s) rest) && is_full s) undue)
       (ap (λ b. cond b (turn (history_of items v.item) v.wanted v.slot (came v.sub v.rank s.board.lines)) (nothing v)) undue) least
 
-  quiet_passed : (first : List Live) (wait : Option ℕ) (v : Live) (rest : List Live) → is_due now s v ≡ false
+  quiet_passed : (first : List LiveSlot) (wait : Option ℕ) (v : LiveSlot) (rest : List LiveSlot) → is_due now s v ≡ false
       → is_pending (history_of items v.item) v.slot ≡ false
       → round_behind now items s first wait (v ∷ rest) ≡ round_behind now items s (first ++ v ∷ []) wait rest
   quiet_passed first wait v rest undue quiet =
@@ -218,7 +220,7 @@ module _ (now : ℕ) (items : List Item) (s : Session) where
       (ap (λ ticks. least_of (before_ticks wait ticks))
       (unwaited v rest (ap (λ b. not b && is_pending (history_of items v.item) v.slot) undue ∙ quiet)))
 
-  waiting_passed : (first : List Live) (wait : Option ℕ) (v : Live) (rest : List Live) → is_due now s v ≡ false
+  waiting_passed : (first : List LiveSlot) (wait : Option ℕ) (v : LiveSlot) (rest : List LiveSlot) → is_due now s v ≡ false
       → is_pending (history_of items v.item) v.slot ≡ true
       → round_behind now items s first wait (v ∷ rest)
       ≡ round_behind now items s (first ++ v ∷ []) (Some (option_map_or (min (due_at now s v)) wait (due_at now s v))) rest
@@ -232,33 +234,33 @@ module _ (now : ℕ) (items : List Item) (s : Session) where
   pub at_end : (n : ℕ) (wait : Option ℕ) → slice_get s.board.round n ≡ None
       → rest_of_round now items s n wait ≡ record { session = s; gives = waits_until wait }
   at_end n wait none =
-      ap (λ (vs : List Live). round_behind now items s (take n s.board.round) wait vs) (none_behind s.board.round n none)
-      ∙ ap (λ (vs : List Live). round_behind now items s vs wait []) (past_end s.board.round n none)
+      ap (λ (vs : List LiveSlot). round_behind now items s (take n s.board.round) wait vs) (none_behind s.board.round n none)
+      ∙ ap (λ (vs : List LiveSlot). round_behind now items s vs wait []) (past_end s.board.round n none)
       ∙ ap (λ w. given_behind now s s.board.round w (record { kept = []; came = None })) (least_one wait)
-      ∙ ap (λ (vs : List Live). given_behind now s [] wait (record { kept = vs; came = None })) (append-nil s.board.round)
+      ∙ ap (λ (vs : List LiveSlot). given_behind now s [] wait (record { kept = vs; came = None })) (append-nil s.board.round)
 
   -- the slot of a place
-  slot_at : (n : ℕ) (wait : Option ℕ) (v : Live) → slice_get s.board.round n ≡ Some v
+  slot_at : (n : ℕ) (wait : Option ℕ) (v : LiveSlot) → slice_get s.board.round n ≡ Some v
       → rest_of_round now items s n wait ≡ round_behind now items s (take n s.board.round) wait (v ∷ drop (suc n) s.board.round)
-  slot_at n wait v at = ap (λ (vs : List Live). round_behind now items s (take n s.board.round) wait vs) (drop_at s.board.round n v at)
+  slot_at n wait v at = ap (λ (vs : List LiveSlot). round_behind now items s (take n s.board.round) wait vs) (drop_at s.board.round n v at)
 
-  next_at : (n : ℕ) (wait : Option ℕ) (v : Live) → slice_get s.board.round n ≡ Some v
+  next_at : (n : ℕ) (wait : Option ℕ) (v : LiveSlot) → slice_get s.board.round n ≡ Some v
       → round_behind now items s (take n s.board.round ++ v ∷ []) wait (drop (suc n) s.board.round) ≡ rest_of_round now items s (n + 1) wait
   next_at n wait v at =
-      ap (λ (vs : List Live). round_behind now items s vs wait (drop (suc n) s.board.round)) (sym (take_at s.board.round n v at))
+      ap (λ (vs : List LiveSlot). round_behind now items s vs wait (drop (suc n) s.board.round)) (sym (take_at s.board.round n v at))
       ∙ ap (λ m. rest_of_round now items s m wait) {x = suc n} {y = n + 1} (omega arith)
 
-  pub nothing_told : (n : ℕ) (wait : Option ℕ) (v : Live) → is_due now s v ≡ true → is_full s ≡ false → slice_get s.board.round n ≡ Some v
+  pub nothing_told : (n : ℕ) (wait : Option ℕ) (v : LiveSlot) → is_due now s v ≡ true → is_full s ≡ false → slice_get s.board.round n ≡ Some v
       → cut (history_of items v.item) v.slot ≡ None → rest_of_round now items s n wait ≡ rest_of_round now items s (n + 1) wait
   nothing_told n wait v due left at none =
       slot_at n wait v at ∙ due_passed (take n s.board.round) wait v (drop (suc n) s.board.round) due left none ∙ next_at n wait v at
 
-  pub quiet_told : (n : ℕ) (wait : Option ℕ) (v : Live) → is_due now s v ≡ false → slice_get s.board.round n ≡ Some v
+  pub quiet_told : (n : ℕ) (wait : Option ℕ) (v : LiveSlot) → is_due now s v ≡ false → slice_get s.board.round n ≡ Some v
       → is_pending (history_of items v.item) v.slot ≡ false → rest_of_round now items s n wait ≡ rest_of_round now items s (n + 1) wait
   quiet_told n wait v undue at quiet =
       slot_at n wait v at ∙ quiet_passed (take n s.board.round) wait v (drop (suc n) s.board.round) undue quiet ∙ next_at n wait v at
 
-  pub waiting_told : (n : ℕ) (wait : Option ℕ) (v : Live) → is_due now s v ≡ false → slice_get s.board.round n ≡ Some v
+  pub waiting_told : (n : ℕ) (wait : Option ℕ) (v : LiveSlot) → is_due now s v ≡ false → slice_get s.board.round n ≡ Some v
       → is_pending (history_of items v.item) v.slot ≡ true
       → rest_of_round now items s n wait ≡ rest_of_round now items s (n + 1) (Some (option_map_or (min (due_at now s v)) wait (due_at now s v)))
   waiting_told n wait v undue at pends =
@@ -266,7 +268,7 @@ module _ (now : ℕ) (items : List Item) (s : Session) where
       ∙ next_at n (Some (option_map_or (min (due_at now s v)) wait (due_at now s v))) v at
 
   -- a due slot, where no number is left
-  pub spent_told : (n : ℕ) (wait : Option ℕ) (v : Live) → is_due now s v ≡ true → is_full s ≡ true → slice_get s.board.round n ≡ Some v
+  pub spent_told : (n : ℕ) (wait : Option ℕ) (v : LiveSlot) → is_due now s v ≡ true → is_full s ≡ true → slice_get s.board.round n ≡ Some v
       → rest_of_round now items s n wait ≡ record { session = s; gives = Spent }
   spent_told n wait v due full at =
       slot_at n wait v at
@@ -278,15 +280,15 @@ module _ (now : ℕ) (items : List Item) (s : Session) where
       (round_of (is_due now s) items s.board.lines (v ∷ drop (suc n) s.board.round)))) full
 
 -- a due slot's cut makes no line: the slot is past it, and is asked again
-abbrev moved : Taken → Live → Live
+abbrev moved : Taken → LiveSlot → LiveSlot
 moved t v = record v { slot = passed v.slot t }
 
-module _ (now : ℕ) (items : List Item) (s : Session) (n : ℕ) (wait : Option ℕ) (v : Live) (t : Taken) (due : is_due now s v ≡ true)
+module _ (now : ℕ) (items : List Item) (s : Session) (n : ℕ) (wait : Option ℕ) (v : LiveSlot) (t : Taken) (due : is_due now s v ≡ true)
     (left : is_full s ≡ false) (at : slice_get s.board.round n ≡ Some v) (is : cut (history_of items v.item) v.slot ≡ Some t) where
-  abbrev first : List Live
+  abbrev first : List LiveSlot
   first = take n s.board.round
 
-  abbrev rest : List Live
+  abbrev rest : List LiveSlot
   rest = drop (suc n) s.board.round
 
   pub silent_told : what_of_cut v.wanted v.slot (came v.sub v.rank s.board.lines) t ≡ None
@@ -300,9 +302,9 @@ module _ (now : ℕ) (items : List Item) (s : Session) (n : ℕ) (wait : Option 
       (ap (λ b. cond b (turn (history_of items v.item) v.wanted v.slot (came v.sub v.rank s.board.lines)) (nothing v)) due
       ∙ turn_silent (history_of items v.item) v.wanted v.slot (came v.sub v.rank s.board.lines) t is none
       ∙ sym (ap (λ b. cond b (turn (history_of items v.item) v.wanted (passed v.slot t) (came v.sub v.rank s.board.lines)) (nothing (moved t v))) due))
-      ∙ ap (λ (vs : List Live). given_behind now s first (least_of (before_ticks wait (waits_of now items s vs)))
+      ∙ ap (λ (vs : List LiveSlot). given_behind now s first (least_of (before_ticks wait (waits_of now items s vs)))
       (round_of (is_due now s) items s.board.lines vs)) (sym (drop_changed (moved t) s.board.round n v at))
-      ∙ ap (λ (vs : List Live). given_behind now s vs (least_of (before_ticks wait (waits_of now items s (drop n (change n (moved t) s.board.round)))))
+      ∙ ap (λ (vs : List LiveSlot). given_behind now s vs (least_of (before_ticks wait (waits_of now items s (drop n (change n (moved t) s.board.round)))))
       (round_of (is_due now s) items s.board.lines (drop n (change n (moved t) s.board.round)))) (sym (take_changed (moved t) s.board.round n))
       ∙ sym (left_for now items (on_board (λ b. record b { round = change n (moved t) b.round }) s) (take n (change n (moved t) s.board.round)) wait
       (drop n (change n (moved t) s.board.round)) left)
@@ -325,7 +327,7 @@ module _ (now : ℕ) (items : List Item) (s : Session) (n : ℕ) (wait : Option 
       }) s)) {x = suc n} {y = n + 1} (omega arith)
 
 -- a turn from the first slot is the session's turn
-whole_round : (now : ℕ) (s : Session) (wait : Option ℕ) (kept : List Live) (o : Option RoundLine)
+whole_round : (now : ℕ) (s : Session) (wait : Option ℕ) (kept : List LiveSlot) (o : Option RoundLine)
     → given_behind now s [] wait (record { kept = kept; came = o })
     ≡ with_found o (record { session = record s { board = given_by now s.board kept o }; gives = waits_until wait })
     (λ t. next_given (trimmed (record s { board = given_by now s.board kept o })))
@@ -348,10 +350,10 @@ from_first now items epoch s =
     by_owed : (owed : List (List ℕ)) → owing_from now items s 0 None owed ≡ turn_owing now items s owed
     by_owed (text ∷ owed) = refl
     by_owed [] =
-        ap (λ (t : SessionTurn). cond (is_to_loop s.streams) (record { session = unbound_at now s; gives = Gave loop_text })
+        ap (λ (t : SessionTurn). cond (is_to_loop s.streams) (record { session = unbound_at now s; gives = Send loop_text })
         (cond (is_unsent s) (next_given s) t)) by_round
 
     by_life : (l : Life) → bound_from now items s 0 None l ≡ turn_bound now items s l
     by_life Alive = by_owed s.owed
     by_life (Ending code) = refl
-    by_life (Ended code) = refl
+    by_life (Closed code) = refl

@@ -1,11 +1,11 @@
 -- The sessions of a hub by their places, and what is true of them all after one of them changed.
-use Rattle.std.proofs.Common.{◌≡◌, ℕ, zero, suc, ◌<◌, ◌≤◌, List, [], ◌∷◌, ◌++◌, length, refl, sym, ◌∙◌, ap, arith, subst}
+use Rattle.std.proofs.Common.{◌≡◌, ℕ, zero, suc, ◌+◌, ◌<◌, ◌≤◌, List, [], ◌∷◌, ◌++◌, length, refl, sym, ◌∙◌, ap, arith, subst}
 use Rattle.std.proofs.Common.{Some, None, slice_get, slice_set, slice_index_or, nat_eq, cond, Bool, true, false}
-use Rattle.ls_session.specs.Record.{Record, begun_anew}
+use Rattle.ls_session.specs.Record.{Record, rests}
 use Rattle.ls_session.specs.Session.{StandsSession}
-use Rattle.ls_world.specs.World.{Session, change}
+use Rattle.ls_record.specs.Records.{Session, change}
 use Rattle.ls_session.specs.declared.session.Session.{Session as Kept}
-use Rattle.ls_hub.specs.Hub.{BeginsAnew, IsSession, AreSessions}
+use Rattle.ls_hub.specs.Hub.{BeginsAnew, IsSession, AreSessions, AreNumbered}
 
 -- as many are kept as there are
 pub as_many : (now : ℕ) (ks : List Kept) (ss : List Session) → AreSessions now ks ss → length ks ≡ length ss
@@ -80,8 +80,8 @@ same_either : {A : Type 0} (b : Bool) (a : A) → cond b a a ≡ a
 same_either true a = refl
 same_either false a = refl
 
-pub anew_begins : (tick : ℕ) (s : Session) → BeginsAnew (begun_anew tick s)
-anew_begins tick s = λ later. (same_either (nat_eq tick later) 0, same_either (nat_eq tick later) None)
+pub anew_begins : (number floor tick : ℕ) (s : Session) → BeginsAnew (rests number floor tick s)
+anew_begins number floor tick s = λ later. (same_either (nat_eq tick later) 0, same_either (nat_eq tick later) None)
 
 pub asks_begins : (r : Record) → r.asks ≡ true → BeginsAnew r
 asks_begins r asks = λ later. (
@@ -90,5 +90,24 @@ asks_begins r asks = λ later. (
 )
 
 -- a session that begins anew is one
-pub anew_is : (now tick : ℕ) (k : Kept) (s : Session) → tick ≤ now → StandsSession k (begun_anew tick s) → IsSession now k s
-anew_is now tick k s early stands = record { asking = begun_anew tick s; session = refl; early = early; first = anew_begins tick s; stands = stands }
+pub anew_is : (now number floor tick : ℕ) (k : Kept) (s : Session) → floor ≤ now → StandsSession k (rests number floor tick s) → IsSession now k s
+anew_is now number floor tick k s early stands =
+    record { asking = rests number floor tick s; session = refl; early = early; first = anew_begins number floor tick s; stands = stands }
+
+-- the number of the session of a place
+pub number_read : (from : ℕ) (ks : List Kept) (n : ℕ) (k : Kept) → AreNumbered from ks → n < length ks → k ≡ slice_index_or ks n k
+    → k.number ≡ from + n + 1
+number_read from [] n k a low is = absurd (omega (arith, low))
+number_read from (j ∷ ks) zero k a low is = omega (arith, ap (λ (x : Kept). x.number) is, a.0)
+number_read from (j ∷ ks) (suc n) k a low is = omega (arith, number_read (from + 1) ks n k a.1 (omega (arith, low)) is)
+
+-- one of them is another of its number
+pub numbers_set : (from : ℕ) (ks : List Kept) (n : ℕ) (k : Kept) → AreNumbered from ks → k.number ≡ from + n + 1 → AreNumbered from (slice_set ks n k)
+numbers_set from [] n k a is = a
+numbers_set from (j ∷ ks) zero k a is = (omega (arith, is), a.1)
+numbers_set from (j ∷ ks) (suc n) k a is = (a.0, numbers_set (from + 1) ks n k a.1 (omega (arith, is)))
+
+-- one more
+pub numbers_more : (from : ℕ) (ks : List Kept) (k : Kept) → AreNumbered from ks → k.number ≡ from + length ks + 1 → AreNumbered from (ks ++ k ∷ [])
+numbers_more from [] k a is = (omega (arith, is), tt)
+numbers_more from (j ∷ ks) k a is = (a.0, numbers_more (from + 1) ks k a.1 (omega (arith, is)))

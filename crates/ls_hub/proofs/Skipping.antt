@@ -13,8 +13,9 @@ use Rattle.ls_event.specs.Updates.{own_from, clear_from, updates_between}
 use Rattle.ls_event.specs.OwnCuts.{raw_cut_of, row_taken, first_of_last, snapshot_cut, distinct_cut_by}
 use Rattle.ls_event.specs.Slots.{Slot}
 use Rattle.ls_event.specs.Cuts.{cut, cut_of, is_behind, is_pending, pending_of, change_to, next_cursor}
-use Rattle.ls_world.specs.World.{Item, Live, Session, Life, Alive, Ending, Ended, history_of, is_due, is_unsent, is_to_loop, is_bound, unbound_at}
-use Rattle.ls_world.specs.Steps.{SessionTurn, Gave, Superseded, next_given, loop_text, gives_unbound}
+use Rattle.ls_record.specs.Records.{Item, LiveSlot, Session, Life, Alive, Ending, Closed, history_of, is_due, is_unsent}
+use Rattle.ls_record.specs.Records.{is_to_loop, is_bound, unbound_at}
+use Rattle.ls_record.specs.Turning.{SessionTurn, Send, Superseded, next_given, loop_text, gives_unbound}
 use Rattle.ls_session.specs.Record.{Record, passed_over}
 use Rattle.ls_session.specs.declared.session.Session.{Session as Kept}
 use Rattle.ls_session.specs.Session.{StandsSession}
@@ -79,13 +80,13 @@ from_place_on now items epoch s n m wait same =
     by_owed : (owed : List (List ℕ)) → owing_from now items s n wait owed ≡ owing_from now items s m wait owed
     by_owed (text ∷ owed) = refl
     by_owed [] =
-        ap (λ (t : SessionTurn). cond (is_to_loop s.streams) (record { session = unbound_at now s; gives = Gave loop_text })
+        ap (λ (t : SessionTurn). cond (is_to_loop s.streams) (record { session = unbound_at now s; gives = Send loop_text })
         (cond (is_unsent s) (next_given s) t)) same
 
     by_life : (l : Life) → bound_from now items s n wait l ≡ bound_from now items s m wait l
     by_life Alive = by_owed s.owed
     by_life (Ending code) = refl
-    by_life (Ended code) = refl
+    by_life (Closed code) = refl
 
 -- the turn behind a slot that is passed over, where no question stands
 passed_turn : (now : ℕ) (items : List Item) (epoch : ℕ) (r : Record) → r.asks ≡ false
@@ -102,7 +103,7 @@ passed_turn now items epoch r unasked same =
     by_tick false = refl
 
 -- whether it is due or not
-settled_rest : (now : ℕ) (items : List Item) (s : Session) (n : ℕ) (wait : Option ℕ) (v : Live) → length s.board.lines < GREATEST_NUMBER
+settled_rest : (now : ℕ) (items : List Item) (s : Session) (n : ℕ) (wait : Option ℕ) (v : LiveSlot) → length s.board.lines < GREATEST_NUMBER
     → slice_get s.board.round n ≡ Some v → is_pending (history_of items v.item) v.slot ≡ false
     → rest_of_round now items s n wait ≡ rest_of_round now items s (n + 1) wait
 settled_rest now items s n wait v left found settled = by_due (is_due now s v) refl
@@ -115,7 +116,7 @@ settled_rest now items s n wait v left found settled = by_due (is_due now s v) r
         (settled_cut (history_of items v.item) v.slot settled)
     by_due false undue = quiet_told now items s n wait v undue found settled
 
-pub skipped : (now : ℕ) (items : List Item) (epoch : ℕ) (first others : List Live) (r : Record) (k k' : Kept) (c : AllCells)
+pub skipped : (now : ℕ) (items : List Item) (epoch : ℕ) (first others : List LiveSlot) (r : Record) (k k' : Kept) (c : AllCells)
     → (m : MaySkip now items epoch first others r k c) → IsNextSettled items m.rests.on.asking → StandsSession k' (passed_over m.rests.on.asking)
     → MaySkip now items epoch first others r k' c
 skipped now items epoch first others r k k' c m next st =
@@ -124,6 +125,7 @@ skipped now items epoch first others r k k' c m next st =
       rests = record {
         on = record {
           asking = passed_over g.asking;
+          number = g.number;
           early = g.early;
           session = st;
           cells = g.cells;

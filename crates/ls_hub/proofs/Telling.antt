@@ -8,24 +8,31 @@ use Rattle.std.proofs.lemmas.List.{take-append-drop}
 use Rattle.ls_event.specs.declared.event.Taken.{Taken}
 use Rattle.ls_event.specs.Cuts.{cut, is_pending}
 use Rattle.ls_mirror.specs.Client.{What}
-use Rattle.ls_world.specs.World.{Item, Live, Session, Life, Alive, Ending, Ended, history_of, change, on_board, is_unsent, given_next, trimmed}
-use Rattle.ls_world.specs.World.{is_due, due_at, is_alive, is_bound, is_to_loop, unbound_at, on_stream, with_line}
-use Rattle.ls_world.specs.Lines.{text_at}
-use Rattle.ls_world.specs.Steps.{SessionTurn, TurnGives, Gave, Idle, NotDue, Spent, Superseded as IsSuperseded, Unbound as IsUnbound, Over as IsOver}
-use Rattle.ls_world.specs.Steps.{waits_until as turn_waits, next_given, session_turn, loop_text}
-use Rattle.ls_world.specs.Steps.{gives_unbound as unbound_gives}
-use Rattle.ls_world.proofs.Texts.{texts_length}
+use Rattle.ls_record.specs.Records.{Item, LiveSlot, Session, Life, Alive, Ending, Closed, history_of, change, on_board}
+use Rattle.ls_record.specs.Records.{is_unsent, given_next, trimmed}
+use Rattle.ls_record.specs.Records.{is_due, due_at, is_alive, is_bound, is_to_loop, unbound_at, on_stream, with_line}
+use Rattle.ls_record.specs.Lines.{text_at}
+use Rattle.ls_record.specs.Turning.{SessionTurn, TurnGives, Send as IsSend, Idle as IsIdle, NotDue as IsNotDue, Spent as IsSpent, Superseded as IsSuperseded}
+use Rattle.ls_record.specs.Turning.{Unbound as IsUnbound, Ended as IsEnded}
+use Rattle.ls_record.specs.Turning.{waits_until as turn_waits, next_given, session_turn, loop_text}
+use Rattle.ls_record.specs.Turning.{gives_unbound as unbound_gives}
+use Rattle.ls_stream.proofs.Reading.{lines_numbered_first}
 use Rattle.ls_subs.specs.Standing.{ref_of, what_of, passed_live}
 use Rattle.ls_session.specs.declared.session.Ask.{Ask}
 use Rattle.ls_session.specs.declared.session.Turn.{Turn}
 use Rattle.ls_session.specs.declared.session.Turn.TheVariants as turn
-use Rattle.ls_session.specs.Record.{Record, Question, Gives, Line, Asks, Nothing, Waits, NoNumber, Superseded, Unbound, Over, waits_until}
-use Rattle.ls_session.specs.Record.{Turned, begun_anew, from_place, wait_from, round_asked, round_turned, next_turned, owed_turned, bound_turned}
+use Rattle.ls_session.specs.Record.{Record, Question, Gives, Send, Asks, Idle, NotDue, Spent, Superseded, Unbound, Ended, waits_until}
+use Rattle.ls_session.specs.Record.{Turned, rests, begun_at, begun_anew, from_place, wait_from, round_asked, round_turned, next_turned, owed_turned, bound_turned}
 use Rattle.ls_session.specs.Record.{turned, gives_unbound, question_of, passed_over, waited, answered_by, answered}
+use Rattle.ls_session.specs.declared.session.Reply.{Reply}
+use Rattle.ls_session.specs.declared.session.Reply.TheVariants as reply
+use Rattle.ls_acts.specs.Telling.{reply_to, moved_by, replied_by}
+use Rattle.ls_acts.proofs.Told.{nothing_replied, waiting_replied, taken_replied}
 use Rattle.ls_hub.specs.Hub.{BeginsAnew}
-use Rattle.ls_hub.proofs.Sessions.{asks_begins}
+use Rattle.ls_hub.proofs.Sessions.{asks_begins, anew_begins}
 use Rattle.ls_hub.proofs.Quieted.{quiet_self, quiet_then, quiet_past}
-use Rattle.ls_hub.specs.Quiet.{IsQuiet, is_open, has_line}
+use Rattle.ls_record.specs.Quiet.{IsQuiet}
+use Rattle.ls_hub.specs.Quiet.{is_open, has_line}
 use Rattle.ls_hub.specs.Turning.{rest_of_round, owing_from, bound_from, epoch_from, turn_from}
 use Rattle.ls_hub.specs.Turning.{HasAsked, GoesOn, Unasked, EndsAs, HasTurned, TurnEnded, TurnFailed}
 use Rattle.ls_hub.proofs.RoundTurns.{is_full, drop_at, take_changed, drop_behind, from_first, at_end, nothing_told, quiet_told, waiting_told, spent_told}
@@ -44,9 +51,9 @@ turn_begun now items epoch r s is first =
     ∙ from_first now items epoch r.session ∙ ap (session_turn now items epoch) is
 
 -- a turn at the tick of a record of which no question stands
-here_from : (now : ℕ) (items : List Item) (epoch : ℕ) (s : Session) (n : ℕ) (wait : Option ℕ)
-    → turn_from now items epoch (record { session = s; tick = now; asked = n; asks = false; wait = wait }) ≡ epoch_from now items epoch s n wait
-here_from now items epoch s n wait = ap (λ b. epoch_from now items epoch s (cond b n 0) (cond b wait None)) (eq-eqb now now refl)
+here_from : (now : ℕ) (items : List Item) (epoch : ℕ) (r : Record) (s : Session) (n : ℕ) (wait : Option ℕ)
+    → turn_from now items epoch (record r { session = s; tick = now; asked = n; asks = false; wait = wait }) ≡ epoch_from now items epoch s n wait
+here_from now items epoch r s n wait = ap (λ b. epoch_from now items epoch s (cond b n 0) (cond b wait None)) (eq-eqb now now refl)
 
 -- a session may be asked on the stream of an epoch: it has no newer one, and this one is bound and not over, and the session
 -- is alive
@@ -76,7 +83,7 @@ unbound_none epoch s unbound = shut_none epoch s (by_newer (nat_lt epoch (length
     by_newer true = refl
     by_newer false = ap (λ b. b && is_alive s.life && not (is_to_loop s.streams)) unbound
 
-ended_none : (epoch : ℕ) (s : Session) (code : ℕ) → s.life ≡ Ended code → has_line epoch s ≡ false
+ended_none : (epoch : ℕ) (s : Session) (code : ℕ) → s.life ≡ Closed code → has_line epoch s ≡ false
 ended_none epoch s code ended = shut_none epoch s (by_bound (not (nat_lt epoch (length s.streams)) && is_bound s))
   where
     by_bound : (b : Bool) → (b && is_alive s.life && not (is_to_loop s.streams)) ≡ false
@@ -94,7 +101,7 @@ unsent_none epoch s sent = ap (λ b. is_open epoch s && b) sent ∙ by_open (is_
 -- the question of a record's place stands: the session may be asked, nothing is owed or unsent, and where the slot is due a number
 -- is left
 abbrev pub asking_at : ℕ → Record → Record
-asking_at now r = record { session = r.session; tick = now; asked = from_place now r; asks = true; wait = wait_from now r }
+asking_at now r = record r { tick = now; asked = from_place now r; asks = true; wait = wait_from now r }
 
 pub record IsAsking (now epoch : ℕ) (r : Record) (q : Question) (r' : Record) : Type 0 where
   pub opened : IsOpen epoch r.session
@@ -108,7 +115,9 @@ pub record IsAsking (now epoch : ℕ) (r : Record) (q : Question) (r' : Record) 
 -- a turn ended, and the next one begins anew
 pub record HasEnded (now : ℕ) (r : Record) (st : SessionTurn) (after : Record) (gives : TurnGives) : Type 0 where
   pub turn : st ≡ record { session = after.session; gives = gives }
-  pub anew : after ≡ begun_anew now after.session
+  pub anew : after ≡ rests after.number after.floor now after.session
+  pub number : after.number ≡ r.number
+  pub early : r.floor ≤ now → after.floor ≤ now
   pub round : after.session.board.round ≡ r.session.board.round
 
 -- the session is as it was, and has no numbered line to give next
@@ -119,36 +128,36 @@ pub record IsStill (epoch : ℕ) (r after : Record) : Type 0 where
 -- it gave a question, or it ended
 abbrev pub Went : ℕ → ℕ → Record → SessionTurn → Record → Gives → Type 0
 Went now epoch r turn after (Asks q) = IsAsking now epoch r q after
-Went now epoch r turn after (Line text) = HasEnded now r turn after (Gave text)
-Went now epoch r turn after Nothing = HasEnded now r turn after Idle × IsStill epoch r after
-Went now epoch r turn after (Waits tick) = HasEnded now r turn after (NotDue tick) × IsStill epoch r after
-Went now epoch r turn after NoNumber = HasEnded now r turn after Spent × IsStill epoch r after
+Went now epoch r turn after (Send text) = HasEnded now r turn after (IsSend text)
+Went now epoch r turn after Idle = HasEnded now r turn after IsIdle × IsStill epoch r after
+Went now epoch r turn after (NotDue tick) = HasEnded now r turn after (IsNotDue tick) × IsStill epoch r after
+Went now epoch r turn after Spent = HasEnded now r turn after IsSpent × IsStill epoch r after
 Went now epoch r turn after (Superseded newest) = HasEnded now r turn after (IsSuperseded newest) × IsStill epoch r after
 Went now epoch r turn after Unbound = HasEnded now r turn after IsUnbound × IsStill epoch r after
-Went now epoch r turn after (Over code) = HasEnded now r turn after (IsOver code) × IsStill epoch r after
+Went now epoch r turn after (Ended code) = HasEnded now r turn after (IsEnded code) × IsStill epoch r after
 
 -- behind the last slot
 end_went : (now epoch : ℕ) (r : Record) (st : SessionTurn) (wait : Option ℕ) → st ≡ record { session = r.session; gives = turn_waits wait }
-    → has_line epoch r.session ≡ false → Went now epoch r st (begun_anew now r.session) (waits_until wait)
-end_went now epoch r st None is none = (record { turn = is; anew = refl; round = refl }, record { same = refl; none = none })
-end_went now epoch r st (Some tick) is none = (record { turn = is; anew = refl; round = refl }, record { same = refl; none = none })
+    → has_line epoch r.session ≡ false → Went now epoch r st (begun_at now r.session r) (waits_until wait)
+end_went now epoch r st None is none = (record { turn = is; anew = refl; number = refl; early = λ e. e; round = refl }, record { same = refl; none = none })
+end_went now epoch r st (Some tick) is none = (record { turn = is; anew = refl; number = refl; early = λ e. e; round = refl }, record { same = refl; none = none })
 
 -- a slot is asked, or it is due and no number is left
-asked_went : (now : ℕ) (items : List Item) (epoch : ℕ) (r : Record) (v : Live) → IsOpen epoch r.session → r.session.owed ≡ []
+asked_went : (now : ℕ) (items : List Item) (epoch : ℕ) (r : Record) (v : LiveSlot) → IsOpen epoch r.session → r.session.owed ≡ []
     → is_unsent r.session ≡ false → slice_get r.session.board.round (from_place now r) ≡ Some v
     → Went now epoch r (rest_of_round now items r.session (from_place now r) (wait_from now r))
-    (round_asked now (wait_from now r) r.session (from_place now r) (Some v)).after
-    (round_asked now (wait_from now r) r.session (from_place now r) (Some v)).gives
+    (round_asked now (wait_from now r) r (from_place now r) (Some v)).after
+    (round_asked now (wait_from now r) r (from_place now r) (Some v)).gives
 asked_went now items epoch r v opened owed sent found = by_test (is_due now r.session v) (is_full r.session) refl refl
   where
     after_test : Bool → Bool → Turned
-    after_test d b = cond (d && b) (record { after = begun_anew now r.session; gives = NoNumber })
+    after_test d b = cond (d && b) (record { after = begun_at now r.session r; gives = Spent })
         (record { after = asking_at now r; gives = Asks (record { live = v; due = is_due now r.session v }) })
 
     by_test : (d b : Bool) → is_due now r.session v ≡ d → is_full r.session ≡ b
         → Went now epoch r (rest_of_round now items r.session (from_place now r) (wait_from now r)) (after_test d b).after (after_test d b).gives
     by_test true true due full = (
-      record { turn = spent_told now items r.session (from_place now r) (wait_from now r) v due full found; anew = refl; round = refl },
+      record { turn = spent_told now items r.session (from_place now r) (wait_from now r) v due full found; anew = refl; number = refl; early = λ e. e; round = refl },
       record { same = refl; none = unsent_none epoch r.session sent },
     )
     by_test true false due full =
@@ -168,9 +177,9 @@ round_went : (now : ℕ) (items : List Item) (epoch : ℕ) (r : Record) → IsOp
     → Went now epoch r (rest_of_round now items r.session (from_place now r) (wait_from now r)) (round_turned now r).after (round_turned now r).gives
 round_went now items epoch r opened owed sent = by_slot (slice_get r.session.board.round (from_place now r)) refl
   where
-    by_slot : (o : Option Live) → slice_get r.session.board.round (from_place now r) ≡ o
+    by_slot : (o : Option LiveSlot) → slice_get r.session.board.round (from_place now r) ≡ o
         → Went now epoch r (rest_of_round now items r.session (from_place now r) (wait_from now r))
-        (round_asked now (wait_from now r) r.session (from_place now r) o).after (round_asked now (wait_from now r) r.session (from_place now r) o).gives
+        (round_asked now (wait_from now r) r (from_place now r) o).after (round_asked now (wait_from now r) r (from_place now r) o).gives
     by_slot None found = end_went now epoch r _ (wait_from now r) (at_end now items r.session (from_place now r) (wait_from now r) found)
         (unsent_none epoch r.session sent)
     by_slot (Some v) found = asked_went now items epoch r v opened owed sent found
@@ -187,46 +196,49 @@ owed_went : (now : ℕ) (items : List Item) (epoch : ℕ) (r : Record) (owed : L
     → is_bound r.session ≡ true → r.session.life ≡ Alive → r.session.owed ≡ owed
     → Went now epoch r (owing_from now items r.session (from_place now r) (wait_from now r) owed) (owed_turned now r owed).after
     (owed_turned now r owed).gives
-owed_went now items epoch r (text ∷ owed) newest bound alive is = record { turn = refl; anew = refl; round = refl }
+owed_went now items epoch r (text ∷ owed) newest bound alive is =
+    record { turn = refl; anew = refl; number = refl; early = λ e. omega arith; round = refl }
 owed_went now items epoch r [] newest bound alive is = by_over (is_to_loop r.session.streams) refl
   where
     ended : SessionTurn
     ended = rest_of_round now items r.session (from_place now r) (wait_from now r)
 
     by_unsent : (b : Bool) → is_unsent r.session ≡ b → is_to_loop r.session.streams ≡ false
-        → Went now epoch r (cond b (next_given r.session) ended) (cond b (next_turned now r.session) (round_turned now r)).after
-        (cond b (next_turned now r.session) (round_turned now r)).gives
-    by_unsent true sent lasts = record { turn = refl; anew = refl; round = ap (λ b. b.round) (next_board r.session) }
+        → Went now epoch r (cond b (next_given r.session) ended) (cond b (next_turned now r) (round_turned now r)).after
+        (cond b (next_turned now r) (round_turned now r)).gives
+    by_unsent true sent lasts =
+        record { turn = refl; anew = refl; number = refl; early = λ e. omega arith; round = ap (λ b. b.round) (next_board r.session) }
     by_unsent false sent lasts =
         round_went now items epoch r (record { newest = newest; bound = bound; alive = alive; not_over = lasts }) is sent
 
     looped : Turned
-    looped = record { after = begun_anew now (unbound_at now r.session); gives = Line loop_text }
+    looped = record { after = begun_anew now (unbound_at now r.session) r; gives = Send loop_text }
 
     by_over : (b : Bool) → is_to_loop r.session.streams ≡ b
         → Went now epoch r
-        (cond b (record { session = unbound_at now r.session; gives = Gave loop_text }) (cond (is_unsent r.session) (next_given r.session) ended))
-        (cond b looped (cond (is_unsent r.session) (next_turned now r.session) (round_turned now r))).after
-        (cond b looped (cond (is_unsent r.session) (next_turned now r.session) (round_turned now r))).gives
-    by_over true over = record { turn = refl; anew = refl; round = refl }
+        (cond b (record { session = unbound_at now r.session; gives = IsSend loop_text }) (cond (is_unsent r.session) (next_given r.session) ended))
+        (cond b looped (cond (is_unsent r.session) (next_turned now r) (round_turned now r))).after
+        (cond b looped (cond (is_unsent r.session) (next_turned now r) (round_turned now r))).gives
+    by_over true over = record { turn = refl; anew = refl; number = refl; early = λ e. omega arith; round = refl }
     by_over false over = by_unsent (is_unsent r.session) refl over
 
 bound_went : (now : ℕ) (items : List Item) (epoch : ℕ) (r : Record) (l : Life) → nat_lt epoch (length r.session.streams) ≡ false
     → is_bound r.session ≡ true → r.session.life ≡ l
     → Went now epoch r (bound_from now items r.session (from_place now r) (wait_from now r) l) (bound_turned now r l).after (bound_turned now r l).gives
 bound_went now items epoch r Alive newest bound is = owed_went now items epoch r r.session.owed newest bound is refl
-bound_went now items epoch r (Ending code) newest bound is = record { turn = refl; anew = refl; round = refl }
-bound_went now items epoch r (Ended code) newest bound is =
-    (record { turn = refl; anew = refl; round = refl }, record { same = refl; none = ended_none epoch r.session code is })
+bound_went now items epoch r (Ending code) newest bound is =
+    record { turn = refl; anew = refl; number = refl; early = λ e. omega arith; round = refl }
+bound_went now items epoch r (Closed code) newest bound is =
+    (record { turn = refl; anew = refl; number = refl; early = λ e. e; round = refl }, record { same = refl; none = ended_none epoch r.session code is })
 
 unbound_went : (now epoch : ℕ) (r : Record) (l : Life) → is_bound r.session ≡ false
-    → Went now epoch r (record { session = r.session; gives = unbound_gives l }) (begun_anew now r.session) (gives_unbound l)
+    → Went now epoch r (record { session = r.session; gives = unbound_gives l }) (begun_at now r.session r) (gives_unbound l)
 unbound_went now epoch r Alive unbound =
-    (record { turn = refl; anew = refl; round = refl }, record { same = refl; none = unbound_none epoch r.session unbound })
+    (record { turn = refl; anew = refl; number = refl; early = λ e. e; round = refl }, record { same = refl; none = unbound_none epoch r.session unbound })
 unbound_went now epoch r (Ending code) unbound =
-    (record { turn = refl; anew = refl; round = refl }, record { same = refl; none = unbound_none epoch r.session unbound })
-unbound_went now epoch r (Ended code) unbound =
-    (record { turn = refl; anew = refl; round = refl }, record { same = refl; none = unbound_none epoch r.session unbound })
+    (record { turn = refl; anew = refl; number = refl; early = λ e. e; round = refl }, record { same = refl; none = unbound_none epoch r.session unbound })
+unbound_went now epoch r (Closed code) unbound =
+    (record { turn = refl; anew = refl; number = refl; early = λ e. e; round = refl }, record { same = refl; none = unbound_none epoch r.session unbound })
 
 pub turn_went : (now : ℕ) (items : List Item) (epoch : ℕ) (r : Record)
     → Went now epoch r (turn_from now items epoch r) (turned now epoch r).after (turned now epoch r).gives
@@ -239,7 +251,7 @@ turn_went now items epoch r = by_newer (nat_lt epoch (length r.session.streams))
     unbound = record { session = r.session; gives = unbound_gives r.session.life }
 
     none : Turned
-    none = record { after = begun_anew now r.session; gives = gives_unbound r.session.life }
+    none = record { after = begun_at now r.session r; gives = gives_unbound r.session.life }
 
     by_bound : (b : Bool) → is_bound r.session ≡ b → nat_lt epoch (length r.session.streams) ≡ false
         → Went now epoch r (cond b ended unbound) (cond b (bound_turned now r r.session.life) none).after
@@ -248,14 +260,14 @@ turn_went now items epoch r = by_newer (nat_lt epoch (length r.session.streams))
     by_bound false bound newest = unbound_went now epoch r r.session.life bound
 
     newer : Turned
-    newer = record { after = begun_anew now r.session; gives = Superseded (length r.session.streams) }
+    newer = record { after = begun_at now r.session r; gives = Superseded (length r.session.streams) }
 
     by_newer : (b : Bool) → nat_lt epoch (length r.session.streams) ≡ b
         → Went now epoch r
         (cond b (record { session = r.session; gives = IsSuperseded (length r.session.streams) }) (cond (is_bound r.session) ended unbound))
         (cond b newer (cond (is_bound r.session) (bound_turned now r r.session.life) none)).after
         (cond b newer (cond (is_bound r.session) (bound_turned now r r.session.life) none)).gives
-    by_newer true is = (record { turn = refl; anew = refl; round = refl }, record { same = refl; none = newer_none epoch r.session is })
+    by_newer true is = (record { turn = refl; anew = refl; number = refl; early = λ e. e; round = refl }, record { same = refl; none = newer_none epoch r.session is })
     by_newer false is = by_bound (is_bound r.session) refl is
 
 -- the turn of a session that may be asked, of which nothing is owed
@@ -266,7 +278,7 @@ open_from now items epoch s n wait o owed =
     (cond (is_bound s) (bound_from now items s n wait s.life) (record { session = s; gives = unbound_gives s.life }))) o.newest
     ∙ ap (λ b. cond b (bound_from now items s n wait s.life) (record { session = s; gives = unbound_gives s.life })) o.bound
     ∙ ap (bound_from now items s n wait) o.alive ∙ ap (owing_from now items s n wait) owed
-    ∙ ap (λ b. cond b (record { session = unbound_at now s; gives = Gave loop_text })
+    ∙ ap (λ b. cond b (record { session = unbound_at now s; gives = IsSend loop_text })
     (cond (is_unsent s) (next_given s) (rest_of_round now items s n wait))) o.not_over
 
 -- and nothing is unsent
@@ -288,9 +300,9 @@ module _ (now : ℕ) (items : List Item) (epoch : ℕ) (r : Record) (q : Questio
 
   -- the turn behind an answer by which nothing is numbered
   next_from : (n : ℕ) (next : Option ℕ)
-      → turn_from now items epoch (record { session = r.session; tick = now; asked = n; asks = false; wait = next })
+      → turn_from now items epoch (record r { tick = now; asked = n; asks = false; wait = next })
       ≡ rest_of_round now items r.session n next
-  next_from n next = here_from now items epoch r.session n next ∙ alive_from now items epoch r.session n next a.opened a.owed a.unsent
+  next_from n next = here_from now items epoch r r.session n next ∙ alive_from now items epoch r.session n next a.opened a.owed a.unsent
 
   -- the slot has nothing: it is due and has no cut, or it isn't, and nothing is pending
   pub turn_nothing : (q.due ≡ true → cut (history_of items q.live.item) q.live.slot ≡ None)
@@ -323,7 +335,7 @@ module _ (now : ℕ) (items : List Item) (epoch : ℕ) (r : Record) (q : Questio
       → turn_from now items epoch (answered_by (asking_at now r) q.live t None) ≡ turn_from now items epoch r
   silent_turn none =
       let s : Session = on_board (λ b. record b { round = change (from_place now r) (passed_live t) b.round }) r.session in
-      here_from now items epoch s (from_place now r) (wait_from now r)
+      here_from now items epoch r s (from_place now r) (wait_from now r)
       ∙ alive_from now items epoch s (from_place now r) (wait_from now r)
       (record { newest = a.opened.newest; bound = a.opened.bound; alive = a.opened.alive; not_over = a.opened.not_over }) a.owed a.unsent
       ∙ sym (silent_told now items r.session (from_place now r) (wait_from now r) q.live t (a.due ∙ due) (a.left due) a.found is none)
@@ -341,7 +353,7 @@ module _ (now : ℕ) (items : List Item) (epoch : ℕ) (r : Record) (q : Questio
       → turn_from now items epoch (answered_by (asking_at now r) q.live t (Some what)) ≡ turn_from now items epoch r
   told_turn what sent some =
       let s : Session = (answered_by (asking_at now r) q.live t (Some what)).session in
-      let x : Record = begun_anew now s in
+      let x : Record = begun_anew now s r in
       open_from now items epoch s (from_place now x) (wait_from now x) (told_open what) a.owed
       ∙ ap (λ b. cond b (next_given s) (rest_of_round now items s (from_place now x) (wait_from now x))) (told_unsent what sent)
       ∙ sym (line_told now items r.session (from_place now r) (wait_from now r) q.live t (a.due ∙ due) (a.left due) a.found is what some)
@@ -371,7 +383,7 @@ module _ (now : ℕ) (items : List Item) (epoch : ℕ) (r : Record) (q : Questio
       by_what (Some what) some = told_turn what sent some
 
 -- the slot of a place, among the slots of all sessions
-pub live_split : (first round others : List Live) (n : ℕ) (v : Live) → slice_get round n ≡ Some v
+pub live_split : (first round others : List LiveSlot) (n : ℕ) (v : LiveSlot) → slice_get round n ≡ Some v
     → first ++ round ++ others ≡ (first ++ take n round) ++ v ∷ (drop (suc n) round ++ others)
 live_split first round others n v at =
     let cut_there : round ≡ take n round ++ v ∷ drop (suc n) round =
@@ -381,7 +393,7 @@ live_split first round others n v at =
     ∙ append_assoc (first ++ take n round) (v ∷ drop (suc n) round) others
 
 -- it changes at its place
-pub live_put : (first round others : List Live) (n : ℕ) (v : Live) (f : Live → Live) → slice_get round n ≡ Some v
+pub live_put : (first round others : List LiveSlot) (n : ℕ) (v : LiveSlot) (f : LiveSlot → LiveSlot) → slice_get round n ≡ Some v
     → (first ++ take n round) ++ f v ∷ (drop (suc n) round ++ others) ≡ first ++ change n f round ++ others
 live_put first round others n v f at =
     ap (λ vs. (first ++ vs) ++ f v ∷ (drop (suc n) round ++ others)) (sym (take_changed f round n))
@@ -389,33 +401,25 @@ live_put first round others n v f at =
     ∙ sym (live_split first (change n f round) others n (f v) (get_changed f round n v at))
 
 -- or goes to the back, where the others stay
-pub live_back : (first round others : List Live) (n : ℕ)
+pub live_back : (first round others : List LiveSlot) (n : ℕ)
     → (first ++ take n round) ++ (drop (suc n) round ++ others) ≡ (first ++ (take n round ++ drop (n + 1) round)) ++ others
 live_back first round others n =
     sym (append_assoc (first ++ take n round) (drop (suc n) round) others)
     ∙ ap (λ vs. vs ++ others) (append_assoc first (take n round) (drop (suc n) round))
     ∙ ap (λ m. (first ++ (take n round ++ drop m round)) ++ others) {x = suc n} {y = n + 1} (omega arith)
 
-pub back_is : (first rest others : List Live) (v : Live) → (first ++ rest) ++ v ∷ others ≡ first ++ (rest ++ v ∷ []) ++ others
+pub back_is : (first rest others : List LiveSlot) (v : LiveSlot) → (first ++ rest) ++ v ∷ others ≡ first ++ (rest ++ v ∷ []) ++ others
 back_is first rest others v =
     sym (append_assoc (first ++ rest) (v ∷ []) others) ∙ ap (λ vs. vs ++ others) (append_assoc first rest (v ∷ []))
 
 -- the question that stands is that of the turn
-asked_is : (now epoch : ℕ) (r : Record) (q : Question) (after : Record) → IsAsking now epoch r q after → question_of after ≡ Some q
+pub asked_is : (now epoch : ℕ) (r : Record) (q : Question) (after : Record) → IsAsking now epoch r q after → question_of after ≡ Some q
 asked_is now epoch r q after a =
     ap question_of a.after ∙ ap (option_map (λ v. record { live = v; due = is_due now r.session v })) a.found
     ∙ ap (λ b. Some (record { live = q.live; due = b })) a.due
 
-pub asked_as : (now epoch : ℕ) (r : Record) (q : Question) (after : Record) (due : Bool) → IsAsking now epoch r q after → q.due ≡ due
-    → question_of after ≡ Some (record { live = q.live; due = due })
-asked_as now epoch r q after due a is = asked_is now epoch r q after a ∙ ap (λ b. Some (record { live = q.live; due = b })) is
-
-pub ask_as : (q : Question) (a : Ask) (due : Bool) → a ≡ record { slot = ref_of q.live; due = q.due } → q.due ≡ due
-    → a ≡ record { slot = ref_of q.live; due = due }
-ask_as q a due is same = is ∙ ap (λ b. record { slot = ref_of q.live; due = b }) same
-
 -- a turn gave a question
-module _ (now : ℕ) (items : List Item) (epoch : ℕ) (first others : List Live) (r : Record) (q : Question) (k : Kept) (c : AllCells)
+module _ (now : ℕ) (items : List Item) (epoch : ℕ) (first others : List LiveSlot) (r : Record) (q : Question) (k : Kept) (c : AllCells)
     (h : HasAsked now items epoch first others r q k c) where
   abbrev at : ℕ
   at = from_place now r
@@ -423,8 +427,11 @@ module _ (now : ℕ) (items : List Item) (epoch : ℕ) (first others : List Live
   pub told_asking : IsAsking now epoch r q (turned now epoch r).after
   told_asking = subst (Went now epoch r (turn_from now items epoch r) (turned now epoch r).after) h.gives (turn_went now items epoch r)
 
-  told_early : (turned now epoch r).after.tick ≡ now
-  told_early = ap (λ (x : Record). x.tick) told_asking.after
+  told_early : (turned now epoch r).after.floor ≡ r.floor
+  told_early = ap (λ (x : Record). x.floor) told_asking.after
+
+  told_number : (turned now epoch r).after.number ≡ r.number
+  told_number = ap (λ (x : Record). x.number) told_asking.after
 
   -- its slot, among those of all
   pub told_slot : StandsCells c items ((first ++ take at r.session.board.round) ++ q.live ∷ (drop (suc at) r.session.board.round ++ others))
@@ -434,7 +441,7 @@ module _ (now : ℕ) (items : List Item) (epoch : ℕ) (first others : List Live
   same_cells : (f : Record → Record) → (f (asking_at now r)).session.board.round ≡ r.session.board.round
       → StandsCells c items (first ++ (f (turned now epoch r).after).session.board.round ++ others)
   same_cells f same =
-      subst (λ (vs : List Live). StandsCells c items (first ++ vs ++ others))
+      subst (λ (vs : List LiveSlot). StandsCells c items (first ++ vs ++ others))
       (sym (ap (λ x. (f x).session.board.round) told_asking.after ∙ same)) h.cells
 
   same_quiet : (f : Record → Record) → (f (asking_at now r)).session ≡ r.session → IsQuiet items r.session (f (turned now epoch r).after).session
@@ -442,11 +449,12 @@ module _ (now : ℕ) (items : List Item) (epoch : ℕ) (first others : List Live
       subst (λ (x : Session). IsQuiet items r.session x) (sym (ap (λ x. (f x).session) told_asking.after ∙ same)) (quiet_self items r.session)
 
   -- its answer failed, or wasn't given
-  pub told_failed : (s : Session) → IsQuiet items s r.session → TurnFailed now items first others s k c
+  pub told_failed : (s : Session) → IsQuiet items s r.session → TurnFailed now items first others r.number s k c
   told_failed s quiet =
       record {
         asking = (turned now epoch r).after;
-        early = omega (arith, told_early);
+        numbered = told_number;
+        early = omega (arith, told_early, h.early);
         first = asks_begins (turned now epoch r).after (ap (λ x. x.asks) told_asking.after);
         quiet = quiet_then items s r.session (turned now epoch r).after.session quiet (same_quiet (λ x. x) refl);
         session = h.session;
@@ -460,7 +468,8 @@ module _ (now : ℕ) (items : List Item) (epoch : ℕ) (first others : List Live
       record {
         on = record {
           asking = passed_over (turned now epoch r).after;
-          early = omega (arith, told_early);
+          number = told_number;
+          early = omega (arith, told_early, h.early);
           session = st;
           cells = same_cells passed_over refl;
           turn = turn_nothing now items epoch r q (turned now epoch r).after told_asking none quiet;
@@ -474,7 +483,8 @@ module _ (now : ℕ) (items : List Item) (epoch : ℕ) (first others : List Live
   told_waiting k' undue pends st =
       record {
         asking = waited (turned now epoch r).after q.live;
-        early = omega (arith, told_early);
+        number = told_number;
+        early = omega (arith, told_early, h.early);
         session = st;
         cells = same_cells (λ x. waited x q.live) refl;
         turn = turn_waiting now items epoch r q (turned now epoch r).after told_asking undue pends;
@@ -484,7 +494,7 @@ module _ (now : ℕ) (items : List Item) (epoch : ℕ) (first others : List Live
   told_sent : r.session.sent ≤ length r.session.board.lines
   told_sent =
       subst (λ (x : Record). x.session.sent ≤ length x.session.board.lines) told_asking.after
-      (omega (arith, h.session.lines.keep.numbered, texts_length (turned now epoch r).after.session.board.lines))
+      (lines_numbered_first k.lines (turned now epoch r).after.session h.session.lines)
 
   -- the cells behind a cut that was passed
   passed_cells : (c' : AllCells) (t : Taken) (o : Option What)
@@ -496,9 +506,13 @@ module _ (now : ℕ) (items : List Item) (epoch : ℕ) (first others : List Live
       subst (StandsCells c' items) (back_is first (take at r.session.board.round ++ drop (at + 1) r.session.board.round) others (passed_live t q.live))
       (cells_moved c' items _ _ _ _ (passed_live t q.live) (live_back first r.session.board.round others at) cells)
 
-  answered_tick : (t : Taken) (o : Option What) → (answered_by (asking_at now r) q.live t o).tick ≡ now
-  answered_tick t None = refl
-  answered_tick t (Some what) = refl
+  answered_early : (t : Taken) (o : Option What) → (answered_by (asking_at now r) q.live t o).floor ≤ now
+  answered_early t None = h.early
+  answered_early t (Some what) = omega arith
+
+  answered_number : (t : Taken) (o : Option What) → (answered_by (asking_at now r) q.live t o).number ≡ r.number
+  answered_number t None = refl
+  answered_number t (Some what) = refl
 
   pub told_taken : (k' : Kept) (c' : AllCells) (t : Taken) → q.due ≡ true → cut (history_of items q.live.item) q.live.slot ≡ Some t
       → StandsSession k' (answered (turned now epoch r).after q.live t)
@@ -507,13 +521,49 @@ module _ (now : ℕ) (items : List Item) (epoch : ℕ) (first others : List Live
   told_taken k' c' t due is st cells =
       record {
         asking = answered (turned now epoch r).after q.live t;
-        early = omega (arith, ap (λ x. (answered x q.live t).tick) told_asking.after, answered_tick t (what_of r.session.board.lines q.live t));
+        number = ap (λ (x : Record). (answered x q.live t).number) told_asking.after ∙ answered_number t (what_of r.session.board.lines q.live t);
+        early = subst (λ (x : Record). (answered x q.live t).floor ≤ now) (sym told_asking.after)
+            (answered_early t (what_of r.session.board.lines q.live t));
         session = st;
         cells = subst (λ (x : Record). StandsCells c' items (first ++ (answered x q.live t).session.board.round ++ others)) (sym told_asking.after)
             (passed_cells c' t (what_of r.session.board.lines q.live t) cells);
         turn = turn_answered now items epoch r q (turned now epoch r).after told_asking t due is told_sent;
         quiet = quiet_answered now items epoch r q (turned now epoch r).after told_asking t due is told_sent;
       }
+
+-- the reply to it was told
+pub told_then : (now : ℕ) (items : List Item) (epoch : ℕ) (first others : List LiveSlot) (r : Record) (q : Question) (k k' : Kept) (c c' : AllCells)
+    (h : HasAsked now items epoch first others r q k c) (p : Reply) → reply_to (history_of items q.live.item) q ≡ p
+    → StandsCells c' items ((first ++ take (from_place now r) r.session.board.round) ++ moved_by p q.live
+    ∷ (drop (suc (from_place now r)) r.session.board.round ++ others))
+    → StandsSession k' (replied_by p q.live (turned now epoch r).after)
+    → GoesOn now items epoch first others r k' c' × (p ≡ reply.Nothing → Unasked now items epoch first others r k' c')
+told_then now items epoch first others r q k k' c c' h reply.Nothing is cells st =
+    let n = nothing_replied (history_of items q.live.item) q is in
+    let u = told_unasked now items epoch first others r q k c' (record {
+      early = h.early;
+      gives = h.gives;
+      session = h.session;
+      cells = subst (StandsCells c' items)
+          (sym (live_split first r.session.board.round others (from_place now r) q.live (told_asking now items epoch first others r q k c h).found)) cells;
+    }) k' n.0 n.1 st in
+    (u.on, λ e. u)
+told_then now items epoch first others r q k k' c c' h reply.Waiting is cells st =
+    let w = waiting_replied (history_of items q.live.item) q is in (
+      told_waiting now items epoch first others r q k c' (record {
+        early = h.early;
+        gives = h.gives;
+        session = h.session;
+        cells = subst (StandsCells c' items)
+            (sym (live_split first r.session.board.round others (from_place now r) q.live (told_asking now items epoch first others r q k c h).found)) cells;
+      }) k' w.0 w.1 st,
+      λ e. absurd (let x : reply.Waiting ≡ reply.Nothing = e in cc),
+    )
+told_then now items epoch first others r q k k' c c' h (reply.Taken t) is cells st =
+    let x = taken_replied (history_of items q.live.item) q t is in (
+      told_taken now items epoch first others r q k c h k' c' t x.0 x.1 st cells,
+      λ e. absurd (let y : reply.Taken t ≡ reply.Nothing = e in cc),
+    )
 
 -- the question that a turn answers with
 pub record IsQuestion (g : Gives) (a : Ask) : Type 0 where
@@ -522,60 +572,68 @@ pub record IsQuestion (g : Gives) (a : Ask) : Type 0 where
   pub ask : a ≡ record { slot = ref_of asked.live; due = asked.due }
 
 pub question : (g : Gives) (ask : Ask) (k : Kept) → AnswersTurn g (turn.Ask ask) k → IsQuestion g ask
-question (Line text) ask k a = absurd (let x : turn.Ask ask ≡ turn.Send = a.0 in cc)
+question (Send text) ask k a = absurd (let x : turn.Ask ask ≡ turn.Send = a.0 in cc)
 question (Asks q) ask k a =
     let same : ask ≡ record { slot = ref_of q.live; due = q.due } = cc in
     record { asked = q; gives = refl; ask = same }
-question Nothing ask k a = absurd (let x : turn.Ask ask ≡ turn.Idle = a in cc)
-question (Waits tick) ask k a = absurd (let x : turn.Ask ask ≡ turn.NotDue tick = a in cc)
-question NoNumber ask k a = absurd (let x : turn.Ask ask ≡ turn.Spent = a in cc)
+question Idle ask k a = absurd (let x : turn.Ask ask ≡ turn.Idle = a in cc)
+question (NotDue tick) ask k a = absurd (let x : turn.Ask ask ≡ turn.NotDue tick = a in cc)
+question Spent ask k a = absurd (let x : turn.Ask ask ≡ turn.Spent = a in cc)
 question (Superseded epoch) ask k a = absurd (let x : turn.Ask ask ≡ turn.Superseded epoch = a in cc)
 question Unbound ask k a = absurd (let x : turn.Ask ask ≡ turn.Unbound = a in cc)
-question (Over code) ask k a = absurd (let x : turn.Ask ask ≡ turn.Ended code = a in cc)
+question (Ended code) ask k a = absurd (let x : turn.Ask ask ≡ turn.Ended code = a in cc)
 
 -- a turn that gave no question
-ended_as : (now : ℕ) (items : List Item) (first others : List Live) (s : Session) (r : Record) (st : SessionTurn) (after : Record) (gives : TurnGives)
+ended_as : (now : ℕ) (items : List Item) (first others : List LiveSlot) (s : Session) (r : Record) (st : SessionTurn) (after : Record) (gives : TurnGives)
     (t : Turn) (k : Kept) (c : AllCells)
-    → HasEnded now r st after gives → EndsAs gives t (current_of k) → StandsSession k after
+    → HasEnded now r st after gives → EndsAs gives t (current_of k) → StandsSession k after → r.floor ≤ now
     → StandsCells c items (first ++ r.session.board.round ++ others) → ((t ≡ turn.Send → ⊥) → IsQuiet items s after.session)
-    → TurnEnded now items first others s st t k c
-ended_as now items first others s r st after gives t k c e ends session cells quiet =
-    subst (λ (x : SessionTurn). TurnEnded now items first others s x t k c) (sym e.turn)
+    → TurnEnded now items first others r.number s st t k c
+ended_as now items first others s r st after gives t k c e ends session early cells quiet =
+    subst (λ (x : SessionTurn). TurnEnded now items first others r.number s x t k c) (sym e.turn)
     (record {
       ends = ends;
-      session = subst (StandsSession k) e.anew session;
+      numbered = session.number ∙ e.number;
+      session = record {
+        asking = after;
+        session = refl;
+        early = e.early early;
+        first = subst BeginsAnew (sym e.anew) (anew_begins after.number after.floor now after.session);
+        stands = session;
+      };
       cells = subst (λ vs. StandsCells c items (first ++ vs ++ others)) (sym e.round) cells;
       quiet = quiet;
     })
 
-module _ (now : ℕ) (items : List Item) (epoch : ℕ) (first others : List Live) (s : Session) (r : Record) (st : SessionTurn) (after : Record) (t : Turn)
-    (k : Kept) (c : AllCells) (session : StandsSession k after) (cells : StandsCells c items (first ++ r.session.board.round ++ others))
+module _ (now : ℕ) (items : List Item) (epoch : ℕ) (first others : List LiveSlot) (s : Session) (r : Record) (st : SessionTurn) (after : Record) (t : Turn)
+    (k : Kept) (c : AllCells) (session : StandsSession k after) (early : r.floor ≤ now) (cells : StandsCells c items (first ++ r.session.board.round ++ others))
     (quiet : has_line epoch r.session ≡ false → IsQuiet items s r.session) where
   still_as : (gives : TurnGives) → HasEnded now r st after gives × IsStill epoch r after → EndsAs gives t (current_of k)
-      → TurnEnded now items first others s st t k c
+      → TurnEnded now items first others r.number s st t k c
   still_as gives w ends =
-      ended_as now items first others s r st after gives t k c w.0 ends session cells
+      ended_as now items first others s r st after gives t k c w.0 ends session early cells
       (λ none. subst (λ (x : Session). IsQuiet items s x) (sym w.1.same) (quiet w.1.none))
 
   ended_by : (g : Gives) → Went now epoch r st after g → AnswersTurn g t k → ((a : Ask) → t ≡ turn.Ask a → ⊥)
-      → TurnEnded now items first others s st t k c
-  ended_by (Line text) w a not =
-      ended_as now items first others s r st after (Gave text) t k c w a session cells (λ none. absurd (none a.0))
+      → TurnEnded now items first others r.number s st t k c
+  ended_by (Send text) w a not =
+      ended_as now items first others s r st after (IsSend text) t k c w a session early cells (λ none. absurd (none a.0))
   ended_by (Asks q) w a not = absurd (not (record { slot = ref_of q.live; due = q.due }) a)
-  ended_by Nothing w a not = still_as Idle w a
-  ended_by (Waits tick) w a not = still_as (NotDue tick) w a
-  ended_by NoNumber w a not = still_as Spent w a
+  ended_by Idle w a not = still_as IsIdle w a
+  ended_by (NotDue tick) w a not = still_as (IsNotDue tick) w a
+  ended_by Spent w a not = still_as IsSpent w a
   ended_by (Superseded newest) w a not = still_as (IsSuperseded newest) w a
   ended_by Unbound w a not = still_as IsUnbound w a
-  ended_by (Over code) w a not = still_as (IsOver code) w a
+  ended_by (Ended code) w a not = still_as (IsEnded code) w a
 
-module _ (now : ℕ) (items : List Item) (epoch : ℕ) (first others : List Live) (r : Record) (t : Turn) (k : Kept) (c : AllCells)
+module _ (now : ℕ) (items : List Item) (epoch : ℕ) (first others : List LiveSlot) (r : Record) (t : Turn) (k : Kept) (c : AllCells)
     (h : HasTurned now items epoch first others r t k c) where
-  pub no_question : ((a : Ask) → t ≡ turn.Ask a → ⊥) → TurnEnded now items first others r.session (turn_from now items epoch r) t k c
+  pub no_question : ((a : Ask) → t ≡ turn.Ask a → ⊥) → TurnEnded now items first others r.number r.session (turn_from now items epoch r) t k c
   no_question not =
-      subst (λ (x : SessionTurn). TurnEnded now items first others r.session x t k c) h.turn
+      subst (λ (n : ℕ). TurnEnded now items first others n r.session (turn_from now items epoch r) t k c) h.number
+      (subst (λ (x : SessionTurn). TurnEnded now items first others h.asking.number r.session x t k c) h.turn
       (ended_by now items epoch first others r.session h.asking (turn_from now items epoch h.asking) (turned now epoch h.asking).after t k c h.session
-      h.cells h.quiet (turned now epoch h.asking).gives (turn_went now items epoch h.asking) h.answers not)
+      h.early h.cells h.quiet (turned now epoch h.asking).gives (turn_went now items epoch h.asking) h.answers not))
 
   -- one that did
   pub record Asking (ask : Ask) : Type 0 where
@@ -587,7 +645,8 @@ module _ (now : ℕ) (items : List Item) (epoch : ℕ) (first others : List Live
   pub asks_this : (ask : Ask) → t ≡ turn.Ask ask → Asking ask
   asks_this ask is =
       let q = question (turned now epoch h.asking).gives ask k (subst (λ x. AnswersTurn (turned now epoch h.asking).gives x k) is h.answers) in
-      let asked : HasAsked now items epoch first others h.asking q.asked k c = record { gives = q.gives; session = h.session; cells = h.cells } in
+      let asked : HasAsked now items epoch first others h.asking q.asked k c =
+      record { early = h.early; gives = q.gives; session = h.session; cells = h.cells } in
       record {
         question = q.asked;
         is = q.ask;
@@ -597,8 +656,10 @@ module _ (now : ℕ) (items : List Item) (epoch : ℕ) (first others : List Live
 
   -- the answer is still to come, or failed
   pub ask_failed : (ask : Ask) (a : Asking ask) (k' : Kept) (c' : AllCells) → HasAsked now items epoch first others h.asking a.question k' c'
-      → TurnFailed now items first others r.session k' c'
-  ask_failed ask a k' c' x = told_failed now items epoch first others h.asking a.question k' c' x r.session a.quiet
+      → TurnFailed now items first others r.number r.session k' c'
+  ask_failed ask a k' c' x =
+      subst (λ (n : ℕ). TurnFailed now items first others n r.session k' c') h.number
+      (told_failed now items epoch first others h.asking a.question k' c' x r.session a.quiet)
 
   -- it was given
   pub goes_then : (ask : Ask) (a : Asking ask) (k' : Kept) (c' : AllCells) → GoesOn now items epoch first others h.asking k' c'
@@ -606,6 +667,7 @@ module _ (now : ℕ) (items : List Item) (epoch : ℕ) (first others : List Live
   goes_then ask a k' c' g =
       record {
         asking = g.asking;
+        number = g.number ∙ h.number;
         early = g.early;
         session = g.session;
         cells = g.cells;
@@ -614,13 +676,13 @@ module _ (now : ℕ) (items : List Item) (epoch : ℕ) (first others : List Live
       }
 
 -- a turn goes on, and one begins
-pub turns_on : (now : ℕ) (items : List Item) (epoch : ℕ) (first others : List Live) (r : Record) (t : Turn) (k k' : Kept) (c : AllCells)
+pub turns_on : (now : ℕ) (items : List Item) (epoch : ℕ) (first others : List LiveSlot) (r : Record) (t : Turn) (k k' : Kept) (c : AllCells)
     → (g : GoesOn now items epoch first others r k c) → AnswersTurn (turned now epoch g.asking).gives t k' × StandsSession k' (turned now epoch g.asking).after
     → HasTurned now items epoch first others r t k' c
 turns_on now items epoch first others r t k k' c g x =
-    record { asking = g.asking; answers = x.0; session = x.1; cells = g.cells; turn = g.turn; quiet = g.quiet }
+    record { asking = g.asking; number = g.number; early = g.early; answers = x.0; session = x.1; cells = g.cells; turn = g.turn; quiet = g.quiet }
 
-pub goes_from : (now : ℕ) (items : List Item) (epoch : ℕ) (first others : List Live) (r : Record) (k : Kept) (c : AllCells) → r.tick ≤ now → StandsSession k r
+pub goes_from : (now : ℕ) (items : List Item) (epoch : ℕ) (first others : List LiveSlot) (r : Record) (k : Kept) (c : AllCells) → r.floor ≤ now → StandsSession k r
     → StandsCells c items (first ++ r.session.board.round ++ others) → GoesOn now items epoch first others r k c
 goes_from now items epoch first others r k c early st cells =
-    record { asking = r; early = early; session = st; cells = cells; turn = refl; quiet = λ none. quiet_self items r.session }
+    record { asking = r; number = refl; early = early; session = st; cells = cells; turn = refl; quiet = λ none. quiet_self items r.session }

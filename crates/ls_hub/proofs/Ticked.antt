@@ -8,8 +8,10 @@ use Rattle.ls_step.specs.declared.step.Step.{Step}
 use Rattle.ls_step.specs.Ranges.{Fits, LaterTick}
 use Rattle.ls_world.specs.Script.{known_of}
 use Rattle.ls_world.specs.Steps.{does, ticks}
-use Rattle.ls_world.specs.declared.TheConstants.{MOST_UNBOUND}
-use Rattle.ls_world.specs.World.{World, Session, alive, change, is_alive, ended, timed_out, is_timed_out, unless_timed_out}
+use Rattle.ls_record.specs.declared.TheConstants.{MOST_UNBOUND}
+use Rattle.ls_world.specs.World.{World}
+use Rattle.ls_record.specs.Records.{Session, alive, change, is_alive, ended, timed_out, is_timed_out}
+use Rattle.ls_record.specs.Records.{unless_timed_out}
 use Rattle.ls_session.specs.Record.{Record}
 use Rattle.ls_session.specs.Session.{StandsSession}
 use Rattle.ls_session.specs.declared.session.Session.{Session as Kept}
@@ -88,6 +90,7 @@ clock_set h w ms st later most =
         definitions = st.definitions;
         cells = st.cells;
         sessions = are_later w.tick ms h.sessions.items w.sessions later st.sessions;
+        numbers = st.numbers;
         living = st.living;
         connections = st.connections;
       };

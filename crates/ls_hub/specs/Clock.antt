@@ -1,6 +1,7 @@
 -- The clock of a hub goes on, session by session.
 use Rattle.std.specs.Prelude.{◌≡◌, ◌==◌, ℕ, List, [], ◌∷◌, ◌++◌, map, if◌then◌else◌}
-use Rattle.ls_world.specs.World.{World, Session, alive, unless_timed_out}
+use Rattle.ls_world.specs.World.{World}
+use Rattle.ls_record.specs.Records.{Session, alive, unless_timed_out}
 use Rattle.ls_hub.specs.Hub.{StandsHub}
 use Rattle.ls_hub.specs.declared.hub.Hub.{Hub}
 

@@ -14,7 +14,8 @@ use Rattle.ls_step.specs.declared.out.Out.TheVariants as out
 use Rattle.ls_step.specs.Notes.{text_of_out}
 use Rattle.ls_step.specs.declared.step.Step.{Step}
 use Rattle.ls_step.specs.declared.step.Step.TheVariants as step
-use Rattle.ls_world.specs.World.{World, Connection, Live, Session, definitions, all_live, is_alive, live_at}
+use Rattle.ls_world.specs.World.{World, Connection}
+use Rattle.ls_record.specs.Records.{LiveSlot, Session, definitions, all_live, is_alive, live_at}
 use Rattle.ls_world.specs.Steps.{Once, Stepped, refused_out, with_session, session_of}
 use Rattle.ls_world.specs.Script.{text_of_outs}
 use Rattle.ls_session.specs.declared.session.Session.{Session as Kept}
@@ -32,11 +33,11 @@ seen c = record { name = c.name; link = c.link; session = c.session; epoch = c.e
 abbrev pub BeginsAnew : Record → Type 0
 BeginsAnew r = (later : ℕ) → (from_place later r ≡ 0) × (wait_from later r ≡ None)
 
--- a kept session stands for one of the world, was told a tick that isn't to come, and begins anew
+-- a kept session stands for one of the world, may be told each tick that is to come, and begins anew
 pub record IsSession (now : ℕ) (k : Kept) (s : Session) : Type 0 where
   pub asking : Record
   pub session : asking.session ≡ s
-  pub early : asking.tick ≤ now
+  pub early : asking.floor ≤ now
   pub first : BeginsAnew asking
   pub stands : StandsSession k asking
 
@@ -46,6 +47,11 @@ AreSessions now [] [] = Unit {0}
 AreSessions now [] (s ∷ sessions) = ⊥
 AreSessions now (k ∷ kept) [] = ⊥
 AreSessions now (k ∷ kept) (s ∷ sessions) = IsSession now k s × AreSessions now kept sessions
+
+-- kept sessions have the numbers after this one, in their order
+abbrev pub AreNumbered : ℕ → List Kept → Type 0
+AreNumbered n [] = Unit {0}
+AreNumbered n (k ∷ kept) = (k.number ≡ n + 1) × AreNumbered (n + 1) kept
 
 -- the places of the sessions that haven't ended, where the first session is of this place
 abbrev pub living_from : ℕ → List Session → List ℕ
@@ -61,6 +67,7 @@ pub record StandsHub (h : Hub) (w : World) : Type 0 where
   pub definitions : h.config.items ≡ definitions w.items
   pub cells : StandsCells h.cells w.items (all_live w.sessions)
   pub sessions : AreSessions w.tick h.sessions.items w.sessions
+  pub numbers : AreNumbered 0 h.sessions.items
   pub living : h.living.items ≡ living_from 0 w.sessions
   pub connections : map seen h.connections.items ≡ w.connections
 
@@ -102,7 +109,7 @@ outs_published (Ok n) = out.Published n ∷ []
 outs_published (Err cause) = refused_out cause
 
 -- the slot of a rank in a subscription of a connection's session
-abbrev pub slot_in : World → ℕ → ℕ → ℕ → Option Live
+abbrev pub slot_in : World → ℕ → ℕ → ℕ → Option LiveSlot
 slot_in w connection sub rank =
     with_session w.sessions (session_of w connection) None (λ n s. live_at sub rank s.board.round)
 

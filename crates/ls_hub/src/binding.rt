@@ -1,14 +1,15 @@
 //! Streams that begin anew or are lost (TLCP 2.1, bind_session, force_rebind). After `NoMemory` the hub is as before.
-ghost use Rattle.std.specs.Prelude.{◌≡◌, ◌<◌, ◌++◌, length, None, IfOk, OnOk, OnErr};
-ghost use Rattle.ls_world.specs.World.{World, Session as ASession, forced};
+ghost use Rattle.std.specs.Prelude.{◌≡◌, ◌<◌, ◌+◌, ◌++◌, length, OnOk, OnErr};
+ghost use Rattle.ls_world.specs.World.{World};
+ghost use Rattle.ls_record.specs.Records.{Session as ASession};
 ghost use Rattle.ls_world.specs.Steps.{binds, loses};
 ghost use Rattle.ls_hub.specs.Hub.{StandsHub, StandsAsBefore, Prints};
-ghost use Rattle.ls_hub.specs.Requests.{IsLiving, DidOperate, binds_living, out_of_loss};
+ghost use Rattle.ls_hub.specs.Requests.{IsLiving, binds_living, out_of_loss};
 
-use crate::answers::append_out;
-use crate::controlling::UNKNOWN_SESSION;
 use crate::creating::give_session;
 use crate::hub::Hub;
+use crate::printing::append_out;
+use ls_acts::UNKNOWN_SESSION;
 use ls_request::Bind;
 use ls_session::Lost;
 use ls_step::{LONGEST_NOTE, Out};
@@ -34,7 +35,8 @@ impl Hub {
         }
     }
 
-    /// A new stream of the session of a place, which hasn't ended, or CONERR on the connection.
+    /// A new stream of the session of a place, which the bind names and which hasn't ended, or CONERR on the
+    /// connection.
     fn bind_living(
         &mut self,
         connection: usize,
@@ -44,6 +46,7 @@ impl Hub {
     ) -> Result<(), NoMemory>
         requires { place < length self.old.sessions.items }
         ensures ok { OnOk result ((w : World) (s : ASession) → StandsHub self.old w → IsLiving w place s
+            → bind.now.session ≡ place + 1
             → Prints (binds_living w connection bind.now place s) text.old.items text.new.items self.new) }
         ensures err { OnErr result (StandsAsBefore self.old self.new) }
     {
@@ -55,22 +58,6 @@ impl Hub {
                 give_session(&mut self.connections, connection, place, epoch);
                 Ok(())
             }
-        }
-    }
-
-    /// The stream of the session of a place, which hasn't ended, is forced to be over; or the code that it is refused
-    /// for.
-    pub(crate) fn force_rebind(&mut self, place: usize) -> Result<Option<u16>, NoMemory>
-        requires { place < length self.old.sessions.items }
-        ensures connections { self.new.connections ≡ self.old.connections }
-        ensures did { IfOk result (λ code. (w : World) (s : ASession) → StandsHub self.old w → IsLiving w place s
-            → DidOperate w place None forced code self.new) }
-        ensures err { OnErr result (StandsAsBefore self.old self.new) }
-    {
-        match self.sessions[place].force_rebind() {
-            Err(Refusal::Code(code)) => Ok(Some(code)),
-            Err(Refusal::NoMemory) => Err(NoMemory),
-            Ok(()) => Ok(None),
         }
     }
 

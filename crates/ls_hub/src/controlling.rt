@@ -1,31 +1,25 @@
 //! Control requests: a subscription is added, ended or gets another frequency, and a session gets another bandwidth or
 //! is ended (TLCP 2.1, control). After `NoMemory` the hub is as before.
 ghost use Rattle.std.specs.Prelude.{◌≡◌, ◌<◌, ◌⊎◌, ◌++◌, length, map, None, IfOk, IfSome, OnOk, OnErr};
-ghost use Rattle.std.specs.Option.{ForSome};
 ghost use Rattle.ls_line.specs.Lines.{text_of_line};
-ghost use Rattle.ls_request.specs.Ranges.{OpFits, AddFits};
+ghost use Rattle.ls_request.specs.Ranges.{OpFits};
 ghost use Rattle.ls_request.specs.declared.request.Request.TheVariants as request;
 ghost use Rattle.ls_step.specs.Notes.{text_of_out};
 ghost use Rattle.ls_step.specs.declared.out.Out.TheVariants as out;
-ghost use Rattle.ls_world.specs.World.{World, Session as ASession, numbered, removed, reconfigured, constrained, ended};
-ghost use Rattle.ls_world.specs.World.{timed_out};
-ghost use Rattle.ls_world.specs.Acting.{add_code, subscribed, change_code, constrain_code, destroyed};
+ghost use Rattle.ls_world.specs.World.{World};
+ghost use Rattle.ls_record.specs.Records.{Session as ASession, ended, timed_out};
+ghost use Rattle.ls_record.specs.Acting.{destroyed};
 ghost use Rattle.ls_world.specs.Steps.{acts, operates, session_named};
 ghost use Rattle.ls_hub.specs.Hub.{StandsHub, StandsAsBefore, Prints, name_at, seen};
-ghost use Rattle.ls_hub.specs.Requests.{living_place, place_of_number, IsLiving, DidOperate, answer_line};
-ghost use Rattle.ls_hub.specs.Requests.{operation, operation_code};
+ghost use Rattle.ls_acts.specs.Answers.{answer_line};
+ghost use Rattle.ls_hub.specs.Requests.{living_place, place_of_number, IsLiving, DidOperate};
+ghost use Rattle.ls_hub.specs.Requests.{operation, operation_code, is_end};
 
-use crate::answers::answer;
 use crate::hub::Hub;
-use crate::slots::{joined, leave_all};
 use crate::ticking::leave_out;
-use ls_request::{Add, Control, Op};
-use ls_session::DESTROYED;
-use ls_subs::Refusal;
+use ls_acts::{UNKNOWN_SESSION, act, answer, end};
+use ls_request::{Control, Op};
 use ls_value::{NoMemory, Text};
-
-/// The code of a session that isn't there, or has ended.
-pub(crate) const UNKNOWN_SESSION: u16 = 20;
 
 impl Hub {
     /// A control request on the session that it names, or else on the connection's: REQERR where that isn't there or
@@ -109,96 +103,19 @@ impl Hub {
             → DidOperate w place (operation_code w s op.now) (operation w op.now) code self.new) }
         ensures err { OnErr result (StandsAsBefore self.old self.new) }
     {
-        match op {
-            Op::Add(add) => self.subscribe(place, add),
-            Op::Delete { sub } => self.unsubscribe(place, *sub),
-            Op::Reconf { sub, frequency } => self.reconf(place, *sub, *frequency),
-            Op::Constrain { bandwidth } => self.constrain(place, *bandwidth),
-            Op::Destroy => {
-                self.end(place, DESTROYED);
-                Ok(None)
-            }
-            Op::ForceRebind => self.force_rebind(place),
-        }
-    }
-
-    /// A new subscription of the session of a place, which hasn't ended, or the code that it is refused for. Where its
-    /// items can't join, those that did leave again, and the session is as before.
-    fn subscribe(&mut self, place: usize, add: &Add) -> Result<Option<u16>, NoMemory>
-        requires place { place < length self.old.sessions.items }
-        requires fits { AddFits add.now }
-        ensures connections { self.new.connections ≡ self.old.connections }
-        ensures did { IfOk result (λ code. (w : World) (s : ASession) → StandsHub self.old w → IsLiving w place s
-            → DidOperate w place (add_code w s add.now) (subscribed w add.now) code self.new) }
-        ensures err { OnErr result (StandsAsBefore self.old self.new) }
-    {
-        let free = self.cells.free();
-        match self.sessions[place].prepare_add(add, &self.config, free) {
-            Err(Refusal::Code(code)) => Ok(Some(code)),
-            Err(Refusal::NoMemory) => Err(NoMemory),
-            Ok(plan) => {
-                let numbers = joined(self.alloc, &mut self.cells, &plan.items)?;
-                self.sessions[place].finish_add(plan, &numbers);
-                Ok(None)
-            }
-        }
-    }
-
-    /// The end of a subscription of the session of a place, which hasn't ended, or the code that it is refused for.
-    fn unsubscribe(&mut self, place: usize, sub: u32) -> Result<Option<u16>, NoMemory>
-        requires { place < length self.old.sessions.items }
-        ensures connections { self.new.connections ≡ self.old.connections }
-        ensures did { IfOk result (λ code. (w : World) (s : ASession) → StandsHub self.old w → IsLiving w place s
-            → DidOperate w place (change_code s sub) (numbered (removed sub)) code self.new) }
-        ensures err { OnErr result (StandsAsBefore self.old self.new) }
-    {
-        match self.sessions[place].delete(sub) {
-            Err(Refusal::Code(code)) => Ok(Some(code)),
-            Err(Refusal::NoMemory) => Err(NoMemory),
-            Ok(slots) => {
-                leave_all(&mut self.cells, &slots);
-                Ok(None)
-            }
-        }
-    }
-
-    /// Another greatest frequency, in thousandths of an update per second and above 0, or none, for a subscription of
-    /// the session of a place, which hasn't ended; or the code that it is refused for.
-    fn reconf(
-        &mut self,
-        place: usize,
-        sub: u32,
-        frequency: Option<u64>,
-    ) -> Result<Option<u16>, NoMemory>
-        requires place { place < length self.old.sessions.items }
-        requires some { ForSome frequency (λ f. 0 < f) }
-        ensures connections { self.new.connections ≡ self.old.connections }
-        ensures did { IfOk result (λ code. (w : World) (s : ASession) → StandsHub self.old w → IsLiving w place s
-            → DidOperate w place (change_code s sub) (numbered (reconfigured sub frequency)) code self.new) }
-        ensures err { OnErr result (StandsAsBefore self.old self.new) }
-    {
-        match self.sessions[place].reconf(sub, frequency) {
-            Err(Refusal::Code(code)) => Ok(Some(code)),
-            Err(Refusal::NoMemory) => Err(NoMemory),
-            Ok(()) => Ok(None),
-        }
-    }
-
-    /// Another bandwidth, in thousandths of a kbit per second and above 0, or none, of the session of a place, which
-    /// hasn't ended; or the code that it is refused for.
-    fn constrain(&mut self, place: usize, bandwidth: Option<u64>) -> Result<Option<u16>, NoMemory>
-        requires place { place < length self.old.sessions.items }
-        requires some { ForSome bandwidth (λ limit. 0 < limit) }
-        ensures connections { self.new.connections ≡ self.old.connections }
-        ensures did { IfOk result (λ code. (w : World) (s : ASession) → StandsHub self.old w → IsLiving w place s
-            → DidOperate w place (constrain_code s) (constrained bandwidth) code self.new) }
-        ensures err { OnErr result (StandsAsBefore self.old self.new) }
-    {
-        let now = self.tick;
-        match self.sessions[place].constrain(bandwidth, now) {
-            Err(Refusal::Code(code)) => Ok(Some(code)),
-            Err(Refusal::NoMemory) => Err(NoMemory),
-            Ok(()) => Ok(None),
+        let code = act(
+            self.alloc,
+            &mut self.cells,
+            &mut self.sessions[place],
+            op,
+            &self.config,
+            self.tick,
+        )?;
+        if is_end(op) {
+            leave_out(&mut self.living, place);
+            Ok(code)
+        } else {
+            Ok(code)
         }
     }
 
@@ -211,8 +128,7 @@ impl Hub {
         ensures did { (w : World) (s : ASession) → StandsHub self.old w → IsLiving w place s
             → DidOperate w place None (ended code) None self.new }
     {
-        let slots = self.sessions[place].finish(code);
-        leave_all(&mut self.cells, &slots);
+        end(&mut self.cells, &mut self.sessions[place], code);
         leave_out(&mut self.living, place);
     }
 
@@ -238,4 +154,18 @@ fn place_of(number: u64) -> Option<usize>
 {
     let place = number.checked_sub(1)?;
     Some(place as usize)
+}
+
+/// Whether an operation ends its session.
+fn is_end(op: &Op) -> bool
+    ensures { result ≡ is_end op.now }
+{
+    match op {
+        Op::Destroy => true,
+        Op::Add(_) => false,
+        Op::Delete { .. } => false,
+        Op::Reconf { .. } => false,
+        Op::Constrain { .. } => false,
+        Op::ForceRebind => false,
+    }
 }

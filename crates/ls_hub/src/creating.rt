@@ -2,18 +2,19 @@
 ghost use Rattle.std.specs.Prelude.{◌≡◌, ◌<◌, length, map, Some, None, Option, ℕ, OnOk, OnErr};
 ghost use Rattle.std.specs.Option.{ForSome};
 ghost use Rattle.ls_value.specs.declared.limits.TheConstants.{GREATEST_NUMBER};
-ghost use Rattle.ls_world.specs.World.{World, change};
+ghost use Rattle.ls_world.specs.World.{World};
+ghost use Rattle.ls_record.specs.Records.{change};
 ghost use Rattle.ls_world.specs.Acting.{is_set_of, create_code};
 ghost use Rattle.ls_world.specs.Steps.{creates, created, refuses_stream};
-ghost use Rattle.ls_world.specs.declared.TheConstants.{MOST_SESSIONS};
+ghost use Rattle.ls_record.specs.declared.TheConstants.{MOST_SESSIONS};
 ghost use Rattle.ls_hub.specs.Hub.{StandsHub, StandsAsBefore, Prints, seen};
 
-use crate::answers::session_refused;
 use crate::hub::{Connection, Hub};
+use ls_acts::session_refused;
+use ls_record::MOST_SESSIONS;
 use ls_request::Create;
 use ls_session::Session;
 use ls_value::{GREATEST_NUMBER, NoMemory, Text, same_bytes};
-use ls_world::MOST_SESSIONS;
 
 impl Hub {
     /// A create_session: a new session, which is the connection's, or CONERR on the connection. A bandwidth is above 0.

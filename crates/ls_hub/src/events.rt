@@ -11,8 +11,8 @@ ghost use Rattle.ls_hub.specs.Hub.{StandsHub, StandsAsBefore, Prints, DidOnce, s
 ghost use Rattle.ls_hub.specs.Hub.{out_enqueued, has_moved};
 ghost use Rattle.ls_hub.specs.Quiet.{DidFewer};
 
-use crate::answers::append_out;
 use crate::hub::Hub;
+use crate::printing::append_out;
 use ls_cell::Enqueued;
 use ls_event::{Event, PublishRefused};
 use ls_step::{LONGEST_NOTE, Out};

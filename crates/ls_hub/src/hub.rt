@@ -3,7 +3,8 @@ ghost use Rattle.std.specs.Prelude.{◌≡◌, ◌<◌, ◌++◌, ℕ, [], ◌�
 ghost use Rattle.ls_step.specs.Ranges.{Fits};
 ghost use Rattle.ls_config.specs.Items.{may_follow};
 ghost use Rattle.ls_event.specs.Shapes.{IsShape, shape_of};
-ghost use Rattle.ls_world.specs.World.{World, empty, definitions};
+ghost use Rattle.ls_world.specs.World.{World, empty};
+ghost use Rattle.ls_record.specs.Records.{definitions};
 ghost use Rattle.ls_world.specs.Steps.{does, connects, session_of};
 ghost use Rattle.ls_world.specs.Script.{known_of};
 ghost use Rattle.ls_world.specs.Ranges.{StepInRange};
@@ -11,7 +12,7 @@ ghost use Rattle.ls_hub.specs.Hub.{StandsHub, StandsAsBefore, Prints, HasAdapter
 ghost use Rattle.ls_hub.specs.Hub.{name_at, link_at};
 ghost use Rattle.ls_hub.specs.Quiet.{FailedIn};
 
-use ls_cells::Cells;
+use ls_cells::AllItems;
 use ls_config::{Config, Items};
 use ls_event::{Event, ItemDef};
 use ls_request::LinkKind;
@@ -38,7 +39,7 @@ pub struct Hub {
     pub(crate) alloc: Global,
     pub(crate) config: Config,
     pub(crate) tick: u64,
-    pub(crate) cells: Cells,
+    pub(crate) cells: AllItems,
     pub(crate) connections: Vec<Connection>,
     pub(crate) sessions: Vec<Session>,
     pub(crate) living: Vec<usize>,
@@ -57,7 +58,7 @@ impl Hub {
                 items: Items::new(alloc),
             },
             tick: 0,
-            cells: Cells::new(alloc),
+            cells: AllItems::new(alloc),
             connections: Vec::new(alloc),
             sessions: Vec::new(alloc),
             living: Vec::new(alloc),

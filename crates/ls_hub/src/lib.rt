@@ -5,33 +5,33 @@
 //! connections by their numbers, and sessions by theirs. What a step costs grows with nothing that it doesn't touch,
 //! but a turn's with its own session's round, and a tick's with the sessions that haven't ended.
 //!
-//! A session holds no items: its turn asks what a slot has to tell, the hub looks at the slot's cell, gives the session
-//! the answer, and moves the slot past what was taken. Of a slot whose frequency or whose session's bandwidth doesn't
-//! allow an update yet it only says whether something is pending. Behind a slot that has nothing it passes over those
-//! of which the cells know that nothing is pending. The tick is the last one of the script, in ms.
+//! What is done with one session alone is ls_acts': an operation of a control request, a slot that tells what it has, and
+//! the lines that answer requests. The hub finds the session, says where it stands among the others, and prints. A
+//! session's turn asks what a slot has to tell. Of a slot whose frequency or whose session's bandwidth doesn't allow an
+//! update yet only whether something is pending is told. Behind a slot that has nothing the hub passes over those of
+//! which the cells know that nothing is pending. The tick is the last one of the script, in ms.
 //!
 //! ```text
 //! take c 9
 //!   Session::turn    Ask: what has this slot, which is due?
-//!   Cells::look      its next cut
+//!   AllItems::look      its next cut
 //!   Session::answer  the cut's line is numbered, or it makes none
-//!   Cells::pass      the slot is past the cut
+//!   AllItems::pass      the slot is past the cut
 //!   Session::turn    Send: the line
 //!   Session::turn    Ask: does this slot wait, which isn't due?
-//!   Cells::pending   something is pending
+//!   AllItems::pending   something is pending
 //!   Session::answer  it waits
 //!   Session::turn    NotDue: nothing before this tick
 //! ```
 #![tactic(auto)]
 
-mod answers;
 mod binding;
 mod controlling;
 mod creating;
 mod events;
 mod hub;
+mod printing;
 mod requests;
-mod slots;
 mod ticking;
 mod turning;
 

@@ -11,8 +11,8 @@ ghost use Rattle.ls_world.specs.World.{World};
 ghost use Rattle.ls_world.specs.Steps.{requests, link_of, malformed, acts, creates, connects, plain_create};
 ghost use Rattle.ls_hub.specs.Hub.{StandsHub, StandsAsBefore, Prints, name_at};
 
-use crate::answers::malformed;
 use crate::hub::Hub;
+use ls_acts::malformed;
 use ls_form::{FormRefused, Params, pairs};
 use ls_line::{Line, append};
 use ls_request::{Create, DEFAULT_KEEPALIVE, LinkKind, Request, RequestRefused, read_pairs};

@@ -2,15 +2,16 @@
 ghost use Rattle.std.specs.Prelude.{◌≡◌, ◌≤◌, ◌<◌, ◌+◌, ℕ, length, slice_get, nat_le, Some, true, false};
 ghost use Rattle.std.specs.Option.{option_map_or};
 ghost use Rattle.ls_value.specs.declared.limits.TheConstants.{GREATEST_TICK};
-ghost use Rattle.ls_world.specs.World.{World, Session as ASession, is_timed_out};
+ghost use Rattle.ls_world.specs.World.{World};
+ghost use Rattle.ls_record.specs.Records.{Session as ASession, is_timed_out};
 ghost use Rattle.ls_world.specs.Steps.{ticks};
-ghost use Rattle.ls_world.specs.declared.TheConstants.{MOST_UNBOUND};
+ghost use Rattle.ls_record.specs.declared.TheConstants.{MOST_UNBOUND};
 ghost use Rattle.ls_hub.specs.Hub.{StandsHub};
 ghost use Rattle.ls_hub.specs.Clock.{Clocked, without_place};
 
 use crate::hub::Hub;
+use ls_record::MOST_UNBOUND;
 use ls_session::TIMED_OUT;
-use ls_world::MOST_UNBOUND;
 
 impl Hub {
     /// The clock goes to a tick, in ms, which isn't before the last one, and the sessions end that were without a

@@ -1,30 +1,28 @@
 //! Turns of sessions: a session asks what a slot has to tell, the hub looks, the session answers with a line or none,
 //! and the slot moves past what was taken. Of a slot that isn't due the hub only looks whether it waits. Behind a slot
 //! that has nothing the hub passes over those that are known to be settled, without a question.
-ghost use Rattle.std.specs.Prelude.{◌≡◌, ◌≤◌, ◌<◌, ◌+◌, ◌++◌, ◌∷◌, ℕ, length, List, Some, IsSome, IfOk, OnOk, OnErr};
-ghost use Rattle.std.specs.Prelude.{true, false, None};
+ghost use Rattle.std.specs.Prelude.{◌≡◌, ◌≤◌, ◌<◌, ◌+◌, ◌++◌, ℕ, length, List, IfOk, OnOk, OnErr, true};
 ghost use Rattle.std.specs.Vec.{vec_len, vec_capacity};
 ghost use Rattle.ls_value.specs.declared.limits.TheConstants.{GREATEST_TICK};
 ghost use Rattle.ls_step.specs.Notes.{text_of_out};
-ghost use Rattle.ls_event.specs.declared.event.Taken.{Taken as Cut};
-ghost use Rattle.ls_event.specs.Cuts.{cut, is_pending};
-ghost use Rattle.ls_world.specs.World.{World, Item, Live, history_of};
+ghost use Rattle.ls_world.specs.World.{World};
+ghost use Rattle.ls_record.specs.Records.{Item, LiveSlot};
 ghost use Rattle.ls_world.specs.Steps.{take_once as one_turn, repeated};
-ghost use Rattle.ls_cells.specs.Cells.{StandsCells, cut_of_slot};
-ghost use Rattle.ls_subs.specs.Standing.{passed_live, ref_of};
-ghost use Rattle.ls_session.specs.Record.{Record, Question};
+ghost use Rattle.ls_cells.specs.Cells.{StandsCells};
+ghost use Rattle.ls_session.specs.Record.{Record};
 ghost use Rattle.ls_session.specs.Session.{StandsSession};
 ghost use Rattle.ls_session.specs.declared.session.Turn.TheVariants as given;
 ghost use Rattle.ls_hub.specs.Hub.{StandsHub, Prints, DidOnce};
 ghost use Rattle.ls_hub.specs.Quiet.{StandsQuiet, FailedBehind};
-ghost use Rattle.ls_hub.specs.Turning.{turn_from, HasAsked, TakesAnswer, KeepsQuestion, GoesOn, Unasked, MaySkip, IsNextSettled};
+ghost use Rattle.ls_hub.specs.Turning.{turn_from, TakesAnswer, KeepsQuestion, GoesOn, Unasked, MaySkip, IsNextSettled};
 ghost use Rattle.ls_hub.specs.Turning.{TurnEnded, TurnFailed, out_of_turn, gave_line};
 
-use crate::answers::append_out;
 use crate::hub::Hub;
-use ls_cells::Cells;
+use crate::printing::append_out;
+use ls_acts::{Found, tell};
+use ls_cells::AllItems;
 use ls_line::LONGEST_TEXT;
-use ls_session::{Ask, Reply, Session, Turn};
+use ls_session::{Ask, Session, Turn};
 use ls_step::{Out, append_line};
 use ls_value::{GREATEST_NUMBER, NoMemory};
 
@@ -77,19 +75,25 @@ impl Hub {
 
 /// A session's turn at a tick, in ms, on the stream of an epoch: its round is asked until it has an answer. After
 /// `NoMemory` no line was numbered or given; slots may have moved past cuts that make none.
-fn turn_of(cells: &mut Cells, session: &mut Session, now: u64, epoch: u64) -> Result<Turn, NoMemory>
-    ensures ok { IfOk result (λ turn. (items : List Item) (before behind : List Live) (r : Record)
-        → StandsSession session.old r → r.tick ≤ now → now ≤ GREATEST_TICK
+fn turn_of(
+    cells: &mut AllItems,
+    session: &mut Session,
+    now: u64,
+    epoch: u64,
+) -> Result<Turn, NoMemory>
+    ensures ok { IfOk result (λ turn. (items : List Item) (before behind : List LiveSlot) (r : Record)
+        → StandsSession session.old r → r.floor ≤ now → now ≤ GREATEST_TICK
         → StandsCells cells.old items (before ++ r.session.board.round ++ behind)
-        → TurnEnded now items before behind r.session (turn_from now items epoch r) turn session.new cells.new) }
-    ensures err { OnErr result ((items : List Item) (before behind : List Live) (r : Record)
-        → StandsSession session.old r → r.tick ≤ now → now ≤ GREATEST_TICK
+        → TurnEnded now items before behind r.number r.session (turn_from now items epoch r) turn session.new
+        cells.new) }
+    ensures err { OnErr result ((items : List Item) (before behind : List LiveSlot) (r : Record)
+        → StandsSession session.old r → r.floor ≤ now → now ≤ GREATEST_TICK
         → StandsCells cells.old items (before ++ r.session.board.round ++ behind)
-        → TurnFailed now items before behind r.session session.new cells.new) }
+        → TurnFailed now items before behind r.number r.session session.new cells.new) }
 {
     for _ in 0..u64::MAX {
         match session.turn(now, epoch) {
-            Turn::Ask(ask) => tell(cells, session, ask)?,
+            Turn::Ask(ask) => reply(cells, session, ask)?,
             turn => return Ok(turn),
         }
     }
@@ -99,69 +103,26 @@ fn turn_of(cells: &mut Cells, session: &mut Session, now: u64, epoch: u64) -> Re
     }
 }
 
-/// Answers what a session asks of a slot. After `NoMemory` the question stands, and all is as before.
-fn tell(cells: &mut Cells, session: &mut Session, ask: Ask) -> Result<(), NoMemory>
+/// Answers what a session asks of a slot, and behind one that has nothing passes over those that are known to be
+/// settled. After `NoMemory` the question stands, and all is as before.
+fn reply(cells: &mut AllItems, session: &mut Session, ask: Ask) -> Result<(), NoMemory>
     ensures ok { OnOk result (TakesAnswer ask session.old cells.old session.new cells.new) }
     ensures err { OnErr result (KeepsQuestion session.old cells.old session.new cells.new) }
 {
-    if ask.due {
-        tell_cut(cells, session, ask)
-    } else {
-        tell_waiting(cells, session, ask)
-    }
-}
-
-/// Answers with the next cut of a slot that is due, if it has one, and moves it past that. After `NoMemory` the
-/// question stands, and all is as before.
-fn tell_cut(cells: &mut Cells, session: &mut Session, ask: Ask) -> Result<(), NoMemory>
-    requires { ask.due ≡ true }
-    ensures ok { OnOk result (TakesAnswer ask session.old cells.old session.new cells.new) }
-    ensures err { OnErr result (KeepsQuestion session.old cells.old session.new cells.new) }
-{
-    match cells.look(ask.slot.item, ask.slot.slot)? {
-        None => answer_nothing(cells, session, ask),
-        Some(taken) => {
-            session.answer(ask, Reply::Taken(taken))?;
-            pass_taken(cells, ask);
+    let found = tell(cells, session, ask)?;
+    match found {
+        Found::Nothing => {
+            pass_settled(cells, session);
             Ok(())
         }
+        _ => Ok(()),
     }
-}
-
-/// Answers whether a slot that isn't due waits. After `NoMemory` the question stands, and all is as before.
-fn tell_waiting(cells: &Cells, session: &mut Session, ask: Ask) -> Result<(), NoMemory>
-    requires { ask.due ≡ false }
-    ensures ok { OnOk result (TakesAnswer ask session.old cells.now session.new cells.now) }
-    ensures err { OnErr result (KeepsQuestion session.old cells.now session.new cells.now) }
-{
-    if cells.pending(ask.slot.item, ask.slot.slot) {
-        session.answer(ask, Reply::Waiting)?;
-        Ok(())
-    } else {
-        answer_nothing(cells, session, ask)
-    }
-}
-
-/// Answers that a slot has nothing, and passes over those behind it that are known to be settled. After `NoMemory` the
-/// question stands, and all is as before.
-fn answer_nothing(cells: &Cells, session: &mut Session, ask: Ask) -> Result<(), NoMemory>
-    ensures ok { OnOk result ((now : ℕ) (items : List Item) (epoch : ℕ) (before behind : List Live) (r : Record)
-        (q : Question) → HasAsked now items epoch before behind r q session.old cells.now
-        → ask ≡ record { slot = ref_of q.live; due = q.due }
-        → (q.due ≡ true → cut (history_of items q.live.item) q.live.slot ≡ None)
-        → (q.due ≡ false → is_pending (history_of items q.live.item) q.live.slot ≡ false)
-        → GoesOn now items epoch before behind r session.new cells.now) }
-    ensures err { OnErr result (KeepsQuestion session.old cells.now session.new cells.now) }
-{
-    session.answer(ask, Reply::Nothing)?;
-    pass_settled(cells, session);
-    Ok(())
 }
 
 /// The slots that are asked next are passed over as far as they are known to be settled, where a number is left for a
 /// line.
-fn pass_settled(cells: &Cells, session: &mut Session)
-    ensures { (now : ℕ) (items : List Item) (epoch : ℕ) (before behind : List Live) (r : Record)
+fn pass_settled(cells: &AllItems, session: &mut Session)
+    ensures { (now : ℕ) (items : List Item) (epoch : ℕ) (before behind : List LiveSlot) (r : Record)
         → Unasked now items epoch before behind r session.old cells.now
         → GoesOn now items epoch before behind r session.new cells.now }
 {
@@ -171,8 +132,8 @@ fn pass_settled(cells: &Cells, session: &mut Session)
 }
 
 /// They are passed over.
-fn skip_settled(cells: &Cells, session: &mut Session)
-    ensures { (now : ℕ) (items : List Item) (epoch : ℕ) (before behind : List Live) (r : Record)
+fn skip_settled(cells: &AllItems, session: &mut Session)
+    ensures { (now : ℕ) (items : List Item) (epoch : ℕ) (before behind : List LiveSlot) (r : Record)
         → MaySkip now items epoch before behind r session.old cells.now
         → MaySkip now items epoch before behind r session.new cells.now }
 {
@@ -186,8 +147,8 @@ fn skip_settled(cells: &Cells, session: &mut Session)
 }
 
 /// Whether there is a slot that is asked next, and it is known to be settled.
-fn is_next_settled(cells: &Cells, session: &Session) -> bool
-    ensures { result ≡ true → (items : List Item) (before behind : List Live) (r : Record)
+fn is_next_settled(cells: &AllItems, session: &Session) -> bool
+    ensures { result ≡ true → (items : List Item) (before behind : List LiveSlot) (r : Record)
         → StandsSession session.now r → StandsCells cells.now items (before ++ r.session.board.round ++ behind)
         → IsNextSettled items r }
 {
@@ -195,16 +156,6 @@ fn is_next_settled(cells: &Cells, session: &Session) -> bool
         None => false,
         Some(slot) => cells.is_settled(slot.item, slot.slot),
     }
-}
-
-/// The slot moves past the cut that was taken.
-fn pass_taken(cells: &mut Cells, ask: Ask)
-    requires { IsSome (cut_of_slot cells.old ask.slot.item ask.slot.slot) }
-    ensures { (items : List Item) (a b : List Live) (v : Live) (t : Cut) → StandsCells cells.old items (a ++ v ∷ b)
-        → v.item ≡ ask.slot.item → v.number ≡ ask.slot.slot → cut (history_of items v.item) v.slot ≡ Some t
-        → StandsCells cells.new items (a ++ passed_live t v ∷ b) }
-{
-    cells.pass(ask.slot.item, ask.slot.slot);
 }
 
 /// Appends what a turn prints on a connection of this name, where this is the session's current line. A line is

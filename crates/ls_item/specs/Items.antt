@@ -4,16 +4,16 @@ use Rattle.ls_event.specs.declared.item.Kind.TheVariants as kind
 use Rattle.ls_event.specs.declared.snapshot.Snapshot.TheVariants as state
 use Rattle.ls_event.specs.Shapes.{Shape}
 use Rattle.ls_event.specs.States.{state_at}
-use Rattle.ls_item.specs.States.{Kept, shape_in}
+use Rattle.ls_item.specs.States.{KeptState, shape_in}
 use Rattle.ls_item.specs.declared.item.AnyState.{AnyState}
 use Rattle.ls_item.specs.declared.item.AnyState.TheVariants as any
 
 -- the state of an item without events
-abbrev pub without_events : Shape → Kept
+abbrev pub without_events : Shape → KeptState
 without_events p = record { shape = p; state = state_at p [] 0 }
 
 -- the shape and the state, with the places of the fields that are named as a key and a command
-abbrev pub kept_of : ℕ → ℕ → AnyState → Kept
+abbrev pub kept_of : ℕ → ℕ → AnyState → KeptState
 kept_of key command (any.Merge row) =
     record {
       shape = record { kind = kind.Merge; fields = length row; key = key; command = command };

@@ -13,7 +13,7 @@ use Rattle.ls_event.specs.Shapes.{Shape}
 use Rattle.ls_item.specs.Keys.{IsOrdered}
 
 -- an item's state and its shape
-pub record Kept : Type 0 where
+pub record KeptState : Type 0 where
   pub shape : Shape
   pub state : Snapshot
 

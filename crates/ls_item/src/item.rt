@@ -34,10 +34,10 @@ pub struct ItemState {
 
 impl Model for ItemState {
     ghost use Rattle.ls_event.specs.Shapes.{IsShape};
-    ghost use Rattle.ls_item.specs.States.{Kept};
+    ghost use Rattle.ls_item.specs.States.{KeptState};
     ghost use Rattle.ls_item.specs.Items.{kept_of};
 
-    ghost Value = { Kept };
+    ghost Value = { KeptState };
 
     ghost view = { λ s. kept_of s.key s.command s.state };
 

@@ -9,7 +9,7 @@ use Rattle.std.proofs.lemmas.List.Sums.{sum_by-append, sum_by-cons, sum_by-le}
 use Rattle.std.proofs.lemmas.Option.{slice_get-get_or, unwrap_or-slice_get}
 use Rattle.ls_value.specs.declared.limits.TheConstants.{GREATEST_NUMBER}
 use Rattle.ls_keep.specs.Keeping.{Numbered, bytes_of, may_keep, given_up_after, trimmed, pushed, marked}
-use Rattle.ls_keep.specs.Kept.{Kept, IsSound, StandsKeep, GaveUp, IsTrim, last_of, kept_text, text_of, given_of, first_given_up}
+use Rattle.ls_keep.specs.Kept.{KeptLines, IsSound, StandsKeep, GaveUp, IsTrim, last_of, kept_text, text_of, given_of, first_given_up}
 use Rattle.ls_keep.proofs.Least.{given_up_after-is, least_keeping-append}
 
 -- the first line that is kept is given up
@@ -45,7 +45,7 @@ bytes_fit bytes texts sent given_up more sound short =
     omega (arith, most, sound.bytes_are, sound.most)
 
 -- no line was given up yet
-pub gave_up_none : (k : Kept) → k.given_up ≤ k.sent → GaveUp k k
+pub gave_up_none : (k : KeptLines) → k.given_up ≤ k.sent → GaveUp k k
 gave_up_none k given =
     record {
       texts = ap (λ (n : ℕ). drop n k.texts) {x = 0} {y = k.given_up - k.given_up} (omega arith);
@@ -70,7 +70,7 @@ slice_get-drop texts n i within =
     ∙ ap (λ (t : List ℕ). Some t) (get_or-drop n texts i [])
     ∙ sym (slice_get-get_or texts (n + i) [] within)
 
-kept_text-is : (k : Kept) (n : ℕ) → k.given_up < n → n ≤ last_of k → kept_text k n ≡ slice_get k.texts (n - (k.given_up + 1))
+kept_text-is : (k : KeptLines) (n : ℕ) → k.given_up < n → n ≤ last_of k → kept_text k n ≡ slice_get k.texts (n - (k.given_up + 1))
 kept_text-is k n behind within =
     ap (λ (b : Bool). cond b (slice_get k.texts (n - (k.given_up + 1))) None)
     (and_from (nat_lt k.given_up n) (nat_le n (last_of k)) (lt-ltb k.given_up n behind) (le-leb n (last_of k) within))
@@ -79,7 +79,7 @@ some_text : (texts : List (List ℕ)) (i : ℕ) → i < length texts → slice_g
 some_text texts i within =
     slice_get-get_or texts i [] within ∙ ap (λ (t : List ℕ). Some t) (sym (unwrap_or-slice_get texts i []))
 
-pub gave_up_more : (old new : Kept) → GaveUp old new → new.given_up < new.sent → old.sent ≤ last_of old
+pub gave_up_more : (old new : KeptLines) → GaveUp old new → new.given_up < new.sent → old.sent ≤ last_of old
     → may_keep new.texts 0 ≡ false → GaveUp old (first_given_up new)
 gave_up_more old new gave less numbered over =
     let many : ℕ = new.given_up - old.given_up in
@@ -113,7 +113,7 @@ gave_up_more old new gave less numbered over =
 behind : (texts : List (List ℕ)) (g n : ℕ) → g ≤ n → drop (n - g) (drop g texts) ≡ drop n texts
 behind texts g n less = drop-drop (n - g) g texts ∙ ap (λ (m : ℕ). drop m texts) {x = g + (n - g)} {y = n} (omega (arith, less))
 
-gave_up_stands : (old new : Kept) (n : Numbered) (given_up : ℕ) → StandsKeep old n → GaveUp old new → new.given_up ≡ given_up
+gave_up_stands : (old new : KeptLines) (n : Numbered) (given_up : ℕ) → StandsKeep old n → GaveUp old new → new.given_up ≡ given_up
     → StandsKeep new (record n { given_up = given_up })
 gave_up_stands old new n given_up st gave is =
     let rose : n.given_up ≤ given_up = omega (arith, st.given_up, gave.rose, is) in
@@ -128,7 +128,7 @@ gave_up_stands old new n given_up st gave is =
       most = st.most;
     }
 
-pub trimmed_stands : (old new : Kept) (n : Numbered) → StandsKeep old n → GaveUp old new → IsTrim new → StandsKeep new (trimmed n)
+pub trimmed_stands : (old new : KeptLines) (n : Numbered) → StandsKeep old n → GaveUp old new → IsTrim new → StandsKeep new (trimmed n)
 trimmed_stands old new n st gave trim =
     gave_up_stands old new n (given_up_after n.given_up n.sent n.texts) st gave
     (given_up_after-is n.texts n.given_up new.given_up n.sent (omega (arith, st.given_up, gave.rose)) (omega (arith, gave.given, st.sent)) over may)
@@ -146,11 +146,11 @@ trimmed_stands old new n st gave trim =
     may less = ap (λ (ts : List (List ℕ)). may_keep ts 0) (sym kept) ∙ trim (omega (arith, less, gave.sent, st.sent))
 
 -- how many lines were numbered
-pub last_is : (k : Kept) (n : Numbered) → StandsKeep k n → last_of k ≡ length n.texts
+pub last_is : (k : KeptLines) (n : Numbered) → StandsKeep k n → last_of k ≡ length n.texts
 last_is k n st = omega (arith, st.given_up, st.given, st.numbered, ap length st.texts, length-drop n.given_up n.texts)
 
 -- a line is numbered, and lines are given up
-pub pushed_stands : (k k₁ k₂ : Kept) (n : Numbered) (text : List ℕ) → StandsKeep k n → last_of k < GREATEST_NUMBER
+pub pushed_stands : (k k₁ k₂ : KeptLines) (n : Numbered) (text : List ℕ) → StandsKeep k n → last_of k < GREATEST_NUMBER
     → k₁.texts ≡ k.texts ++ text ∷ [] → k₁.sent ≡ k.sent → k₁.given_up ≡ k.given_up → GaveUp k₁ k₂ → IsTrim k₂
     → StandsKeep k₂ (pushed text n)
 pushed_stands k k₁ k₂ n text st room texts sent given_up gave trim = trimmed_stands k₁ k₂ (record n { texts = n.texts ++ text ∷ [] }) stands gave trim
@@ -168,10 +168,10 @@ pushed_stands k k₁ k₂ n text st room texts sent given_up gave trim = trimmed
         }
 
 -- the next line is given, and lines are given up
-abbrev pub with_given : Kept → Kept
+abbrev pub with_given : KeptLines → KeptLines
 with_given k = record k { sent = k.sent + 1 }
 
-given_stands : (k : Kept) (n : Numbered) → StandsKeep k n → k.sent < last_of k → StandsKeep (with_given k) (record n { sent = n.sent + 1 })
+given_stands : (k : KeptLines) (n : Numbered) → StandsKeep k n → k.sent < last_of k → StandsKeep (with_given k) (record n { sent = n.sent + 1 })
 given_stands k n st more =
     record {
       texts = st.texts;
@@ -182,12 +182,12 @@ given_stands k n st more =
       most = st.most;
     }
 
-pub marked_stands : (k k₁ : Kept) (n : Numbered) → StandsKeep k n → k.sent < last_of k → GaveUp (with_given k) k₁ → IsTrim k₁
+pub marked_stands : (k k₁ : KeptLines) (n : Numbered) → StandsKeep k n → k.sent < last_of k → GaveUp (with_given k) k₁ → IsTrim k₁
     → StandsKeep k₁ (marked n)
 marked_stands k k₁ n st more gave trim = trimmed_stands (with_given k) k₁ (record n { sent = n.sent + 1 }) (given_stands k n st more) gave trim
 
 -- the text of a line that is kept
-kept_text-of : (k : Kept) (n : Numbered) (line : ℕ) → StandsKeep k n → k.given_up < line → line ≤ length n.texts
+kept_text-of : (k : KeptLines) (n : Numbered) (line : ℕ) → StandsKeep k n → k.given_up < line → line ≤ length n.texts
     → kept_text k line ≡ slice_get n.texts (line - 1)
 kept_text-of k n line st above within =
     kept_text-is k line above (omega (arith, within, last_is k n st))
@@ -196,7 +196,7 @@ kept_text-of k n line st above within =
     ∙ ap (slice_get n.texts) {x = n.given_up + (line - (k.given_up + 1))} {y = line - 1} (omega (arith, above, st.given_up))
 
 -- the line that was given is told, also where it was given up then
-pub given_is : (k k₁ : Kept) (n : Numbered) → StandsKeep k n → k.sent < last_of k → GaveUp (with_given k) k₁ → IsTrim k₁
+pub given_is : (k k₁ : KeptLines) (n : Numbered) → StandsKeep k n → k.sent < last_of k → GaveUp (with_given k) k₁ → IsTrim k₁
     → given_of k₁ ≡ text_of n.texts (n.sent + 1)
 given_is k k₁ n st more gave trim = by_order (nat_lt k₁.given_up k₁.sent) refl
   where

@@ -6,7 +6,7 @@ use Rattle.ls_keep.specs.Keeping.{Numbered, bytes_of, may_keep}
 
 -- the texts of the lines that are kept, in order; how many lines were given; the given-up number, behind which the
 -- first one that is kept stands; the text of the line that was given up last; and for how many lines more there is room
-pub record Kept : Type 0 where
+pub record KeptLines : Type 0 where
   pub texts : List (List ℕ)
   pub sent : ℕ
   pub given_up : ℕ
@@ -23,7 +23,7 @@ pub record IsSound (bytes : ℕ) (texts : List (List ℕ)) (sent given_up : ℕ)
   pub most : given_up + length texts ≤ GREATEST_NUMBER
 
 -- it stands for numbered lines: those behind the given-up number are kept, and all numbers are in their order and range
-pub record StandsKeep (k : Kept) (n : Numbered) : Type 0 where
+pub record StandsKeep (k : KeptLines) (n : Numbered) : Type 0 where
   pub texts : k.texts ≡ drop n.given_up n.texts
   pub sent : k.sent ≡ n.sent
   pub given_up : k.given_up ≡ n.given_up
@@ -32,14 +32,14 @@ pub record StandsKeep (k : Kept) (n : Numbered) : Type 0 where
   pub most : length n.texts ≤ GREATEST_NUMBER
 
 -- the number of the last line
-abbrev pub last_of : Kept → ℕ
+abbrev pub last_of : KeptLines → ℕ
 last_of k = k.given_up + length k.texts
 
 -- whether the line of a number is kept, and its text
-abbrev pub has_kept : Kept → ℕ → Bool
+abbrev pub has_kept : KeptLines → ℕ → Bool
 has_kept k n = nat_lt k.given_up n && nat_le n (last_of k)
 
-abbrev pub kept_text : Kept → ℕ → Option (List ℕ)
+abbrev pub kept_text : KeptLines → ℕ → Option (List ℕ)
 kept_text k n = if has_kept k n then slice_get k.texts (n - (k.given_up + 1)) else None
 
 -- the text of a line, by its number from 1; past the last line it is empty
@@ -47,17 +47,17 @@ abbrev pub text_of : List (List ℕ) → ℕ → List ℕ
 text_of texts n = unwrap_or (slice_get texts (n - 1)) []
 
 -- the text of the line that was given last: it is kept, or it was given up as it was given
-abbrev pub given_of : Kept → List ℕ
+abbrev pub given_of : KeptLines → List ℕ
 given_of k = unwrap_or (kept_text k k.sent) k.freed
 
 -- the first line that is kept is given up
-abbrev pub first_given_up : Kept → Kept
+abbrev pub first_given_up : KeptLines → KeptLines
 first_given_up k =
     record k { texts = drop 1 k.texts; given_up = k.given_up + 1; freed = text_of k.texts 1; spare = k.spare + 1 }
 
 -- lines were given up in their order, each one as it was given and as the lines from it on were too many to keep or too
 -- long; and the text of the last of them is still there, or the one before where none was
-pub record GaveUp (old new : Kept) : Type 0 where
+pub record GaveUp (old new : KeptLines) : Type 0 where
   pub texts : new.texts ≡ drop (new.given_up - old.given_up) old.texts
   pub sent : new.sent ≡ old.sent
   pub rose : old.given_up ≤ new.given_up
@@ -68,5 +68,5 @@ pub record GaveUp (old new : Kept) : Type 0 where
   pub room : old.spare ≤ new.spare
 
 -- no more lines are to be given up: all that were given are, or those that are kept may be
-abbrev pub IsTrim : Kept → Type 0
+abbrev pub IsTrim : KeptLines → Type 0
 IsTrim k = k.given_up < k.sent → may_keep k.texts 0 ≡ true

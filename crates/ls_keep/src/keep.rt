@@ -35,9 +35,9 @@ pub struct Keep {
 impl Model for Keep {
     ghost use Rattle.std.specs.Prelude.{◌-◌};
     ghost use Rattle.std.specs.VecDeque.{deque_len, deque_capacity};
-    ghost use Rattle.ls_keep.specs.Kept.{Kept, IsSound};
+    ghost use Rattle.ls_keep.specs.Kept.{KeptLines, IsSound};
 
-    ghost Value = { Kept };
+    ghost Value = { KeptLines };
 
     ghost view = { λ k. record {
       texts = k.lines.items;
@@ -55,6 +55,7 @@ impl Keep {
     pub fn new(alloc: Global) -> Result<Keep, NoMemory>
         ensures stands { IfOk result (λ k. StandsKeep k (record { texts = []; sent = 0; given_up = 0 })) }
         ensures freed { IfOk result (λ k. k.freed ≡ []) }
+        ensures memory { OnErr result ⊥ }
     {
         Ok(Keep {
             lines: VecDeque::new(alloc),
@@ -136,6 +137,38 @@ impl Keep {
         }
         self.sent = count;
         Ok(())
+    }
+
+    /// All lines are given up, as if each was given, and their memory is given back. No memory is taken.
+    pub fn close(&mut self, alloc: Global)
+        ensures { self.new ≡ record {
+          texts = [];
+          sent = last_of self.old;
+          given_up = last_of self.old;
+          freed = [];
+          spare = self.new.spare;
+        } }
+    {
+        self.clear();
+        self.lines = VecDeque::new(alloc);
+        self.freed = Bytes::from_vec(Vec::new(alloc));
+    }
+
+    /// All lines are given up, as if each was given. The room for lines stays. No memory is taken.
+    pub fn clear(&mut self)
+        ensures rest { self.new ≡ record self.old {
+          texts = [];
+          sent = last_of self.old;
+          given_up = last_of self.old;
+          spare = self.new.spare;
+        } }
+        ensures room { self.old.spare ≤ self.new.spare }
+    {
+        let last = self.last();
+        self.lines.clear();
+        self.bytes = 0;
+        self.sent = last;
+        self.given_up = last;
     }
 
     /// The text of a line by its number: `None` exactly where it isn't kept, or beyond the last one.

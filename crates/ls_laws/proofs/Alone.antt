@@ -21,13 +21,22 @@ use Rattle.ls_step.specs.declared.out.Out.TheVariants as out
 use Rattle.ls_step.specs.declared.step.Step.{Step}
 use Rattle.ls_step.specs.declared.step.Step.TheVariants as step
 use Rattle.ls_step.specs.Adding.{add_pairs}
-use Rattle.ls_world.specs.Cases.{with_found, first_code}
-use Rattle.ls_world.specs.World.{World, Item, Live, Board, Session, Connection, definitions, history_of, change, live_at, added, removed, enqueued_in}
-use Rattle.ls_world.specs.World.{free_number, on_board, trimmed, numbered, ended, is_alive, reconfigured, constrained, rebound, forced, is_bound, unbound_at}
-use Rattle.ls_world.specs.Acting.{message_of, asks_of, subscribed, free_slots, add_code, change_code, constrain_code, bind_code, destroyed}
-use Rattle.ls_world.specs.Steps.{Stepped, Once, behind, repeated, stays, ends, goes_on, with_session, session_of, name_of, on}
-use Rattle.ls_world.specs.Steps.{refuses, operated, operates, session_named, acts, is_opening, malformed, request_over, requests, enqueue_once, TurnGives, Gave}
-use Rattle.ls_world.specs.Steps.{Idle, NotDue, Spent, Superseded, Unbound, Over, SessionTurn, session_turn, took, take_once, epoch_of, link_of, with_link}
+use Rattle.ls_record.specs.Cases.{with_found, first_code}
+use Rattle.ls_world.specs.World.{World, Connection}
+use Rattle.ls_record.specs.Records.{Item, LiveSlot, Board, Session, definitions, history_of, change, live_at, added}
+use Rattle.ls_record.specs.Records.{removed, enqueued_in}
+use Rattle.ls_record.specs.Records.{free_number, on_board, trimmed, numbered, ended, is_alive, reconfigured}
+use Rattle.ls_record.specs.Records.{constrained, rebound, forced, is_bound, unbound_at}
+use Rattle.ls_record.specs.Acting.{message_of, asks_of, free_slots, change_code, constrain_code, bind_code, destroyed}
+use Rattle.ls_world.specs.Acting.{subscribed, add_code}
+use Rattle.ls_world.specs.Steps.{Stepped, Once, behind, repeated, stays, ends, goes_on, with_session, session_of}
+use Rattle.ls_world.specs.Steps.{name_of, on}
+use Rattle.ls_world.specs.Steps.{refuses, operated, operates, session_named, acts, is_opening, malformed, requests}
+use Rattle.ls_world.specs.Steps.{enqueue_once}
+use Rattle.ls_record.specs.Acting.{request_over}
+use Rattle.ls_record.specs.Turning.{TurnGives, Send}
+use Rattle.ls_record.specs.Turning.{Idle, NotDue, Spent, Superseded, Unbound, Ended, SessionTurn, session_turn}
+use Rattle.ls_world.specs.Steps.{took, take_once, epoch_of, link_of, with_link}
 use Rattle.ls_world.specs.Steps.{refuses_stream, bound, binds, loses, does}
 use Rattle.ls_world.proofs.Parts.{enqueued_by}
 use Rattle.ls_laws.specs.Alone.{unnumbered_slot, unnumbered, Seen, seen, connection_of, session_asked, is_own}
@@ -150,13 +159,13 @@ took_alike n c w v s t s' t' g h r is same e = subst (λ x. OnceAs (Standing n c
     after = record { alike = changed_alike n c w v s t (λ old. s') (λ old. t') r.alike is same; own = r.own }
 
     by_gives : (x : TurnGives) → OnceAs (Standing n c) (took w c n s' x) (took v c n t' x)
-    by_gives (Gave text) = record { out = ap (λ name. out.Line name text) (same_name n c w v r.alike); more = refl; after = after }
+    by_gives (Send text) = record { out = ap (λ name. out.Line name text) (same_name n c w v r.alike); more = refl; after = after }
     by_gives Idle = record { out = refl; more = refl; after = after }
     by_gives (NotDue tick) = record { out = refl; more = refl; after = after }
     by_gives Spent = record { out = refl; more = refl; after = r }
     by_gives (Superseded epoch) = record { out = refl; more = refl; after = r }
     by_gives Unbound = record { out = refl; more = refl; after = r }
-    by_gives (Over code) = record { out = refl; more = refl; after = r }
+    by_gives (Ended code) = record { out = refl; more = refl; after = r }
 
 take_alike : (n c : ℕ) (w v : World) → Standing n c w v → OnceAs (Standing n c) (take_once c w) (take_once c v)
 take_alike n c w v r =
@@ -179,7 +188,7 @@ enqueue_alike items items' sub rank s t e same =
     ∙ (λ i. on_board (enqueued_in (e i) sub rank) (same i))
     ∙ ap (λ (b : Board). record t { board = b }) (enqueued_same items' sub rank t.board)
 
-slot_alike : (n c sub rank : ℕ) (w v : World) (s t : Session) (o p : Option Live) → Standing n c w v → Sessions n w v s t
+slot_alike : (n c sub rank : ℕ) (w v : World) (s t : Session) (o p : Option LiveSlot) → Standing n c w v → Sessions n w v s t
     → option_map unnumbered_slot o ≡ option_map unnumbered_slot p → OnceAs (Standing n c) (enqueued_by w n sub rank o) (enqueued_by v n sub rank p)
 slot_alike n c sub rank w v s t None None r is e = record { out = refl; more = refl; after = r }
 slot_alike n c sub rank w v s t None (Some b) r is e = absurd (let x : None ≡ Some (unnumbered_slot b) = e in cc)
@@ -198,7 +207,7 @@ slot_alike n c sub rank w v s t (Some a) (Some b) r is e =
         (ends v out.UpToDate))
     by_test true true q =
         record {
-          out = ap (λ (y : Live). out.Moved (y.slot.last + 1)) x;
+          out = ap (λ (y : LiveSlot). out.Moved (y.slot.last + 1)) x;
           more = refl;
           after = record {
             alike = changed_alike n c w v s t (on_board (enqueued_in w.items sub rank)) (on_board (enqueued_in v.items sub rank)) r.alike is

@@ -18,21 +18,33 @@ use Rattle.ls_request.specs.Requests.{req_behind}
 use Rattle.ls_step.specs.declared.step.Step.{Step}
 use Rattle.ls_step.specs.declared.step.Step.TheVariants as step
 use Rattle.ls_step.specs.Adding.{add_pairs}
-use Rattle.ls_world.specs.World.{World, Item, Live, Board, Session, Rate, history_of, change, live_at, removed, enqueued_in, on_board, opened, ended}
-use Rattle.ls_world.specs.World.{taken_in, is_due, reconfigured, constrained, numbered, forced, rebound, is_bound, unbound_at, is_timed_out, unless_timed_out}
-use Rattle.ls_world.specs.World.{timed_out}
-use Rattle.ls_world.specs.Acting.{subscribed, add_code, change_code, constrain_code, create_code, bind_code, destroyed}
-use Rattle.ls_world.specs.Steps.{Stepped, Once, session_of, is_whole, cause_to_refuse, publishes, creates, operated, operates, session_named, acts}
-use Rattle.ls_world.specs.Steps.{is_opening, malformed, request_over, requests, connects, plain_create, enqueue_once, TurnGives, Gave, Idle, NotDue, Spent}
-use Rattle.ls_world.specs.Steps.{Over}
-use Rattle.ls_world.specs.Steps.{Superseded, Unbound, SessionTurn, session_turn, took, take_once, epoch_of, link_of, binds, loses, does}
-use Rattle.ls_world.specs.Lawful.{Each}
-use Rattle.ls_world.proofs.Each.{each_mapped, each_changed, each_append, each_at}
+use Rattle.ls_world.specs.World.{World}
+use Rattle.ls_record.specs.Records.{Item, LiveSlot, Board, Session, Rate, history_of, change, live_at, removed}
+use Rattle.ls_record.specs.Records.{enqueued_in, on_board, opened, ended}
+use Rattle.ls_record.specs.Records.{taken_in, is_due, reconfigured, constrained, numbered, forced, rebound, is_bound}
+use Rattle.ls_record.specs.Records.{unbound_at, is_timed_out, unless_timed_out}
+use Rattle.ls_record.specs.Records.{timed_out}
+use Rattle.ls_world.specs.Acting.{subscribed, add_code, create_code}
+use Rattle.ls_record.specs.Acting.{change_code, constrain_code, bind_code, destroyed}
+use Rattle.ls_world.specs.Steps.{Stepped, Once, session_of, cause_to_refuse, publishes, creates, operated, operates}
+use Rattle.ls_world.specs.Steps.{session_named, acts}
+use Rattle.ls_record.specs.Records.{is_whole}
+use Rattle.ls_world.specs.Steps.{is_opening, malformed, requests, connects, plain_create, enqueue_once}
+use Rattle.ls_record.specs.Acting.{request_over}
+use Rattle.ls_record.specs.Turning.{TurnGives, Send, Idle, NotDue, Spent}
+use Rattle.ls_record.specs.Turning.{Ended}
+use Rattle.ls_record.specs.Turning.{Superseded, Unbound, SessionTurn, session_turn}
+use Rattle.ls_world.specs.Steps.{took, take_once, epoch_of, link_of, binds, loses, does}
+use Rattle.ls_value.specs.Each.{Each}
+use Rattle.ls_record.proofs.Each.{each_mapped, each_changed, each_at}
+use Rattle.ls_value.proofs.Each.{each_append}
 use Rattle.ls_world.proofs.Parts.{enqueued_by}
-use Rattle.ls_world.proofs.Rules.{found_rule, session_rule, cond_rule, repeated_keeps}
+use Rattle.ls_record.proofs.Rules.{found_rule, cond_rule}
+use Rattle.ls_world.proofs.Rules.{session_rule, repeated_keeps}
 use Rattle.ls_world.proofs.Unmoved.{declared_by}
-use Rattle.ls_laws.proofs.Requested.{IsRate, IsOp, IsRequest, request_over_is}
-use Rattle.ls_laws.proofs.Sessions.{turn_rule, next_rule, living_rule}
+use Rattle.ls_lawful.proofs.Requested.{IsRate, IsOp, IsRequest, request_over_is}
+use Rattle.ls_lawful.proofs.Sessions.{turn_rule, next_rule}
+use Rattle.ls_laws.proofs.Living.{living_rule}
 
 -- what is true of a board and a rate at a tick is true of a new session, and after each step of a session
 pub record Kept (Q : ℕ → Board → Rate → Type 0) : Type 0 where
@@ -120,7 +132,7 @@ of_publishes Q w item x e =
     (λ whole. found_rule (λ (y : Stepped). OfEach Q y.after) (cause_to_refuse w item x i) _ _ (λ none. e) (λ cause y. e)) (λ part. e))
 
 -- enqueues and turns
-of_enqueued : (Q : ℕ → Board → Rate → Type 0) → Kept Q → (w : World) (n sub rank : ℕ) (s : Session) (o : Option Live) → slice_get w.sessions n ≡ Some s
+of_enqueued : (Q : ℕ → Board → Rate → Type 0) → Kept Q → (w : World) (n sub rank : ℕ) (s : Session) (o : Option LiveSlot) → slice_get w.sessions n ≡ Some s
     → OfEach Q w → OfEach Q (enqueued_by w n sub rank o).after
 of_enqueued Q k w n sub rank s None is e = e
 of_enqueued Q k w n sub rank s (Some v) is e =
@@ -147,13 +159,13 @@ of_turned Q k now items epoch s q =
 
 of_took : (Q : ℕ → Board → Rate → Type 0) (w : World) (connection n : ℕ) (old new : Session) (g : TurnGives) → slice_get w.sessions n ≡ Some old
     → Q w.tick new.board new.rate → OfEach Q w → OfEach Q (took w connection n new g).after
-of_took Q w connection n old new (Gave text) is q e = of_changed Q w n old (λ x. new) is (λ x. q) e
+of_took Q w connection n old new (Send text) is q e = of_changed Q w n old (λ x. new) is (λ x. q) e
 of_took Q w connection n old new Idle is q e = of_changed Q w n old (λ x. new) is (λ x. q) e
 of_took Q w connection n old new (NotDue tick) is q e = of_changed Q w n old (λ x. new) is (λ x. q) e
 of_took Q w connection n old new Spent is q e = e
 of_took Q w connection n old new (Superseded epoch) is q e = e
 of_took Q w connection n old new Unbound is q e = e
-of_took Q w connection n old new (Over code) is q e = e
+of_took Q w connection n old new (Ended code) is q e = e
 
 -- a loss, and sessions that time out
 of_loses : (Q : ℕ → Board → Rate → Type 0) (w : World) (connection : ℕ) → OfEach Q w → OfEach Q (loses w connection).after

@@ -12,17 +12,18 @@ use Rattle.ls_budget.specs.Window.{latest_tick}
 use Rattle.ls_budget.proofs.Credits.{credit_stays, credit_tick_first}
 use Rattle.ls_event.specs.Cuts.{is_pending}
 use Rattle.ls_event.specs.Slots.{Slot}
-use Rattle.ls_world.specs.Came.{Came}
-use Rattle.ls_world.specs.Cutting.{turn}
-use Rattle.ls_world.specs.Lines.{Line, Tells, came, updated}
-use Rattle.ls_world.specs.World.{Item, Live, Session, RoundLine, Round, history_of, live_turn, round_of, taken_in, numbered, due_at, is_due, is_waiting}
-use Rattle.ls_world.specs.World.{least_of, waits_of, least_wait}
-use Rattle.ls_world.specs.Steps.{Gave, Idle, NotDue, SessionTurn, waits_until, session_turn}
-use Rattle.ls_world.specs.Lawful.{Each}
-use Rattle.ls_world.proofs.Each.{each_map, each_contains}
-use Rattle.ls_world.proofs.Parts.{turn_if, met_by, given_by}
+use Rattle.ls_record.specs.Came.{Came}
+use Rattle.ls_record.specs.Cutting.{turn}
+use Rattle.ls_record.specs.Lines.{Line, Tells, came, updated}
+use Rattle.ls_record.specs.Records.{Item, LiveSlot, Session, RoundLine, Round, history_of, live_turn, round_of, taken_in}
+use Rattle.ls_record.specs.Records.{numbered, due_at, is_due, is_waiting}
+use Rattle.ls_record.specs.Records.{least_of, waits_of, least_wait}
+use Rattle.ls_record.specs.Turning.{Send, Idle, NotDue, SessionTurn, waits_until, session_turn}
+use Rattle.ls_value.specs.Each.{Each}
+use Rattle.ls_record.proofs.Each.{each_map, each_contains}
+use Rattle.ls_record.proofs.Parts.{turn_if, met_by, given_by}
 use Rattle.ls_laws.specs.Budgets.{spends_of, IsOfDue, NumbersDue, IsLeastWait, is_any_due}
-use Rattle.ls_laws.proofs.Sessions.{turn_rule, next_rule}
+use Rattle.ls_lawful.proofs.Sessions.{turn_rule, next_rule}
 
 -- a slot is due where its frequency's tick is reached and there is credit
 max_test : (a b now : ℕ) → nat_le (max a b) now ≡ (nat_le a now && nat_le b now)
@@ -36,7 +37,7 @@ credit_test (Some r) spends now = by_test (has_credit r spends now)
     by_test true = grind (arith, nat_tests)
     by_test false = grind (arith, nat_tests)
 
-pub due_is : (now : ℕ) (s : Session) (v : Live) → is_due now s v
+pub due_is : (now : ℕ) (s : Session) (v : LiveSlot) → is_due now s v
     ≡ (nat_le (frequency_tick v.frequency (updated v.sub v.rank s.board.lines)) now && allows s.rate.limit (spends_of s) now)
 due_is now s v =
     max_test (frequency_tick v.frequency (updated v.sub v.rank s.board.lines)) (credit_tick s.rate.limit (spends_of s) now) now
@@ -50,19 +51,19 @@ pub contains_behind : {A : Type 0} (y x : A) (xs : List A) → Contains xs x →
 contains_behind y x xs c = (suc c.0, omega (arith, c.1), c.2)
 
 -- a round's line is that of a slot that is due
-record Gives (is_due : Live → Bool) (vs : List Live) (t : RoundLine) : Type 0 where
-  slot : Live
+record Gives (is_due : LiveSlot → Bool) (vs : List LiveSlot) (t : RoundLine) : Type 0 where
+  slot : LiveSlot
   is_in : Contains vs slot
   due : is_due slot ≡ true
   same : t.live ≡ record slot { slot = t.live.slot }
 
-gives_behind : (is_due : Live → Bool) (v : Live) (vs : List Live) (t : RoundLine) → Gives is_due vs t → Gives is_due (v ∷ vs) t
+gives_behind : (is_due : LiveSlot → Bool) (v : LiveSlot) (vs : List LiveSlot) (t : RoundLine) → Gives is_due vs t → Gives is_due (v ∷ vs) t
 gives_behind is_due v vs t g = record { slot = g.slot; is_in = contains_behind v g.slot vs g.is_in; due = g.due; same = g.same }
 
 the_line : (a b : RoundLine) → Some a ≡ Some b → a ≡ b
 the_line a b is = cc
 
-met_gives : (is_due : Live → Bool) (v : Live) (s : Slot) (o : Option Came) (vs : List Live) (rest : Round) (t : RoundLine)
+met_gives : (is_due : LiveSlot → Bool) (v : LiveSlot) (s : Slot) (o : Option Came) (vs : List LiveSlot) (rest : Round) (t : RoundLine)
     → IfSome o (λ c. is_due v ≡ true) → (rest.came ≡ Some t → Gives is_due vs t) → (met_by (record v { slot = s }) o vs rest).came ≡ Some t
     → Gives is_due (v ∷ vs) t
 met_gives is_due v s None vs rest t due more is = gives_behind is_due v vs t (more is)
@@ -76,7 +77,7 @@ met_gives is_due v s (Some c) vs rest t due more is =
     }
 
 -- a slot that isn't due gives none
-came_of_due : (is_due : Live → Bool) (items : List Item) (lines : List Line) (v : Live) → IfSome (live_turn is_due items lines v).came (λ c. is_due v ≡ true)
+came_of_due : (is_due : LiveSlot → Bool) (items : List Item) (lines : List Line) (v : LiveSlot) → IfSome (live_turn is_due items lines v).came (λ c. is_due v ≡ true)
 came_of_due is_due items lines v = by_due (is_due v) refl
   where
     always : (o : Option Came) → is_due v ≡ true → IfSome o (λ c. is_due v ≡ true)
@@ -88,7 +89,7 @@ came_of_due is_due items lines v = by_due (is_due v) refl
     by_due true e = always (turn (history_of items v.item) v.wanted v.slot (came v.sub v.rank lines)).came e
     by_due false e = tt
 
-round_gives : (is_due : Live → Bool) (items : List Item) (lines : List Line) (vs : List Live) (t : RoundLine)
+round_gives : (is_due : LiveSlot → Bool) (items : List Item) (lines : List Line) (vs : List LiveSlot) (t : RoundLine)
     → (round_of is_due items lines vs).came ≡ Some t → Gives is_due vs t
 round_gives is_due items lines [] t is = absurd (let x : None ≡ Some t = is in cc)
 round_gives is_due items lines (v ∷ vs) t is =
@@ -132,7 +133,7 @@ turn_numbers now items epoch s =
           due = d.due;
           came = t.came;
           is = ap (λ o. (given_by now s.board r.kept o).lines) some
-              ∙ ap (λ (v : Live). Tells v.sub v.rank now t.came ∷ s.board.lines) d.same;
+              ∙ ap (λ (v : LiveSlot). Tells v.sub v.rank now t.came ∷ s.board.lines) d.same;
         }
 
 -- what a turn gives where it gives no line
@@ -152,7 +153,7 @@ turn_waits now items epoch s tick =
       over = λ code is. cc;
     })
   where
-    no_line : (text : List ℕ) → Gave text ≡ NotDue tick → least_wait now items s ≡ Some tick
+    no_line : (text : List ℕ) → Send text ≡ NotDue tick → least_wait now items s ≡ Some tick
     no_line text is = cc
 
     by_wait : (o : Option ℕ) → waits_until o ≡ NotDue tick → o ≡ Some tick
@@ -174,7 +175,7 @@ turn_idle now items epoch s =
       over = λ code is. cc;
     })
   where
-    no_line : (text : List ℕ) → Gave text ≡ Idle → least_wait now items s ≡ None
+    no_line : (text : List ℕ) → Send text ≡ Idle → least_wait now items s ≡ None
     no_line text is = cc
 
     by_wait : (o : Option ℕ) → waits_until o ≡ Idle → o ≡ None
@@ -182,17 +183,17 @@ turn_idle now items epoch s =
     by_wait (Some n) is = cc
 
 -- the least wait of slots
-record Least (now : ℕ) (items : List Item) (s : Session) (vs : List Live) (tick : ℕ) : Type 0 where
-  slot : Live
+record Least (now : ℕ) (items : List Item) (s : Session) (vs : List LiveSlot) (tick : ℕ) : Type 0 where
+  slot : LiveSlot
   is_in : Contains vs slot
   waits : is_waiting now items s slot ≡ true
   at : due_at now s slot ≡ tick
   least : Each (λ v. is_waiting now items s v ≡ true → tick ≤ due_at now s v) vs
 
-abbrev NoneWaits : ℕ → List Item → Session → List Live → Type 0
+abbrev NoneWaits : ℕ → List Item → Session → List LiveSlot → Type 0
 NoneWaits now items s vs = Each (λ v. is_waiting now items s v ≡ false) vs
 
-none_waits : (now : ℕ) (items : List Item) (s : Session) (vs : List Live) → least_of (waits_of now items s vs) ≡ None → NoneWaits now items s vs
+none_waits : (now : ℕ) (items : List Item) (s : Session) (vs : List LiveSlot) → least_of (waits_of now items s vs) ≡ None → NoneWaits now items s vs
 none_waits now items s [] is = tt
 none_waits now items s (v ∷ vs) is = by_test (is_waiting now items s v) refl (none_waits now items s vs) is
   where
@@ -203,18 +204,18 @@ none_waits now items s (v ∷ vs) is = by_test (is_waiting now items s v) refl (
     by_test false e more is = (e, more is)
 
 -- a slot in front that waits longer or not at all
-least_behind : (now : ℕ) (items : List Item) (s : Session) (v : Live) (vs : List Live) (tick : ℕ)
+least_behind : (now : ℕ) (items : List Item) (s : Session) (v : LiveSlot) (vs : List LiveSlot) (tick : ℕ)
     → (is_waiting now items s v ≡ true → tick ≤ due_at now s v) → Least now items s vs tick → Least now items s (v ∷ vs) tick
 least_behind now items s v vs tick more k =
     record { slot = k.slot; is_in = contains_behind v k.slot vs k.is_in; waits = k.waits; at = k.at; least = (more, k.least) }
 
 -- and one that waits no longer
-least_first : (now : ℕ) (items : List Item) (s : Session) (v : Live) (vs : List Live) (tick : ℕ) → is_waiting now items s v ≡ true
+least_first : (now : ℕ) (items : List Item) (s : Session) (v : LiveSlot) (vs : List LiveSlot) (tick : ℕ) → is_waiting now items s v ≡ true
     → due_at now s v ≡ tick → Each (λ u. is_waiting now items s u ≡ true → tick ≤ due_at now s u) vs → Least now items s (v ∷ vs) tick
 least_first now items s v vs tick waits at least =
     record { slot = v; is_in = contains_first v vs; waits = waits; at = at; least = ((λ w. omega (arith, at)), least) }
 
-least_met : (now : ℕ) (items : List Item) (s : Session) (v : Live) (vs : List Live) (tick : ℕ) (o : Option ℕ) → is_waiting now items s v ≡ true
+least_met : (now : ℕ) (items : List Item) (s : Session) (v : LiveSlot) (vs : List LiveSlot) (tick : ℕ) (o : Option ℕ) → is_waiting now items s v ≡ true
     → (o ≡ None → NoneWaits now items s vs) → ((n : ℕ) → o ≡ Some n → Least now items s vs n)
     → Some (option_map_or (min (due_at now s v)) o (due_at now s v)) ≡ Some tick → Least now items s (v ∷ vs) tick
 least_met now items s v vs tick None waits none some is =
@@ -242,7 +243,7 @@ least_met now items s v vs tick (Some n) waits none some is = by_order (nat_le (
         let at : n ≡ tick = grind (arith, nat_tests, least, high) in
         least_behind now items s v vs tick (λ yes. omega (arith, high, at)) (subst (Least now items s vs) at k)
 
-least_is : (now : ℕ) (items : List Item) (s : Session) (vs : List Live) (tick : ℕ) → least_of (waits_of now items s vs) ≡ Some tick
+least_is : (now : ℕ) (items : List Item) (s : Session) (vs : List LiveSlot) (tick : ℕ) → least_of (waits_of now items s vs) ≡ Some tick
     → Least now items s vs tick
 least_is now items s [] tick is = absurd (let x : None ≡ Some tick = is in cc)
 least_is now items s (v ∷ vs) tick is = by_test (is_waiting now items s v) refl (least_is now items s vs) is
@@ -266,7 +267,7 @@ wait_is_least now items epoch s tick is =
       least = λ v is_in. each_contains (λ u. is_waiting now items s u ≡ true → tick ≤ due_at now s u) v s.board.round k.least is_in;
     }
 
-pub idle_waits : (now : ℕ) (items : List Item) (epoch : ℕ) (s : Session) → (session_turn now items epoch s).gives ≡ Idle → (v : Live)
+pub idle_waits : (now : ℕ) (items : List Item) (epoch : ℕ) (s : Session) → (session_turn now items epoch s).gives ≡ Idle → (v : LiveSlot)
     → Contains s.board.round v → is_waiting now items s v ≡ false
 idle_waits now items epoch s is v is_in =
     each_contains (λ u. is_waiting now items s u ≡ false) v s.board.round (none_waits now items s s.board.round (turn_idle now items epoch s is)) is_in
@@ -275,7 +276,7 @@ not_true : (b : Bool) → not b ≡ true → b ≡ false
 not_true true e = cc
 not_true false e = refl
 
-waits_later : (now : ℕ) (items : List Item) (s : Session) (v : Live) → is_waiting now items s v ≡ true → now < due_at now s v
+waits_later : (now : ℕ) (items : List Item) (s : Session) (v : LiveSlot) → is_waiting now items s v ≡ true → now < due_at now s v
 waits_later now items s v w =
     let e : nat_le (due_at now s v) now ≡ false = not_true (is_due now s v) (and_left (not (is_due now s v)) (is_pending (history_of items v.item) v.slot) w) in
     grind (arith, nat_tests, e)
@@ -289,7 +290,7 @@ allows_stays : (rate : Option ℕ) (spends : List Spend) (now later : ℕ) → n
 allows_stays None spends now later more is = refl
 allows_stays (Some r) spends now later more is = credit_stays r spends now later more is
 
-slot_first : (now : ℕ) (s : Session) (v : Live) → ForSome s.rate.limit (λ r. 0 < r) → latest_tick (spends_of s) ≤ now
+slot_first : (now : ℕ) (s : Session) (v : LiveSlot) → ForSome s.rate.limit (λ r. 0 < r) → latest_tick (spends_of s) ≤ now
     → IsFirst (λ m. is_due m s v) now (due_at now s v)
 slot_first now s v some behind =
     record {
@@ -356,7 +357,7 @@ wait_is_first now items epoch s tick some behind is =
           (λ v f. by_waiting v m from before f (is_waiting now items s v) refl) k.least);
     }
   where
-    by_waiting : (v : Live) (m : ℕ) → now ≤ m → m < tick → (is_waiting now items s v ≡ true → tick ≤ due_at now s v) → (b : Bool)
+    by_waiting : (v : LiveSlot) (m : ℕ) → now ≤ m → m < tick → (is_waiting now items s v ≡ true → tick ≤ due_at now s v) → (b : Bool)
         → is_waiting now items s v ≡ b → (b && is_due m s v) ≡ false
     by_waiting v m from before f true e = (slot_first now s v some behind).not_before m from (omega (arith, f e, before))
     by_waiting v m from before f false e = refl

@@ -25,30 +25,32 @@ use Rattle.ls_step.specs.declared.step.Step.{Step}
 use Rattle.ls_step.specs.declared.step.Repeat.{Repeat}
 use Rattle.ls_step.specs.declared.step.Step.TheVariants as step
 use Rattle.ls_step.specs.Adding.{are_utf8, all_pairs, parameter}
-use Rattle.ls_world.specs.Came.{Came}
-use Rattle.ls_world.specs.Cutting.{Wanted, turn}
-use Rattle.ls_world.specs.Lawful.{IsMergeLine, LawfulMerge}
-use Rattle.ls_world.specs.Lines.{Ends}
-use Rattle.ls_world.specs.Cases.{first_code}
-use Rattle.ls_world.specs.World.{World, Live, Session, is_used, empty, opened}
+use Rattle.ls_record.specs.Came.{Came}
+use Rattle.ls_record.specs.Cutting.{Wanted, turn}
+use Rattle.ls_lawful.specs.Lawful.{IsMergeLine, LawfulMerge}
+use Rattle.ls_record.specs.Lines.{Ends}
+use Rattle.ls_record.specs.Cases.{first_code}
+use Rattle.ls_world.specs.World.{World, empty}
+use Rattle.ls_record.specs.Records.{LiveSlot, Session, is_used, opened}
 use Rattle.ls_request.specs.declared.request.Add.{Add}
-use Rattle.ls_world.specs.Acting.{is_group, group_of, is_allowed, is_schema, is_full, are_too_many, are_spent, add_refusals}
+use Rattle.ls_record.specs.Acting.{is_group, group_of, is_allowed, is_schema, is_full, are_too_many, are_spent}
+use Rattle.ls_record.specs.Acting.{add_refusals}
 use Rattle.ls_world.specs.Steps.{Stepped, link_of, requests, does}
 use Rattle.ls_laws.specs.Streams.{Had, held, BindsWithItsCount}
 use Rattle.ls_laws.specs.Alone.{RunStep, First, Second, Own, Shared, firsts, told, DifferElsewhere}
-use Rattle.ls_world.specs.Script.{counted, lines_of, output_of, text_of_outs, done, has_bad_line}
+use Rattle.ls_world.specs.Script.{with_line_read, lines_of, output_of, text_of_outs, done, has_bad_line}
 
--- one line after another, each counted, and what is printed for them
+-- one line after another, each with_line_read, and what is printed for them
 abbrev printed_from : World → List (World → Stepped) → List ℕ
 printed_from w [] = []
-printed_from w (line ∷ lines) = text_of_outs (line (counted w)).outs ++ printed_from (line (counted w)).after lines
+printed_from w (line ∷ lines) = text_of_outs (line (with_line_read w)).outs ++ printed_from (line (with_line_read w)).after lines
 
 abbrev printed : List (World → Stepped) → List ℕ
 printed lines = printed_from empty lines
 
 abbrev after : World → List (World → Stepped) → World
 after w [] = w
-after w (line ∷ lines) = after (line (counted w)).after lines
+after w (line ∷ lines) = after (line (with_line_read w)).after lines
 
 -- `item q KIND FIELDS`, `open c` and `conn c ws`
 abbrev item : Kind → List (List ℕ) → World → Stepped
@@ -190,7 +192,7 @@ pub raw_twice : printed (item kind.Merge (codes "x" ∷ []) ∷ opens ∷ add mo
 unfolding digits
 raw_twice = refl
 
--- behind 300 updates the first 44 are counted, and the next one is told
+-- behind 300 updates the first 44 are with_line_read, and the next one is told
 abbrev raw_behind : Slot
 raw_behind = record (joined (plan_of (record { kind = kind.Merge; fields = 1; key = 0; command = 0 }) [] mode.Raw 1) [] None) { last = 300 }
 
@@ -561,7 +563,7 @@ unfolding digits
 too_many_lines = refl
 
 -- and too many subscriptions
-abbrev slot_of : ℕ → Live
+abbrev slot_of : ℕ → LiveSlot
 slot_of sub = record { sub = sub; rank = 1; item = 0; number = 1; frequency = None; wanted = one_field; slot = raw_behind }
 
 abbrev subscribed : Session → Session

@@ -1,86 +1,62 @@
 -- Each step keeps a world's records lawful.
-use Rattle.std.proofs.Common.{◌≡◌, ℕ, zero, suc, ◌+◌, ◌<◌, List, [], ◌∷◌, ◌++◌, length, arith, sym, ◌∙◌, true, subst, Option, Some, None, IfSome, codes}
-use Rattle.std.proofs.Common.{nat_lt, slice_get}
+use Rattle.std.proofs.Common.{◌≡◌, ℕ, ◌+◌, List, [], ◌∷◌, ◌++◌, length, arith, true, subst, Option, Some, None}
+use Rattle.std.proofs.Common.{IfSome, codes, nat_lt, slice_get}
 use Rattle.std.specs.Prelude.{option_and_then}
 use Rattle.std.proofs.lemmas.Bool.{eqb-true}
 use Rattle.ls_event.specs.declared.event.Entry.{Entry}
 use Rattle.ls_event.specs.declared.event.Event.{Event}
 use Rattle.ls_event.specs.declared.event.Event.TheVariants.{Update, Clear}
-use Rattle.ls_event.specs.declared.event.Mode.TheVariants as mode
-use Rattle.ls_event.specs.Shapes.{shape_of, IsShape}
+use Rattle.ls_event.specs.Shapes.{shape_of}
 use Rattle.ls_event.specs.History.{HasFields}
-use Rattle.ls_event.specs.Joining.{plan_of}
 use Rattle.ls_event.proofs.Histories.{history_grown}
 use Rattle.ls_form.specs.declared.form.Pair.{Pair}
 use Rattle.ls_form.specs.Forms.{form_of}
 use Rattle.ls_request.specs.declared.request.LinkKind.{LinkKind}
-use Rattle.ls_request.specs.declared.request.LinkKind.TheVariants as link
-use Rattle.ls_request.specs.declared.request.Add.{Add}
 use Rattle.ls_request.specs.declared.request.Bind.{Bind}
 use Rattle.ls_request.specs.declared.request.Create.{Create}
 use Rattle.ls_request.specs.declared.request.Op.{Op}
-use Rattle.ls_request.specs.declared.request.Op.TheVariants as op
 use Rattle.ls_request.specs.declared.request.Request.{Request}
-use Rattle.ls_request.specs.declared.request.Request.TheVariants as request
 use Rattle.ls_request.specs.Requests.{req_behind}
 use Rattle.ls_step.specs.declared.step.Step.{Step}
-use Rattle.ls_step.specs.declared.step.Step.TheVariants as step
 use Rattle.ls_step.specs.declared.step.Repeat.{Repeat}
 use Rattle.ls_step.specs.Adding.{add_pairs}
-use Rattle.ls_world.specs.Cutting.{Ask}
-use Rattle.ls_world.specs.CommandMode.{IsKeyed}
-use Rattle.ls_world.specs.World.{World, Item, Live, Session, empty, definitions, history_of, shape_at, change, live_at, added, removed, enqueued_in, least_far}
-use Rattle.ls_world.specs.World.{free_number, on_board, numbered, opened, ended, reconfigured, constrained, forced, is_bound, unbound_at, unless_timed_out}
-use Rattle.ls_world.specs.World.{rebound}
-use Rattle.ls_world.specs.Acting.{asks_of, subscribed, add_code, change_code, constrain_code, create_code, bind_code, destroyed}
-use Rattle.ls_world.specs.Steps.{Stepped, Once, session_of, grown, is_whole, cause_to_refuse, publishes, creates, operated, operates, session_named, acts}
-use Rattle.ls_world.specs.Steps.{is_opening, malformed, request_over, requests, connects, plain_create, enqueue_once, TurnGives, Gave, Idle, NotDue, Spent}
-use Rattle.ls_world.specs.Steps.{Over}
-use Rattle.ls_world.specs.Steps.{Superseded, Unbound, SessionTurn, session_turn, took, take_once, epoch_of, link_of, bound, binds, loses, does, does_all}
+use Rattle.ls_world.specs.World.{World, empty}
+use Rattle.ls_record.specs.Records.{Item, LiveSlot, Session, history_of, change, live_at, removed, enqueued_in, least_far}
+use Rattle.ls_record.specs.Records.{free_number, on_board, numbered, opened, ended, reconfigured, constrained, forced}
+use Rattle.ls_record.specs.Records.{is_bound, unbound_at, unless_timed_out, rebound, grown, is_whole}
+use Rattle.ls_record.specs.Acting.{free_slots, change_code, constrain_code, bind_code, destroyed, request_over}
+use Rattle.ls_world.specs.Acting.{subscribed, add_code, create_code}
+use Rattle.ls_world.specs.Steps.{Stepped, Once, session_of, cause_to_refuse, publishes, creates, operated, operates}
+use Rattle.ls_world.specs.Steps.{session_named, acts, is_opening, malformed, requests, connects, plain_create}
+use Rattle.ls_world.specs.Steps.{enqueue_once, took, take_once, epoch_of, link_of, bound, binds, loses, does}
+use Rattle.ls_world.specs.Steps.{does_all}
+use Rattle.ls_record.specs.Turning.{TurnGives, Send, Idle, NotDue, Spent, Ended, Superseded, Unbound, SessionTurn}
+use Rattle.ls_record.specs.Turning.{session_turn}
 use Rattle.ls_world.proofs.Parts.{enqueued_by}
 use Rattle.ls_world.specs.Ranges.{StepInRange, HasDistinctFields, InRange}
-use Rattle.ls_world.specs.Lawful.{Each, IsSound, LawfulSession, LawfulRecords}
-use Rattle.ls_laws.proofs.Asked.{IsAsk, IsAsked, asked_is, size_some}
-use Rattle.ls_laws.proofs.Requested.{IsAdd, IsOp, IsRequest, request_over_is}
-use Rattle.ls_world.proofs.Rules.{found_rule, session_rule, cond_rule, repeated_keeps}
-use Rattle.ls_world.proofs.Each.{each_map, each_mapped, each_changed, each_append, each_at}
-use Rattle.ls_laws.proofs.Frame.{later_grown, later_declared, enqueue_keeps, MayJoin, add_keeps, remove_keeps, reconf_keeps}
-use Rattle.ls_laws.proofs.Sessions.{session_later, opened_lawful, constrained_lawful, ended_lawful, rebound_lawful, forced_lawful, unbound_lawful}
-use Rattle.ls_laws.proofs.Sessions.{timed_out_lawful, on_board_keeps, numbered_keeps, session_keeps, living_rule}
+use Rattle.ls_value.specs.Each.{Each}
+use Rattle.ls_lawful.specs.Lawful.{IsSound, LawfulSession}
+use Rattle.ls_world.specs.Lawful.{LawfulRecords}
+use Rattle.ls_lawful.proofs.Requested.{IsOp, IsRequest, request_over_is}
+use Rattle.ls_record.proofs.Rules.{found_rule, cond_rule}
+use Rattle.ls_world.proofs.Rules.{session_rule, repeated_keeps}
+use Rattle.ls_record.proofs.Each.{each_map, each_mapped, each_changed, each_at}
+use Rattle.ls_value.proofs.Each.{each_append}
+use Rattle.ls_lawful.proofs.Frame.{later_grown, later_declared, enqueue_keeps, remove_keeps, reconf_keeps}
+use Rattle.ls_lawful.proofs.Sessions.{session_later, opened_lawful, constrained_lawful, ended_lawful, rebound_lawful}
+use Rattle.ls_lawful.proofs.Sessions.{forced_lawful, unbound_lawful, timed_out_lawful, on_board_keeps, numbered_keeps}
+use Rattle.ls_lawful.proofs.Sessions.{session_keeps}
+use Rattle.ls_laws.proofs.Living.{living_rule}
+use Rattle.ls_lawful.proofs.Adding.{add_lawful}
+use Rattle.ls_request.specs.declared.request.LinkKind.TheVariants as link
+use Rattle.ls_request.specs.declared.request.Op.TheVariants as op
+use Rattle.ls_request.specs.declared.request.Request.TheVariants as request
+use Rattle.ls_step.specs.declared.step.Step.TheVariants as step
 
 -- a change of one session
 pub one_changed : (w : World) (n : ℕ) (s : Session) (f : Session → Session) → slice_get w.sessions n ≡ Some s
     → (LawfulSession w.items s → LawfulSession w.items (f s)) → LawfulRecords w → LawfulRecords (record w { sessions = change n f w.sessions })
 one_changed w n s f is keep l = record { items = l.items; sessions = each_changed (LawfulSession w.items) n f s w.sessions is keep l.sessions }
-
--- what an add that is accepted asks for may join
-sound_at : (items : List Item) (n : ℕ) → n < length items → Each IsSound items → IsShape (shape_at items n)
-sound_at [] n within sound = absurd (omega (arith, within))
-sound_at (i ∷ items) zero within sound = sound.0.shape
-sound_at (i ∷ items) (suc n) within sound = sound_at items n (omega (arith, within)) sound.1
-
-may_join : (items : List Item) (a : Add) (ask : Ask) → Each IsSound items → IsAdd a → IsAsk items a ask → MayJoin items ask
-may_join items a ask sound add is =
-    record {
-      declared = is.declared;
-      some = omega (arith, is.size, size_some a.mode a.size add.size);
-      keys = λ command. keyed command (sound_at items ask.item is.declared sound);
-    }
-  where
-    keyed : ask.mode ≡ mode.Command → IsShape (shape_at items ask.item) → IsKeyed
-        (plan_of (shape_at items ask.item) (history_of items ask.item) ask.mode ask.size) ask.wanted.places
-    keyed command shape =
-        let k = is.keys (sym is.mode ∙ command) in
-        record { key = shape.key; command = shape.command; apart = shape.apart k.kind; key_shown = k.key; command_shown = k.command }
-
-add_lawful : (w : World) (s : Session) (a : Add) → Each IsSound w.items → IsAdd a → add_code w s a ≡ None → LawfulSession w.items s
-    → LawfulSession w.items (subscribed w a s)
-add_lawful w s a sound add none =
-    let asks : List Ask = asks_of (definitions w.items) a in
-    let k : IsAsked w s a = asked_is w s a none in
-    numbered_keeps w.items (added w.items (free_number w.sessions) a.sub (length a.schema) asks) s
-    (add_keeps w.items (free_number w.sessions) a.sub (length a.schema) asks s.board k.new
-    (each_map (IsAsk w.items a) (MayJoin w.items) asks (λ ask x. may_join w.items a ask sound add x) k.each)) (omega arith)
 
 -- requests
 lawful_operated : (w : World) (connection : ℕ) (req : List ℕ) (n : ℕ) (s : Session) (code : Option ℕ) (f : Session → Session)
@@ -92,7 +68,7 @@ lawful_operated w connection req n s code f is keep l =
 lawful_operates : (w : World) (connection : ℕ) (req : List ℕ) (o : Op) (n : ℕ) (s : Session) → slice_get w.sessions n ≡ Some s → IsOp o → LawfulRecords w
     → LawfulRecords (operates w connection req o n s).after
 lawful_operates w connection req (op.Add a) n s is k l =
-    lawful_operated w connection req n s (add_code w s a) (subscribed w a) is (λ none. add_lawful w s a l.items k none) l
+    lawful_operated w connection req n s (add_code w s a) (subscribed w a) is (λ none. add_lawful w.items (free_number w.sessions) (free_slots w.sessions) s a l.items k none) l
 lawful_operates w connection req (op.Delete sub) n s is k l =
     lawful_operated w connection req n s (change_code s sub) (numbered (removed sub)) is
     (λ none. numbered_keeps w.items (removed sub) s (remove_keeps w.items sub s.board) (omega arith)) l
@@ -177,7 +153,7 @@ lawful_publishes w item e l =
               (session_later w.items (change item (grown e) w.items) (later_grown w.items item e)) l.sessions;
         }
 
-pub lawful_enqueued : (w : World) (n sub rank : ℕ) (s : Session) (o : Option Live) → slice_get w.sessions n ≡ Some s → LawfulRecords w
+pub lawful_enqueued : (w : World) (n sub rank : ℕ) (s : Session) (o : Option LiveSlot) → slice_get w.sessions n ≡ Some s → LawfulRecords w
     → LawfulRecords (enqueued_by w n sub rank o).after
 lawful_enqueued w n sub rank s None is l = l
 lawful_enqueued w n sub rank s (Some v) is l =
@@ -188,13 +164,13 @@ lawful_enqueued w n sub rank s (Some v) is l =
 
 pub lawful_took : (w : World) (connection n : ℕ) (old new : Session) (g : TurnGives) → slice_get w.sessions n ≡ Some old → LawfulSession w.items new
     → LawfulRecords w → LawfulRecords (took w connection n new g).after
-lawful_took w connection n old new (Gave text) is k l = one_changed w n old (λ x. new) is (λ x. k) l
+lawful_took w connection n old new (Send text) is k l = one_changed w n old (λ x. new) is (λ x. k) l
 lawful_took w connection n old new Idle is k l = one_changed w n old (λ x. new) is (λ x. k) l
 lawful_took w connection n old new (NotDue tick) is k l = one_changed w n old (λ x. new) is (λ x. k) l
 lawful_took w connection n old new Spent is k l = l
 lawful_took w connection n old new (Superseded epoch) is k l = l
 lawful_took w connection n old new Unbound is k l = l
-lawful_took w connection n old new (Over code) is k l = l
+lawful_took w connection n old new (Ended code) is k l = l
 
 -- a loss
 lawful_loses : (w : World) (connection : ℕ) → LawfulRecords w → LawfulRecords (loses w connection).after

@@ -17,19 +17,25 @@ use Rattle.ls_request.specs.declared.request.Bind.{Bind}
 use Rattle.ls_step.specs.declared.out.Out.{Out}
 use Rattle.ls_step.specs.declared.out.Out.TheVariants as out
 use Rattle.ls_step.specs.declared.step.Step.TheVariants as step
-use Rattle.ls_world.specs.Cases.{with_found, first_code}
-use Rattle.ls_world.specs.Lines.{text_at, texts_behind}
-use Rattle.ls_world.specs.World.{World, Item, Stream, Life, Alive, Ending, Ended, Session, Connection, change, is_alive, is_over, is_unsent, with_text}
-use Rattle.ls_world.specs.World.{with_line}
-use Rattle.ls_world.specs.World.{begun, unbound_at, opening_lines, count_lines, rebound}
-use Rattle.ls_world.specs.Acting.{message_of, may_resume, bind_code}
-use Rattle.ls_world.specs.Steps.{Stepped, Once, stays, behind, repeated, ends, goes_on, with_living, session_of, epoch_of, name_of, refuses_stream, bound}
-use Rattle.ls_world.specs.Steps.{session_named, binds, Gave, Superseded, Unbound, SessionTurn, loop_text, next_given, round_turn, turn_owing, turn_bound}
-use Rattle.ls_world.specs.Steps.{gives_unbound}
-use Rattle.ls_world.specs.Steps.{session_turn, took, take_once, does}
+use Rattle.ls_record.specs.Cases.{with_found, first_code}
+use Rattle.ls_record.specs.Lines.{text_at, texts_behind}
+use Rattle.ls_world.specs.World.{World, Connection}
+use Rattle.ls_record.specs.Records.{Item, Stream, Life, Alive, Ending, Closed, Session, change, is_alive, is_over}
+use Rattle.ls_record.specs.Records.{is_unsent, with_text}
+use Rattle.ls_record.specs.Records.{with_line}
+use Rattle.ls_record.specs.Records.{begun_stream, unbound_at, opening_lines, count_lines, rebound}
+use Rattle.ls_record.specs.Acting.{message_of, may_resume, bind_code}
+use Rattle.ls_world.specs.Steps.{Stepped, Once, stays, behind, repeated, ends, goes_on, with_living, session_of}
+use Rattle.ls_world.specs.Steps.{epoch_of, name_of, refuses_stream, bound}
+use Rattle.ls_world.specs.Steps.{session_named, binds}
+use Rattle.ls_record.specs.Turning.{Send, Superseded, Unbound, SessionTurn, loop_text, next_given, round_turn}
+use Rattle.ls_record.specs.Turning.{turn_owing, turn_bound}
+use Rattle.ls_record.specs.Turning.{gives_unbound}
+use Rattle.ls_record.specs.Turning.{session_turn}
+use Rattle.ls_world.specs.Steps.{took, take_once, does}
 use Rattle.ls_laws.specs.Streams.{numbers_behind, NamesLiving, IsAccepted, lines_left, lines_from, bytes_on_stream, MayGive, IsBeyond}
 use Rattle.ls_laws.proofs.Alone.{slice_changed, change_at}
-use Rattle.ls_laws.proofs.Asked.{element_found}
+use Rattle.ls_lawful.proofs.Asked.{element_found}
 use Rattle.ls_laws.proofs.Numbering.{texts_length, texts_taken}
 
 -- a bind of a living session is accepted, or refused by its code
@@ -52,7 +58,7 @@ newest s sent given_up owed t = record s { sent = sent; given_up = given_up; owe
 abbrev Gives : ℕ → List Item → ℕ → Session → List (List ℕ) → (Session → Type 0) → Type 0
 Gives now items epoch s [] P = P s
 Gives now items epoch s (text ∷ texts) P =
-    (x : Session) × (session_turn now items epoch s ≡ record { session = x; gives = Gave text }) × Gives now items epoch x texts P
+    (x : Session) × (session_turn now items epoch s ≡ record { session = x; gives = Send text }) × Gives now items epoch x texts P
 
 module _ (now : ℕ) (items : List Item) (s : Session) (alive : s.life ≡ Alive) (P : Session → Type 0) where
   abbrev own_epoch : ℕ
@@ -91,7 +97,7 @@ module _ (now : ℕ) (items : List Item) (s : Session) (alive : s.life ≡ Alive
       ≡ record {
         session = newest s (sent + 1) (given_up_after given_up (sent + 1) (texts_behind 0 s.board.lines)) []
             (with_line (sent + 1) (text_at s.board.lines (sent + 1)) t);
-        gives = Gave (text_at s.board.lines (sent + 1));
+        gives = Send (text_at s.board.lines (sent + 1));
       }
   line_turn sent given_up t going less =
       let x : Session = newest s sent given_up [] t in
@@ -99,9 +105,9 @@ module _ (now : ℕ) (items : List Item) (s : Session) (alive : s.life ≡ Alive
       let text : List ℕ = text_at s.board.lines (sent + 1) in
       let after : Session = newest s (sent + 1) (given_up_after given_up (sent + 1) (texts_behind 0 s.board.lines)) [] (with_line (sent + 1) text t) in
       on_newest sent given_up [] t
-      ∙ ap (λ b. cond b (record { session = unbound_at now x; gives = Gave loop_text }) (cond (is_unsent x) (next_given x) (round_turn now items x))) going
+      ∙ ap (λ b. cond b (record { session = unbound_at now x; gives = Send loop_text }) (cond (is_unsent x) (next_given x) (round_turn now items x))) going
       ∙ ap (λ b. cond b (next_given x) (round_turn now items x)) unsent
-      ∙ ap (λ b. record { session = cond b after x; gives = Gave text }) unsent
+      ∙ ap (λ b. record { session = cond b after x; gives = Send text }) unsent
 
   -- so many of them
   lines_given : (k sent given_up : ℕ) (rest : List (List ℕ)) (t : Stream) → k ≤ length s.board.lines - sent → t.forced ≡ false
@@ -161,7 +167,7 @@ takes_print w c n epoch rest s (text ∷ texts) tail P own newest is gives more 
     let v : World = record w { sessions = change n (λ old. gives.0) w.sessions } in
     let e : length (text ∷ texts) + rest ≡ suc (length texts + rest) = omega arith in
     let once : take_once c w ≡ goes_on v (out.Line (name_of w c) text) =
-    take_is w c n epoch s own newest is (record { session = gives.0; gives = Gave text }) gives.1 in
+    take_is w c n epoch s own newest is (record { session = gives.0; gives = Send text }) gives.1 in
     ap (λ k. (repeated (take_once c) k w).outs) e
     ∙ ap (λ (o : Once). (behind o (λ u. repeated (take_once c) (length texts + rest) u)).outs) once
     ∙ ap (λ outs. out.Line (name_of w c) text ∷ outs)
@@ -171,7 +177,7 @@ takes_print w c n epoch rest s (text ∷ texts) tail P own newest is gives more 
 alive_is : (life : Life) → is_alive life ≡ true → life ≡ Alive
 alive_is Alive t = refl
 alive_is (Ending code) t = cc
-alive_is (Ended code) t = cc
+alive_is (Closed code) t = cc
 
 -- what it begins with, and so many lines
 abbrev opens_with : Session → Bind → List (List ℕ)
@@ -201,7 +207,7 @@ stream_gives now items s b k rest P alive within may more =
     let all : opens_with s b ++ (texts ++ rest) ≡ lines_from k s b ++ rest =
     sym (append_assoc (opens_with s b) texts rest) ∙ ap (λ ts. ts ++ rest) (sym (lines_are k s b within)) in
     subst (λ ts. Gives now items (length s.streams + 1) (rebound b.session b s) ts P) all
-    (owed_given now items s alive P from s.given_up (opens_with s b) (texts ++ rest) (begun from b.length)
+    (owed_given now items s alive P from s.given_up (opens_with s b) (texts ++ rest) (begun_stream from b.length)
     (λ u forced content bytes. lines_given now items s alive P k from s.given_up rest u (omega (arith, within, texts_length from s.board.lines)) forced
     (λ some most is. (let l = may some most (sym content ∙ is) in
     omega (arith, l, bytes, bytes_are (k - 1) s b (omega (arith, within)))))
@@ -280,11 +286,11 @@ over_is t most forced content reached = rw (forced, content) (le-leb most t.byte
 
 loop_turn : (now : ℕ) (items : List Item) (s : Session) (sent given_up : ℕ) (t : Stream) → s.life ≡ Alive → is_over t ≡ true
     → session_turn now items (length s.streams + 1) (newest s sent given_up [] t)
-    ≡ record { session = unbound_at now (newest s sent given_up [] t); gives = Gave loop_text }
+    ≡ record { session = unbound_at now (newest s sent given_up [] t); gives = Send loop_text }
 loop_turn now items s sent given_up t alive over =
     let x : Session = newest s sent given_up [] t in
     on_newest now items s alive (λ y. Unit {0}) sent given_up [] t
-    ∙ ap (λ b. cond b (record { session = unbound_at now x; gives = Gave loop_text }) (cond (is_unsent x) (next_given x) (round_turn now items x))) over
+    ∙ ap (λ b. cond b (record { session = unbound_at now x; gives = Send loop_text }) (cond (is_unsent x) (next_given x) (round_turn now items x))) over
 
 unbound_turn : (now : ℕ) (items : List Item) (s : Session) (sent given_up : ℕ) (t : Stream) → s.life ≡ Alive
     → session_turn now items (length s.streams + 1) (unbound_at now (newest s sent given_up [] t))

@@ -6,8 +6,8 @@ use Rattle.std.specs.List.{range_with_len}
 use Rattle.std.proofs.lemmas.Bool.{ltb-true, ltb-false, eq-eqb, ne_eqb, lt-ltb}
 use Rattle.std.proofs.lemmas.List.{length-append, length-map, reverse-append, drop-append-le, drop_all}
 use Rattle.std.proofs.lemmas.List.FromFn.{length-range_with_len, take-map-range_with_len, map-range_with_len_more}
-use Rattle.ls_world.specs.Lines.{Line, line_text, text_at, texts_behind}
-use Rattle.ls_world.specs.Lawful.{Follows}
+use Rattle.ls_record.specs.Lines.{Line, line_text, text_at, texts_behind}
+use Rattle.ls_lawful.specs.Lawful.{Follows}
 use Rattle.ls_laws.specs.Streams.{numbers_behind}
 
 -- numbers, and then those behind them

@@ -22,16 +22,26 @@ use Rattle.ls_request.specs.Requests.{req_behind}
 use Rattle.ls_step.specs.declared.step.Step.{Step}
 use Rattle.ls_step.specs.declared.step.Step.TheVariants as step
 use Rattle.ls_step.specs.Adding.{add_pairs}
-use Rattle.ls_world.specs.World.{World, Session, Connection, history_of, change, live_at, enqueued_in, on_board, opened, ended, removed, is_alive}
-use Rattle.ls_world.specs.World.{reconfigured, constrained, numbered, forced, rebound, is_bound, unbound_at, unless_timed_out}
-use Rattle.ls_world.specs.Acting.{subscribed, add_code, change_code, constrain_code, create_code, bind_code, destroyed}
-use Rattle.ls_world.specs.Steps.{Stepped, Once, session_of, grown, is_whole, cause_to_refuse, publishes, with_link, creates, operates}
-use Rattle.ls_world.specs.Steps.{session_named, acts, is_opening, malformed, request_over, requests, connects, plain_create, enqueue_once}
-use Rattle.ls_world.specs.Steps.{TurnGives, Gave, Idle, NotDue, Spent, Superseded, Unbound, Over, SessionTurn, session_turn, took, take_once, epoch_of, link_of}
+use Rattle.ls_world.specs.World.{World, Connection}
+use Rattle.ls_record.specs.Records.{Session, history_of, change, live_at, enqueued_in, on_board, opened, ended}
+use Rattle.ls_record.specs.Records.{removed, is_alive}
+use Rattle.ls_record.specs.Records.{reconfigured, constrained, numbered, forced, rebound, is_bound, unbound_at}
+use Rattle.ls_record.specs.Records.{unless_timed_out}
+use Rattle.ls_world.specs.Acting.{subscribed, add_code, create_code}
+use Rattle.ls_record.specs.Acting.{change_code, constrain_code, bind_code, destroyed}
+use Rattle.ls_world.specs.Steps.{Stepped, Once, session_of, cause_to_refuse, publishes, with_link, creates, operates}
+use Rattle.ls_record.specs.Records.{grown, is_whole}
+use Rattle.ls_world.specs.Steps.{session_named, acts, is_opening, malformed, requests, connects, plain_create}
+use Rattle.ls_world.specs.Steps.{enqueue_once}
+use Rattle.ls_record.specs.Acting.{request_over}
+use Rattle.ls_record.specs.Turning.{TurnGives, Send, Idle, NotDue, Spent, Superseded, Unbound, Ended, SessionTurn}
+use Rattle.ls_record.specs.Turning.{session_turn}
+use Rattle.ls_world.specs.Steps.{took, take_once, epoch_of, link_of}
 use Rattle.ls_world.specs.Steps.{binds, loses, ticks, does}
-use Rattle.ls_world.proofs.Rules.{found_rule, cond_rule, repeated_keeps}
+use Rattle.ls_record.proofs.Rules.{found_rule, cond_rule}
+use Rattle.ls_world.proofs.Rules.{repeated_keeps}
 use Rattle.ls_world.proofs.Unmoved.{declared_by}
-use Rattle.ls_laws.proofs.Asked.{element_found}
+use Rattle.ls_lawful.proofs.Asked.{element_found}
 use Rattle.ls_laws.specs.Alone.{connection_of, session_asked, session_meant, is_own, changes_items, sets_clock}
 
 -- a step gives a session to its own connection, or to the one that it makes
@@ -77,13 +87,13 @@ enqueue_stays P w connection sub rank k v q =
 
 took_stays : (P : World → Type 0) (w v : World) (connection n : ℕ) (s : Session) (g : TurnGives) → Changes P n → StaysAt P w v
     → StaysAt P w (took v connection n s g).after
-took_stays P w v connection n s (Gave text) k q = record { is = k v (λ old. s) q.is; connections = q.connections }
+took_stays P w v connection n s (Send text) k q = record { is = k v (λ old. s) q.is; connections = q.connections }
 took_stays P w v connection n s Idle k q = record { is = k v (λ old. s) q.is; connections = q.connections }
 took_stays P w v connection n s (NotDue tick) k q = record { is = k v (λ old. s) q.is; connections = q.connections }
 took_stays P w v connection n s Spent k q = q
 took_stays P w v connection n s (Superseded epoch) k q = q
 took_stays P w v connection n s Unbound k q = q
-took_stays P w v connection n s (Over code) k q = q
+took_stays P w v connection n s (Ended code) k q = q
 
 take_stays : (P : World → Type 0) (w : World) (connection : ℕ) → ((m : ℕ) → session_of w connection ≡ Some m → Changes P m) → (v : World) → StaysAt P w v
     → StaysAt P w (take_once connection v).after

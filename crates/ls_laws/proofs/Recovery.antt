@@ -11,22 +11,28 @@ use Rattle.ls_keep.specs.Keeping.{bytes_of, may_keep, least_keeping}
 use Rattle.ls_keep.proofs.Least.{least_from-before, least_keeping-append}
 use Rattle.ls_step.specs.declared.step.Repeat.{Repeat}
 use Rattle.ls_step.specs.declared.step.Step.TheVariants as step
-use Rattle.ls_world.specs.declared.TheConstants.{MOST_UNBOUND}
-use Rattle.ls_world.specs.Lines.{Line, text_at, texts_behind}
-use Rattle.ls_world.specs.World.{World, Stream, Life, Alive, Ending, Ended, Session, empty, unbound_at, ended, timed_out, is_alive, is_timed_out}
-use Rattle.ls_world.specs.World.{unless_timed_out}
-use Rattle.ls_world.specs.World.{Item, change, trimmed, with_text, with_line, is_unsent, numbered, taken_in, is_due}
-use Rattle.ls_world.specs.Steps.{SessionTurn, Gave, end_text, next_given, session_turn, does, does_all}
+use Rattle.ls_record.specs.declared.TheConstants.{MOST_UNBOUND}
+use Rattle.ls_record.specs.Lines.{Line, text_at, texts_behind}
+use Rattle.ls_world.specs.World.{World, empty}
+use Rattle.ls_record.specs.Records.{Stream, Life, Alive, Ending, Closed, Session, unbound_at, ended, timed_out}
+use Rattle.ls_record.specs.Records.{is_alive, is_timed_out}
+use Rattle.ls_record.specs.Records.{unless_timed_out}
+use Rattle.ls_record.specs.Records.{Item, change, trimmed, with_text, with_line, is_unsent, numbered, taken_in}
+use Rattle.ls_record.specs.Records.{is_due}
+use Rattle.ls_record.specs.Turning.{SessionTurn, Send, end_text, next_given, session_turn}
+use Rattle.ls_world.specs.Steps.{does, does_all}
 use Rattle.ls_world.specs.Script.{world_of}
-use Rattle.ls_world.specs.Lawful.{Each, LawfulStream, LawfulStreams}
-use Rattle.ls_world.proofs.Each.{each_map, each_contains}
-use Rattle.ls_world.proofs.Rules.{cond_rule}
+use Rattle.ls_value.specs.Each.{Each}
+use Rattle.ls_lawful.specs.Lawful.{LawfulStream, LawfulStreams}
+use Rattle.ls_record.proofs.Each.{each_map, each_contains}
+use Rattle.ls_record.proofs.Rules.{cond_rule}
 use Rattle.ls_laws.specs.Streams.{given_on, GivesLine}
 use Rattle.ls_laws.specs.Streams.{numbers_behind, HasItsLines, Had, held_after, held, BindsWithItsCount, AreFirstLines, HoldsAllLines}
 use Rattle.ls_laws.specs.Streams.{IsBeyond, AreTooMuch, GivesUpLittle, IsGone}
-use Rattle.ls_laws.proofs.Counting.{with_next, Counted, opened_counted, board_counted, trimmed_counted, stream_counted, next_counted, rebound_counted}
+use Rattle.ls_lawful.proofs.Counting.{with_next, Counted, opened_counted, board_counted, trimmed_counted}
+use Rattle.ls_lawful.proofs.Counting.{stream_counted, next_counted, rebound_counted}
 use Rattle.ls_laws.proofs.Numbering.{numbers_append, numbers_taken, follows_in_order, texts_taken, texts_dropped, texts_grown}
-use Rattle.ls_laws.proofs.Sessions.{turn_rule}
+use Rattle.ls_lawful.proofs.Sessions.{turn_rule}
 use Rattle.ls_laws.proofs.Others.{session_ticked}
 use Rattle.ls_laws.proofs.Scripts.{lines_keep}
 use Rattle.ls_laws.proofs.SessionRule.{KeptSession, OfSessions, sessions_does, sessions_do}
@@ -69,7 +75,7 @@ is_gone now s t =
     by_life : (life : Life) → s.life ≡ life → is_alive life ≡ true → s.life ≡ Alive
     by_life Alive is alive = is
     by_life (Ending code) is alive = cc
-    by_life (Ended code) is alive = cc
+    by_life (Closed code) is alive = cc
 
     by_unbound : (o : Option ℕ) → s.unbound ≡ o → s.life ≡ Alive → option_map_or (λ since. nat_le (since + MOST_UNBOUND) now) o false ≡ true → IsGone now s
     by_unbound None is alive late = absurd (let x : false ≡ true = late in cc)
@@ -186,7 +192,7 @@ AddsItsLine s t = (given_on t.session ≡ given_on s) ⊎ GivesLine s t
 
 next_gives : (s x : Session) → given_on x ≡ given_on s → AddsItsLine s (next_given x)
 next_gives s x same =
-    cond_rule (λ (y : Session). AddsItsLine s (record { session = y; gives = Gave text })) (is_unsent x) (trimmed (with_next x)) x
+    cond_rule (λ (y : Session). AddsItsLine s (record { session = y; gives = Send text })) (is_unsent x) (trimmed (with_next x)) x
     (λ t. inr (record {
       number = x.sent + 1;
       text = refl;

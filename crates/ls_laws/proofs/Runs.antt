@@ -12,16 +12,18 @@ use Rattle.ls_step.specs.declared.step.Step.{Step}
 use Rattle.ls_step.specs.declared.step.Step.TheVariants as step
 use Rattle.ls_step.specs.declared.step.Repeat.{Repeat}
 use Rattle.ls_step.specs.Adding.{add_pairs}
-use Rattle.ls_world.specs.World.{World, Session}
-use Rattle.ls_world.specs.Steps.{link_of, request_over, does, does_all}
-use Rattle.ls_world.specs.Lawful.{Each}
-use Rattle.ls_world.proofs.Each.{each_map, each_both, each_contains}
+use Rattle.ls_world.specs.World.{World}
+use Rattle.ls_record.specs.Records.{Session}
+use Rattle.ls_world.specs.Steps.{link_of, does, does_all}
+use Rattle.ls_record.specs.Acting.{request_over}
+use Rattle.ls_value.specs.Each.{Each}
+use Rattle.ls_record.proofs.Each.{each_map, each_both, each_contains}
 use Rattle.ls_world.proofs.Knowing.{does_counts}
 use Rattle.ls_laws.specs.Alone.{unnumbered, Seen, connection_of, session_asked, session_meant, is_own, after, told, RunStep, First, Second, Own, Shared}
 use Rattle.ls_laws.specs.Alone.{firsts, seconds, HaveSame, LeavesShared, IsElsewhere, DifferElsewhere}
 use Rattle.ls_laws.proofs.Others.{session_left, tick_left, by_clock, session_clocked, connection_left, AreThere, stay_there}
 use Rattle.ls_laws.proofs.Unnumbered.{timed_out_same}
-use Rattle.ls_laws.proofs.Asked.{element_found}
+use Rattle.ls_lawful.proofs.Asked.{element_found}
 use Rattle.ls_laws.proofs.Alone.{Alike, StepsAs, same_line, same_link, same_place, same_named, the_same, own_alike}
 
 -- a step elsewhere that leaves the items and the clock

@@ -19,24 +19,39 @@ use Rattle.ls_step.specs.declared.step.Step.{Step}
 use Rattle.ls_step.specs.declared.step.Step.TheVariants as step
 use Rattle.ls_step.specs.declared.step.Repeat.{Repeat}
 use Rattle.ls_step.specs.Adding.{add_pairs}
-use Rattle.ls_world.specs.Cutting.{Ask}
-use Rattle.ls_world.specs.Lines.{Line, Begins, Ends, Configures, Tells}
-use Rattle.ls_world.specs.World.{World, Item, Live, Board, Stream, Rate, Life, Ending, Ended, Session, RoundLine, history_of, change, live_at, added, removed}
-use Rattle.ls_world.specs.World.{enqueued_in, round_of, taken_in, is_due, reconfigured, constrained, trimmed, on_board, numbered, on_stream, with_text}
-use Rattle.ls_world.specs.World.{given_next}
-use Rattle.ls_world.specs.World.{is_unsent, is_bound, unbound_at, opened, rebound, forced, ended, is_alive, unless_timed_out}
-use Rattle.ls_world.specs.World.{definitions, free_number, keys_shown, frequency_of, are_filtered, frequency_in, is_filtered, mode_in}
-use Rattle.ls_world.specs.Acting.{asks_of, subscribed, add_code, change_code, constrain_code, create_code, bind_code, destroyed}
-use Rattle.ls_world.specs.Steps.{Stepped, Once, session_of, epoch_of, link_of, is_whole, cause_to_refuse, publishes, creates, operated, operates, session_named}
-use Rattle.ls_world.specs.Steps.{binds, acts, is_opening, malformed, request_over, requests, connects, plain_create, enqueue_once, TurnGives, Gave, Idle}
-use Rattle.ls_world.specs.Steps.{NotDue}
-use Rattle.ls_world.specs.Steps.{Spent, Superseded, Unbound, Over, SessionTurn, end_text, gives_text, session_turn, took, take_once, loses, does, does_all}
-use Rattle.ls_world.specs.Lawful.{Each}
-use Rattle.ls_world.proofs.Each.{each_mapped, each_changed, each_append, each_at}
-use Rattle.ls_world.proofs.Parts.{given_by, enqueued_by}
-use Rattle.ls_world.proofs.Rules.{found_rule, session_rule, cond_rule, repeated_keeps}
-use Rattle.ls_laws.proofs.Counting.{with_next}
-use Rattle.ls_laws.proofs.Sessions.{turn_rule, living_rule}
+use Rattle.ls_record.specs.Cutting.{Ask}
+use Rattle.ls_record.specs.Lines.{Line, Begins, Ends, Configures, Tells}
+use Rattle.ls_world.specs.World.{World}
+use Rattle.ls_record.specs.Records.{Item, LiveSlot, Board, Stream, Rate, Life, Ending, Closed, Session, RoundLine}
+use Rattle.ls_record.specs.Records.{history_of, change, live_at, added, removed}
+use Rattle.ls_record.specs.Records.{enqueued_in, round_of, taken_in, is_due, reconfigured, constrained, trimmed}
+use Rattle.ls_record.specs.Records.{on_board, numbered, on_stream, with_text}
+use Rattle.ls_record.specs.Records.{given_next}
+use Rattle.ls_record.specs.Records.{is_unsent, is_bound, unbound_at, opened, rebound, forced, ended, is_alive}
+use Rattle.ls_record.specs.Records.{unless_timed_out}
+use Rattle.ls_record.specs.Records.{definitions, free_number, keys_shown, frequency_of, are_filtered, frequency_in}
+use Rattle.ls_record.specs.Records.{is_filtered, mode_in}
+use Rattle.ls_record.specs.Acting.{asks_of, change_code, constrain_code, bind_code, destroyed}
+use Rattle.ls_world.specs.Acting.{subscribed, add_code, create_code}
+use Rattle.ls_world.specs.Steps.{Stepped, Once, session_of, epoch_of, link_of, cause_to_refuse, publishes, creates}
+use Rattle.ls_world.specs.Steps.{operated, operates, session_named}
+use Rattle.ls_record.specs.Records.{is_whole}
+use Rattle.ls_world.specs.Steps.{binds, acts, is_opening, malformed, requests, connects, plain_create, enqueue_once}
+use Rattle.ls_record.specs.Acting.{request_over}
+use Rattle.ls_record.specs.Turning.{TurnGives, Send, Idle}
+use Rattle.ls_record.specs.Turning.{NotDue}
+use Rattle.ls_record.specs.Turning.{Spent, Superseded, Unbound, Ended, SessionTurn, end_text, gives_text, session_turn}
+use Rattle.ls_world.specs.Steps.{took, take_once, loses, does, does_all}
+use Rattle.ls_value.specs.Each.{Each}
+use Rattle.ls_record.proofs.Each.{each_mapped, each_changed, each_at}
+use Rattle.ls_value.proofs.Each.{each_append}
+use Rattle.ls_record.proofs.Parts.{given_by}
+use Rattle.ls_world.proofs.Parts.{enqueued_by}
+use Rattle.ls_record.proofs.Rules.{found_rule, cond_rule}
+use Rattle.ls_world.proofs.Rules.{session_rule, repeated_keeps}
+use Rattle.ls_lawful.proofs.Counting.{with_next}
+use Rattle.ls_lawful.proofs.Sessions.{turn_rule}
+use Rattle.ls_laws.proofs.Living.{living_rule}
 
 -- what is true at a tick of a new session is true after each change of it that a step makes: of its board, which takes no line away, of what is given
 -- up and given, of its newest stream, of what is owed, of its rate and its life, by a bind, and at a tick
@@ -68,7 +83,7 @@ module _ (P : ℕ → Session → Type 0) (k : KeptSession P) where
   of_numbered now f s more is p = k.trims now (on_board f s) (k.boards now s (f s.board) more is p)
 
   -- the lines that a round gives
-  of_given : (now : ℕ) (b : Board) (kept : List Live) (o : Option RoundLine) → (more : List Line) × ((given_by now b kept o).lines ≡ more ++ b.lines)
+  of_given : (now : ℕ) (b : Board) (kept : List LiveSlot) (o : Option RoundLine) → (more : List Line) × ((given_by now b kept o).lines ≡ more ++ b.lines)
   of_given now b kept None = ([], refl)
   of_given now b kept (Some t) = (Tells t.live.sub t.live.rank now t.came ∷ [], refl)
 
@@ -96,7 +111,7 @@ module _ (P : ℕ → Session → Type 0) (k : KeptSession P) where
         spent = p;
         waits = λ none. k.boards now s (taken_in (is_due now s) now items s.board) m.0 m.1 p;
         tells = λ t some. of_next now (numbered (taken_in (is_due now s) now items) s) (of_numbered now (taken_in (is_due now s) now items) s m.0 m.1 p);
-        ending = λ code. of_text now (end_text code) (record s { life = Ended code }) (k.ends now s (Ended code) refl p);
+        ending = λ code. of_text now (end_text code) (record s { life = Closed code }) (k.ends now s (Closed code) refl p);
         over = λ code. p;
       })
 
@@ -173,7 +188,7 @@ module _ (P : ℕ → Session → Type 0) (k : KeptSession P) where
       (λ whole. found_rule (λ (y : Stepped). OfSessions P y.after) (cause_to_refuse w item x i) _ _ (λ none. e) (λ cause y. e)) (λ part. e))
 
   -- enqueues, turns and losses
-  of_enqueued : (w : World) (n sub rank : ℕ) (s : Session) (o : Option Live) → slice_get w.sessions n ≡ Some s → OfSessions P w
+  of_enqueued : (w : World) (n sub rank : ℕ) (s : Session) (o : Option LiveSlot) → slice_get w.sessions n ≡ Some s → OfSessions P w
       → OfSessions P (enqueued_by w n sub rank o).after
   of_enqueued w n sub rank s None is e = e
   of_enqueued w n sub rank s (Some v) is e =
@@ -182,13 +197,13 @@ module _ (P : ℕ → Session → Type 0) (k : KeptSession P) where
 
   of_took : (w : World) (connection n : ℕ) (old new : Session) (g : TurnGives) → slice_get w.sessions n ≡ Some old → P w.tick new → OfSessions P w
       → OfSessions P (took w connection n new g).after
-  of_took w connection n old new (Gave text) is p e = of_changed w n old (λ x. new) is (λ x. p) e
+  of_took w connection n old new (Send text) is p e = of_changed w n old (λ x. new) is (λ x. p) e
   of_took w connection n old new Idle is p e = of_changed w n old (λ x. new) is (λ x. p) e
   of_took w connection n old new (NotDue tick) is p e = of_changed w n old (λ x. new) is (λ x. p) e
   of_took w connection n old new Spent is p e = e
   of_took w connection n old new (Superseded epoch) is p e = e
   of_took w connection n old new Unbound is p e = e
-  of_took w connection n old new (Over code) is p e = e
+  of_took w connection n old new (Ended code) is p e = e
 
   of_loses : (w : World) (connection : ℕ) → OfSessions P w → OfSessions P (loses w connection).after
   of_loses w connection e =

@@ -12,23 +12,28 @@ use Rattle.ls_request.specs.declared.request.Add.{Add}
 use Rattle.ls_step.specs.declared.step.Step.{Step}
 use Rattle.ls_step.specs.declared.step.Step.TheVariants as step
 use Rattle.ls_step.specs.declared.step.Repeat.{Repeat}
-use Rattle.ls_world.specs.Came.{Came}
-use Rattle.ls_world.specs.Cutting.{Ask, Turn}
-use Rattle.ls_world.specs.Lines.{Line, Begins, Ends, Configures, Tells, is_update, updated}
-use Rattle.ls_world.specs.World.{World, Item, Live, Board, Rate, Session, RoundLine, Round, empty, definitions, fields_in, history_of, is_of, is_at, joined_all}
-use Rattle.ls_world.specs.World.{without, enqueue_slot, enqueue_at, live_turn, round_of, is_due, frequency_of, frequency_in}
-use Rattle.ls_world.specs.World.{are_filtered, is_filtered, keys_shown, mode_in, with_frequency, free_number}
-use Rattle.ls_world.specs.Acting.{asks_of, ask_of, group_of, places_among, subscribed}
+use Rattle.ls_record.specs.Came.{Came}
+use Rattle.ls_record.specs.Cutting.{Ask, Turn}
+use Rattle.ls_record.specs.Lines.{Line, Begins, Ends, Configures, Answers, Tells, is_update, updated}
+use Rattle.ls_world.specs.World.{World, empty}
+use Rattle.ls_record.specs.Records.{Item, LiveSlot, Board, Rate, Session, RoundLine, Round, definitions, fields_in}
+use Rattle.ls_record.specs.Records.{history_of, is_of, is_at, joined_all}
+use Rattle.ls_record.specs.Records.{without, enqueue_slot, enqueue_at, live_turn, round_of, is_due, frequency_of}
+use Rattle.ls_record.specs.Records.{frequency_in}
+use Rattle.ls_record.specs.Records.{are_filtered, is_filtered, keys_shown, mode_in, with_frequency, free_number}
+use Rattle.ls_record.specs.Acting.{asks_of, ask_of, group_of, places_among, free_slots}
+use Rattle.ls_world.specs.Acting.{subscribed}
 use Rattle.ls_world.specs.Steps.{does, does_all}
 use Rattle.ls_world.specs.Script.{world_of}
-use Rattle.ls_world.specs.Lawful.{Each}
-use Rattle.ls_world.proofs.Each.{each_map, each_mapped, each_append, each_both, each_contains}
-use Rattle.ls_world.proofs.Parts.{met_by, given_by}
-use Rattle.ls_world.proofs.Rules.{cond_rule}
+use Rattle.ls_value.specs.Each.{Each}
+use Rattle.ls_record.proofs.Each.{each_map, each_mapped, each_both, each_contains}
+use Rattle.ls_value.proofs.Each.{each_append}
+use Rattle.ls_record.proofs.Parts.{met_by, given_by}
+use Rattle.ls_record.proofs.Rules.{cond_rule}
 use Rattle.ls_world.proofs.Unmoved.{declared_by}
 use Rattle.ls_laws.specs.Budgets.{spends_of, IsOfDue, configured, is_left_by, AreApart, AreToldOf}
-use Rattle.ls_laws.proofs.Asked.{asked_is}
-use Rattle.ls_laws.proofs.Frame.{unused_each, without_each}
+use Rattle.ls_lawful.proofs.Asked.{asked_is}
+use Rattle.ls_lawful.proofs.Frame.{unused_each, without_each}
 use Rattle.ls_laws.proofs.Scripts.{lines_keep}
 use Rattle.ls_laws.proofs.DueSlots.{due_is, line_of_due}
 use Rattle.ls_laws.proofs.BoardRule.{Kept, OfEach, of_does}
@@ -38,6 +43,7 @@ abbrev LineSpaced : List Line → Line → Type 0
 LineSpaced lines (Begins sub items fields keys) = Unit {0}
 LineSpaced lines (Ends sub) = Unit {0}
 LineSpaced lines (Configures sub frequency filtered) = Unit {0}
+LineSpaced lines (Answers outcome) = Unit {0}
 LineSpaced lines (Tells sub rank tick c) = is_update c.what ≡ true → frequency_tick (configured sub lines) (updated sub rank lines) ≤ tick
 
 abbrev Spaced : List Line → Type 0
@@ -45,7 +51,7 @@ Spaced [] = Unit {0}
 Spaced (l ∷ lines) = LineSpaced lines l × Spaced lines
 
 -- a slot has the frequency that CONF told
-abbrev IsConfigured : List Line → Live → Type 0
+abbrev IsConfigured : List Line → LiveSlot → Type 0
 IsConfigured lines v = v.frequency ≡ configured v.sub lines
 
 record IsSpaced (now : ℕ) (b : Board) (r : Rate) : Type 0 where
@@ -71,11 +77,11 @@ configured_joined items free lines sub rank f filtered (a ∷ asks) e = (
 )
 
 -- CONF of another subscription
-configured_other : (lines : List Line) (sub : ℕ) (f : Option ℕ) (filtered : Bool) (v : Live) → is_of sub v ≡ false → IsConfigured lines v
+configured_other : (lines : List Line) (sub : ℕ) (f : Option ℕ) (filtered : Bool) (v : LiveSlot) → is_of sub v ≡ false → IsConfigured lines v
     → IsConfigured (Configures sub f filtered ∷ lines) v
 configured_other lines sub f filtered v other h = h ∙ sym (ap (λ b. cond b f (configured v.sub lines)) other)
 
-spaced_added : (now : ℕ) (w : World) (s : Session) (a : Add) → Each (λ (v : Live). is_of a.sub v ≡ false) s.board.round → IsSpaced now s.board s.rate
+spaced_added : (now : ℕ) (w : World) (s : Session) (a : Add) → Each (λ (v : LiveSlot). is_of a.sub v ≡ false) s.board.round → IsSpaced now s.board s.rate
     → IsSpaced now (subscribed w a s).board s.rate
 spaced_added now w s a others k =
     let asks : List Ask = asks_of (definitions w.items) a in
@@ -84,46 +90,46 @@ spaced_added now w s a others k =
       lines = (tt, (tt, k.lines));
       slots = each_append (IsConfigured (Configures a.sub (frequency_of asks) (are_filtered asks) ∷ lines)) s.board.round
           (joined_all w.items (free_number w.sessions) a.sub 1 asks)
-          (each_map (λ (v : Live). (is_of a.sub v ≡ false) × IsConfigured s.board.lines v)
+          (each_map (λ (v : LiveSlot). (is_of a.sub v ≡ false) × IsConfigured s.board.lines v)
           (IsConfigured (Configures a.sub (frequency_of asks) (are_filtered asks) ∷ lines)) s.board.round
           (λ v h. configured_other lines a.sub (frequency_of asks) (are_filtered asks) v h.0 h.1)
-          (each_both (λ (v : Live). is_of a.sub v ≡ false) (IsConfigured s.board.lines) s.board.round others k.slots))
+          (each_both (λ (v : LiveSlot). is_of a.sub v ≡ false) (IsConfigured s.board.lines) s.board.round others k.slots))
           (configured_joined w.items (free_number w.sessions) lines a.sub 1 (frequency_of asks) (are_filtered asks) asks
           (first_alike (frequency_in a.mode a.frequency) asks (asks_alike (definitions w.items) a (group_of (definitions w.items) a.group))));
     }
 
 -- another frequency
-configured_with : (lines : List Line) (sub : ℕ) (f : Option ℕ) (filtered : Bool) (v : Live) → IsConfigured lines v
+configured_with : (lines : List Line) (sub : ℕ) (f : Option ℕ) (filtered : Bool) (v : LiveSlot) → IsConfigured lines v
     → IsConfigured (Configures sub f filtered ∷ lines) (with_frequency sub f v)
 configured_with lines sub f filtered v h =
     cond_rule (IsConfigured (Configures sub f filtered ∷ lines)) (is_of sub v) (record v { frequency = f }) v
     (λ t. sym (ap (λ b. cond b f (configured v.sub lines)) t)) (λ t. configured_other lines sub f filtered v t h)
 
 -- an enqueue
-configured_enqueued : (items : List Item) (lines : List Line) (sub rank : ℕ) (v : Live) → IsConfigured lines v
+configured_enqueued : (items : List Item) (lines : List Line) (sub rank : ℕ) (v : LiveSlot) → IsConfigured lines v
     → IsConfigured lines (enqueue_at items sub rank v)
 configured_enqueued items lines sub rank v h =
     cond_rule (IsConfigured lines) (is_at sub rank v) (enqueue_slot (history_of items v.item) v) v
     (λ t. cond_rule (IsConfigured lines) _ (record v { slot = enqueued v.slot }) v (λ u. h) (λ u. h)) (λ t. h)
 
 -- what is true of each slot of a round, whatever its cursor is, is true after its turns
-record RoundOf (P : Live → Type 0) (r : Round) : Type 0 where
+record RoundOf (P : LiveSlot → Type 0) (r : Round) : Type 0 where
   kept : Each P r.kept
   came : IfSome r.came (λ t. P t.live)
 
-met_of : (P : Live → Type 0) (v : Live) (s : Slot) (o : Option Came) (vs : List Live) (rest : Round) → P (record v { slot = s }) → Each P vs
+met_of : (P : LiveSlot → Type 0) (v : LiveSlot) (s : Slot) (o : Option Came) (vs : List LiveSlot) (rest : Round) → P (record v { slot = s }) → Each P vs
     → RoundOf P rest → RoundOf P (met_by (record v { slot = s }) o vs rest)
 met_of P v s None vs rest p e r = record { kept = (p, r.kept); came = r.came }
 met_of P v s (Some c) vs rest p e r = record { kept = e; came = p }
 
-round_each : (P : Live → Type 0) → ((v : Live) (s : Slot) → P v → P (record v { slot = s })) → (due : Live → Bool) (items : List Item) (lines : List Line)
-    (vs : List Live) → Each P vs → RoundOf P (round_of due items lines vs)
+round_each : (P : LiveSlot → Type 0) → ((v : LiveSlot) (s : Slot) → P v → P (record v { slot = s })) → (due : LiveSlot → Bool) (items : List Item) (lines : List Line)
+    (vs : List LiveSlot) → Each P vs → RoundOf P (round_of due items lines vs)
 round_each P moved due items lines [] e = record { kept = tt; came = tt }
 round_each P moved due items lines (v ∷ vs) e =
     let t : Turn = live_turn due items lines v in
     met_of P v t.slot t.came vs (round_of due items lines vs) (moved v t.slot e.0) e.1 (round_each P moved due items lines vs e.1)
 
-spaced_given : (now : ℕ) (s : Session) (kept : List Live) (o : Option RoundLine) → ((t : RoundLine) → o ≡ Some t → IsOfDue now s t)
+spaced_given : (now : ℕ) (s : Session) (kept : List LiveSlot) (o : Option RoundLine) → ((t : RoundLine) → o ≡ Some t → IsOfDue now s t)
     → Each (IsConfigured s.board.lines) s.board.round → Each (IsConfigured s.board.lines) kept → IfSome o (λ t. IsConfigured s.board.lines t.live)
     → Spaced s.board.lines → IsSpaced now (given_by now s.board kept o) s.rate
 spaced_given now s kept None due told e p l = record { lines = l; slots = e }
@@ -137,7 +143,7 @@ spaced_given now s kept (Some t) due told e p l =
     (each_contains (IsConfigured s.board.lines) d.slot s.board.round told d.is_in) reached in
     record {
       lines = (
-        (λ update. subst (λ (v : Live). frequency_tick (configured v.sub s.board.lines) (updated v.sub v.rank s.board.lines) ≤ now) (sym d.same) same),
+        (λ update. subst (λ (v : LiveSlot). frequency_tick (configured v.sub s.board.lines) (updated v.sub v.rank s.board.lines) ≤ now) (sym d.same) same),
         l,
       );
       slots = each_append (IsConfigured (Tells t.live.sub t.live.rank now t.came ∷ s.board.lines)) kept (t.live ∷ []) e (p, tt);
@@ -147,7 +153,7 @@ spaced : Kept IsSpaced
 spaced =
     record {
       opens = λ now limit rate. record { lines = tt; slots = tt };
-      adds = λ now w s a none k. spaced_added now w s a (unused_each a.sub s.board.round (asked_is w s a none).new) k;
+      adds = λ now w s a none k. spaced_added now w s a (unused_each a.sub s.board.round (asked_is w.items (free_slots w.sessions) s a none).new) k;
       removes = λ now sub b r k. record {
         lines = (tt, k.lines);
         slots = each_map (IsConfigured b.lines) (IsConfigured (Ends sub ∷ b.lines)) (without sub b.round) (λ v h. h)
@@ -275,6 +281,9 @@ last_update sub rank f early d (Configures s frequency filtered ∷ between) old
       later = k.later;
       frequency = ap (λ b. cond b frequency (configured sub (between ++ (Tells sub rank early d ∷ older)))) (not_true (s == sub) other) ∙ k.frequency;
     }
+last_update sub rank f early d (Answers outcome ∷ between) older given update left told =
+    let k = last_update sub rank f early d between older given.1 update left told in
+    record { tick = k.tick; is = k.is; later = k.later; frequency = k.frequency }
 last_update sub rank f early d (Tells s p tick c ∷ between) older given update left told =
     tells_later sub rank f early s p tick c (between ++ (Tells sub rank early d ∷ older)) given.0
     (last_update sub rank f early d between older given.1 update left told)

@@ -13,22 +13,24 @@ use Rattle.ls_step.specs.declared.step.Step.TheVariants as step
 use Rattle.ls_step.specs.declared.step.Repeat.{Repeat}
 use Rattle.ls_step.specs.Grammar.{Known}
 use Rattle.ls_step.specs.Ranges.{Fits}
-use Rattle.ls_world.specs.Came.{Came}
+use Rattle.ls_record.specs.Came.{Came}
 use Rattle.ls_event.specs.declared.event.Mode.{Mode}
-use Rattle.ls_world.specs.Cutting.{Ask}
-use Rattle.ls_world.specs.Acting.{asks_of}
-use Rattle.ls_world.specs.Lines.{Line, Begins, Ends, Configures, Tells, is_update, line_text, spent_by, spends_behind, updated}
-use Rattle.ls_world.specs.World.{World, Item, Live, Board, Rate, Session, RoundLine, Round, empty, round_of, is_due, definitions}
-use Rattle.ls_world.specs.World.{frequency_of, frequency_in, are_filtered, is_filtered, keys_shown, mode_in}
+use Rattle.ls_record.specs.Cutting.{Ask}
+use Rattle.ls_record.specs.Acting.{asks_of}
+use Rattle.ls_record.specs.Lines.{Line, Begins, Ends, Configures, Tells, is_update, line_text, spent_by}
+use Rattle.ls_record.specs.Lines.{spends_behind, updated}
+use Rattle.ls_world.specs.World.{World, empty}
+use Rattle.ls_record.specs.Records.{Item, LiveSlot, Board, Rate, Session, RoundLine, Round, round_of, is_due, definitions}
+use Rattle.ls_record.specs.Records.{frequency_of, frequency_in, are_filtered, is_filtered, keys_shown, mode_in}
 use Rattle.ls_world.specs.Steps.{does, does_all}
 use Rattle.ls_world.specs.Script.{known_of, world_of}
-use Rattle.ls_world.specs.Lawful.{Each}
-use Rattle.ls_world.proofs.Each.{each_map}
-use Rattle.ls_world.proofs.Parts.{given_by}
-use Rattle.ls_world.proofs.Rules.{cond_rule}
+use Rattle.ls_value.specs.Each.{Each}
+use Rattle.ls_record.proofs.Each.{each_map}
+use Rattle.ls_record.proofs.Parts.{given_by}
+use Rattle.ls_record.proofs.Rules.{cond_rule}
 use Rattle.ls_world.proofs.Unmoved.{declared_by, does_unmoved}
 use Rattle.ls_laws.specs.Budgets.{WaitsForFirst, spends_of, IsOfDue, KeepsBandwidth, KeepsWindows, clock_after, ClockRises}
-use Rattle.ls_laws.proofs.Requested.{IsRate}
+use Rattle.ls_lawful.proofs.Requested.{IsRate}
 use Rattle.ls_laws.proofs.Scripts.{KeptByLines, lines_keep}
 use Rattle.ls_laws.proofs.DueSlots.{due_is, line_of_due, wait_is_first}
 use Rattle.ls_laws.proofs.BoardRule.{Kept, OfEach, of_does}
@@ -87,7 +89,7 @@ added_made now n limit items sub fields asks lines k =
     let m : IsMade now limit (spends_behind n (first ∷ lines)) = line_made now n limit first lines k k in
     line_made now n limit (Configures sub (frequency_of asks) (are_filtered asks)) (first ∷ lines) m m
 
-credited_given : (now : ℕ) (s : Session) (kept : List Live) (o : Option RoundLine) → ((t : RoundLine) → o ≡ Some t → IsOfDue now s t)
+credited_given : (now : ℕ) (s : Session) (kept : List LiveSlot) (o : Option RoundLine) → ((t : RoundLine) → o ≡ Some t → IsOfDue now s t)
     → Credited now s.board s.rate → Credited now (given_by now s.board kept o) s.rate
 credited_given now s kept None due k = k
 credited_given now s kept (Some t) due k =

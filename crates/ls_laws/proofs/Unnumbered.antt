@@ -11,21 +11,27 @@ use Rattle.ls_event.specs.declared.event.Mode.TheVariants as mode
 use Rattle.ls_event.specs.Slots.{enqueued}
 use Rattle.ls_event.specs.declared.item.ItemDef.{ItemDef}
 use Rattle.ls_request.specs.declared.request.Add.{Add}
-use Rattle.ls_world.specs.Came.{Came}
-use Rattle.ls_world.specs.Cutting.{Ask}
-use Rattle.ls_world.specs.Lines.{Line, Configures}
+use Rattle.ls_record.specs.Came.{Came}
+use Rattle.ls_record.specs.Cutting.{Ask}
+use Rattle.ls_record.specs.Lines.{Line, Configures}
 use Rattle.ls_value.specs.declared.limits.TheConstants.{GREATEST_NUMBER}
-use Rattle.ls_world.specs.declared.TheConstants.{MOST_SUBSCRIPTIONS}
-use Rattle.ls_world.specs.World.{Item, Live, Board, Life, Alive, Ending, Ended, Session, RoundLine, Round, history_of, is_at, is_of, is_used, live_at}
-use Rattle.ls_world.specs.World.{joined_slot, joined_all, added, without, removed, enqueue_slot, enqueue_at, enqueued_in, live_turn, round_of, taken_in}
-use Rattle.ls_world.specs.World.{trimmed, numbered, is_to_loop, is_bound, unbound_at, unless_timed_out, is_timed_out, ended, timed_out}
-use Rattle.ls_world.specs.World.{on_board, is_unsent, given_next, frequency_in, is_filtered, mode_in, with_frequency, reconfigured, due_at, is_due, is_waiting}
-use Rattle.ls_world.specs.World.{least_of, waits_of, least_wait}
-use Rattle.ls_world.specs.Acting.{is_group, group_of, is_allowed, is_schema, subscriptions, are_too_many, are_spent, add_refusals, change_code}
-use Rattle.ls_world.specs.Cases.{with_found}
-use Rattle.ls_world.specs.Steps.{SessionTurn, Gave, Spent, Superseded, loop_text, next_given, waits_until, round_turn, turn_owing, turn_bound, gives_unbound}
-use Rattle.ls_world.specs.Steps.{session_turn}
-use Rattle.ls_world.proofs.Parts.{met_by, given_by}
+use Rattle.ls_record.specs.declared.TheConstants.{MOST_SUBSCRIPTIONS}
+use Rattle.ls_record.specs.Records.{Item, LiveSlot, Board, Life, Alive, Ending, Closed, Session, RoundLine, Round}
+use Rattle.ls_record.specs.Records.{history_of, is_at, is_of, is_used, live_at}
+use Rattle.ls_record.specs.Records.{joined_slot, joined_all, added, without, removed, enqueue_slot, enqueue_at}
+use Rattle.ls_record.specs.Records.{enqueued_in, live_turn, round_of, taken_in}
+use Rattle.ls_record.specs.Records.{trimmed, numbered, is_to_loop, is_bound, unbound_at, unless_timed_out}
+use Rattle.ls_record.specs.Records.{is_timed_out, ended, timed_out}
+use Rattle.ls_record.specs.Records.{on_board, is_unsent, given_next, frequency_in, is_filtered, mode_in}
+use Rattle.ls_record.specs.Records.{with_frequency, reconfigured, due_at, is_due, is_waiting}
+use Rattle.ls_record.specs.Records.{least_of, waits_of, least_wait}
+use Rattle.ls_record.specs.Acting.{is_group, group_of, is_allowed, is_schema, subscriptions, are_too_many, are_spent}
+use Rattle.ls_record.specs.Acting.{add_refusals, change_code}
+use Rattle.ls_record.specs.Cases.{with_found}
+use Rattle.ls_record.specs.Turning.{SessionTurn, Send, Spent, Superseded, loop_text, next_given, waits_until}
+use Rattle.ls_record.specs.Turning.{round_turn, turn_owing, turn_bound, gives_unbound}
+use Rattle.ls_record.specs.Turning.{session_turn}
+use Rattle.ls_record.proofs.Parts.{met_by, given_by}
 use Rattle.ls_laws.specs.Alone.{unnumbered_slot, unnumbered_board, unnumbered}
 
 -- a function of both parts of a test
@@ -34,26 +40,26 @@ pushed f true x y = refl
 pushed f false x y = refl
 
 -- slots without their numbers
-abbrev slots : List Live → List Live
+abbrev slots : List LiveSlot → List LiveSlot
 slots vs = map unnumbered_slot vs
 
 -- what is asked of a round
-used_same : (sub : ℕ) (vs : List Live) → is_used sub (slots vs) ≡ is_used sub vs
+used_same : (sub : ℕ) (vs : List LiveSlot) → is_used sub (slots vs) ≡ is_used sub vs
 used_same sub [] = refl
 used_same sub (v ∷ vs) = ap (λ b. is_of sub v || b) (used_same sub vs)
 
-pub live_same : (sub rank : ℕ) (vs : List Live) → live_at sub rank (slots vs) ≡ option_map unnumbered_slot (live_at sub rank vs)
+pub live_same : (sub rank : ℕ) (vs : List LiveSlot) → live_at sub rank (slots vs) ≡ option_map unnumbered_slot (live_at sub rank vs)
 live_same sub rank [] = refl
 live_same sub rank (v ∷ vs) =
     ap (λ o. cond (is_at sub rank v) (Some (unnumbered_slot v)) o) (live_same sub rank vs)
     ∙ pushed (option_map unnumbered_slot) (is_at sub rank v) (Some v) (live_at sub rank vs)
 
-subscriptions_same : (vs : List Live) → subscriptions (slots vs) ≡ subscriptions vs
+subscriptions_same : (vs : List LiveSlot) → subscriptions (slots vs) ≡ subscriptions vs
 subscriptions_same [] = refl
 subscriptions_same (v ∷ vs) =
-    sum_by-cons (λ (u : Live). cond (u.rank == 1) 1 0) (unnumbered_slot v) (slots vs)
+    sum_by-cons (λ (u : LiveSlot). cond (u.rank == 1) 1 0) (unnumbered_slot v) (slots vs)
     ∙ ap (λ n. cond (v.rank == 1) 1 0 + n) (subscriptions_same vs)
-    ∙ sym (sum_by-cons (λ (u : Live). cond (u.rank == 1) 1 0) v vs)
+    ∙ sym (sum_by-cons (λ (u : LiveSlot). cond (u.rank == 1) 1 0) v vs)
 
 -- an add is refused by whether it lacks slots
 abbrev pub refusals_by : List ItemDef → Bool → Session → Add → List (ℕ × Bool)
@@ -95,7 +101,7 @@ added_same items free sub fields asks b =
     ap (λ vs. record (added items free sub fields asks b) { round = vs })
     (map-append unnumbered_slot b.round (joined_all items free sub 1 asks) ∙ ap (λ vs. slots b.round ++ vs) (joined_same items free sub 1 asks))
 
-without_same : (sub : ℕ) (vs : List Live) → without sub (slots vs) ≡ slots (without sub vs)
+without_same : (sub : ℕ) (vs : List LiveSlot) → without sub (slots vs) ≡ slots (without sub vs)
 without_same sub [] = refl
 without_same sub (v ∷ vs) =
     ap (λ us. cond (is_of sub v) us (unnumbered_slot v ∷ us)) (without_same sub vs) ∙ pushed slots (is_of sub v) (without sub vs) (v ∷ without sub vs)
@@ -104,16 +110,16 @@ pub removed_same : (sub : ℕ) (b : Board) → removed sub (unnumbered_board b) 
 removed_same sub b = ap (λ vs. record (removed sub b) { round = vs }) (without_same sub b.round)
 
 -- a subscription gets another frequency
-mode_same : (o : Option Live) → option_map_or (λ (v : Live). v.slot.plan.mode) (option_map unnumbered_slot o) mode.Merge
-    ≡ option_map_or (λ (v : Live). v.slot.plan.mode) o mode.Merge
+mode_same : (o : Option LiveSlot) → option_map_or (λ (v : LiveSlot). v.slot.plan.mode) (option_map unnumbered_slot o) mode.Merge
+    ≡ option_map_or (λ (v : LiveSlot). v.slot.plan.mode) o mode.Merge
 mode_same None = refl
 mode_same (Some v) = refl
 
-mode_in_same : (sub : ℕ) (vs : List Live) → mode_in sub (slots vs) ≡ mode_in sub vs
+mode_in_same : (sub : ℕ) (vs : List LiveSlot) → mode_in sub (slots vs) ≡ mode_in sub vs
 mode_in_same sub vs =
-    ap (λ o. option_map_or (λ (v : Live). v.slot.plan.mode) o mode.Merge) (live_same sub 1 vs) ∙ mode_same (live_at sub 1 vs)
+    ap (λ o. option_map_or (λ (v : LiveSlot). v.slot.plan.mode) o mode.Merge) (live_same sub 1 vs) ∙ mode_same (live_at sub 1 vs)
 
-frequencies_same : (sub : ℕ) (f : Option ℕ) (vs : List Live) → map (with_frequency sub f) (slots vs) ≡ slots (map (with_frequency sub f) vs)
+frequencies_same : (sub : ℕ) (f : Option ℕ) (vs : List LiveSlot) → map (with_frequency sub f) (slots vs) ≡ slots (map (with_frequency sub f) vs)
 frequencies_same sub f [] = refl
 frequencies_same sub f (v ∷ vs) =
     λ i. pushed unnumbered_slot (is_of sub v) (record v { frequency = f }) v i ∷ frequencies_same sub f vs i
@@ -128,13 +134,13 @@ reconfigured_same sub frequency b =
     ∙ ap (λ vs. record (reconfigured sub frequency b) { round = vs }) (frequencies_same sub (frequency_in (mode_in sub b.round) frequency) b.round)
 
 -- an enqueue
-enqueue_same : (items : List Item) (sub rank : ℕ) (v : Live) → enqueue_at items sub rank (unnumbered_slot v) ≡ unnumbered_slot (enqueue_at items sub rank v)
+enqueue_same : (items : List Item) (sub rank : ℕ) (v : LiveSlot) → enqueue_at items sub rank (unnumbered_slot v) ≡ unnumbered_slot (enqueue_at items sub rank v)
 enqueue_same items sub rank v =
     ap (λ u. cond (is_at sub rank v) u (unnumbered_slot v))
     (pushed unnumbered_slot (nat_lt v.slot.last (length (history_of items v.item))) (record v { slot = enqueued v.slot }) v)
     ∙ pushed unnumbered_slot (is_at sub rank v) (enqueue_slot (history_of items v.item) v) v
 
-enqueues_same : (items : List Item) (sub rank : ℕ) (vs : List Live) → map (enqueue_at items sub rank) (slots vs) ≡ slots (map (enqueue_at items sub rank) vs)
+enqueues_same : (items : List Item) (sub rank : ℕ) (vs : List LiveSlot) → map (enqueue_at items sub rank) (slots vs) ≡ slots (map (enqueue_at items sub rank) vs)
 enqueues_same items sub rank [] = refl
 enqueues_same items sub rank (v ∷ vs) = λ i. enqueue_same items sub rank v i ∷ enqueues_same items sub rank vs i
 
@@ -149,12 +155,12 @@ line_of t = record t { live = unnumbered_slot t.live }
 abbrev round_without : Round → Round
 round_without r = record { kept = slots r.kept; came = option_map line_of r.came }
 
-met_same : (v : Live) (o : Option Came) (vs : List Live) (r : Round) → met_by (unnumbered_slot v) o (slots vs) (round_without r)
+met_same : (v : LiveSlot) (o : Option Came) (vs : List LiveSlot) (r : Round) → met_by (unnumbered_slot v) o (slots vs) (round_without r)
     ≡ round_without (met_by v o vs r)
 met_same v None vs r = refl
 met_same v (Some c) vs r = refl
 
-round_same : (now : ℕ) (s : Session) (items : List Item) (lines : List Line) (vs : List Live)
+round_same : (now : ℕ) (s : Session) (items : List Item) (lines : List Line) (vs : List LiveSlot)
     → round_of (is_due now (unnumbered s)) items lines (slots vs) ≡ round_without (round_of (is_due now s) items lines vs)
 round_same now s items lines [] = refl
 round_same now s items lines (v ∷ vs) =
@@ -162,7 +168,7 @@ round_same now s items lines (v ∷ vs) =
     ap (λ r. met_by (unnumbered_slot (record v { slot = t.slot })) t.came (slots vs) r) (round_same now s items lines vs)
     ∙ met_same (record v { slot = t.slot }) t.came vs (round_of (is_due now s) items lines vs)
 
-given_same : (now : ℕ) (b : Board) (kept : List Live) (o : Option RoundLine) → given_by now (unnumbered_board b) (slots kept) (option_map line_of o)
+given_same : (now : ℕ) (b : Board) (kept : List LiveSlot) (o : Option RoundLine) → given_by now (unnumbered_board b) (slots kept) (option_map line_of o)
     ≡ unnumbered_board (given_by now b kept o)
 given_same now b kept None = refl
 given_same now b kept (Some t) =
@@ -176,11 +182,11 @@ taken_same now items s =
     ∙ given_same now s.board r.kept r.came
 
 -- which slots are due, and which wait
-any_same : (now : ℕ) (s : Session) (vs : List Live) → list_any (is_due now (unnumbered s)) (slots vs) ≡ list_any (is_due now s) vs
+any_same : (now : ℕ) (s : Session) (vs : List LiveSlot) → list_any (is_due now (unnumbered s)) (slots vs) ≡ list_any (is_due now s) vs
 any_same now s [] = refl
 any_same now s (v ∷ vs) = ap (λ b. is_due now s v || b) (any_same now s vs)
 
-waits_same : (now : ℕ) (items : List Item) (s : Session) (vs : List Live) → waits_of now items (unnumbered s) (slots vs) ≡ waits_of now items s vs
+waits_same : (now : ℕ) (items : List Item) (s : Session) (vs : List LiveSlot) → waits_of now items (unnumbered s) (slots vs) ≡ waits_of now items s vs
 waits_same now items s [] = refl
 waits_same now items s (v ∷ vs) = ap (λ ns. cond (is_waiting now items s v) (due_at now s v ∷ ns) ns) (waits_same now items s vs)
 
@@ -236,7 +242,7 @@ owing_same : (now : ℕ) (items : List Item) (s : Session) (owed : List (List �
     ≡ turn_without (turn_owing now items s owed)
 owing_same now items s (text ∷ owed) = refl
 owing_same now items s [] =
-    let loops : SessionTurn = record { session = unbound_at now s; gives = Gave loop_text } in
+    let loops : SessionTurn = record { session = unbound_at now s; gives = Send loop_text } in
     ap (λ (t : SessionTurn). cond (is_to_loop s.streams) (turn_without loops) (cond (is_unsent s) t (round_turn now items (unnumbered s)))) (next_same s)
     ∙ ap (λ (t : SessionTurn). cond (is_to_loop s.streams) (turn_without loops) (cond (is_unsent s) (turn_without (next_given s)) t))
     (round_turn_same now items s)
@@ -248,7 +254,7 @@ bound_same : (now : ℕ) (items : List Item) (s : Session) (life : Life) → tur
     ≡ turn_without (turn_bound now items s life)
 bound_same now items s Alive = owing_same now items s s.owed
 bound_same now items s (Ending code) = refl
-bound_same now items s (Ended code) = refl
+bound_same now items s (Closed code) = refl
 
 pub turn_same : (now : ℕ) (items : List Item) (epoch : ℕ) (s : Session) → session_turn now items epoch (unnumbered s)
     ≡ turn_without (session_turn now items epoch s)

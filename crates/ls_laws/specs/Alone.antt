@@ -14,13 +14,15 @@ use Rattle.ls_step.specs.declared.step.Step.{Step}
 use Rattle.ls_step.specs.declared.step.Step.TheVariants as step
 use Rattle.ls_step.specs.declared.step.Repeat.{Repeat}
 use Rattle.ls_step.specs.Adding.{add_pairs}
-use Rattle.ls_world.specs.World.{World, Item, Live, Board, Session, Connection, on_board}
-use Rattle.ls_world.specs.Acting.{free_slots}
-use Rattle.ls_world.specs.Lawful.{Each}
-use Rattle.ls_world.specs.Steps.{session_of, session_named, link_of, request_over, does}
+use Rattle.ls_world.specs.World.{World, Connection}
+use Rattle.ls_record.specs.Records.{Item, LiveSlot, Board, Session, on_board}
+use Rattle.ls_record.specs.Acting.{free_slots}
+use Rattle.ls_value.specs.Each.{Each}
+use Rattle.ls_world.specs.Steps.{session_of, session_named, link_of, does}
+use Rattle.ls_record.specs.Acting.{request_over}
 
 -- a slot, a board and a session without the numbers of slots
-abbrev pub unnumbered_slot : Live → Live
+abbrev pub unnumbered_slot : LiveSlot → LiveSlot
 unnumbered_slot v = record v { number = 0 }
 
 abbrev pub unnumbered_board : Board → Board

@@ -9,11 +9,12 @@ use Rattle.ls_budget.specs.Window.{latest_tick, MadeWithCredit, IsWithin, taken_
 use Rattle.ls_step.specs.declared.step.Step.{Step}
 use Rattle.ls_step.specs.declared.step.Step.TheVariants as step
 use Rattle.ls_step.specs.declared.step.Repeat.{Repeat}
-use Rattle.ls_world.specs.Came.{Came}
-use Rattle.ls_world.specs.Lawful.{Each}
-use Rattle.ls_world.specs.Lines.{Line, Begins, Ends, Configures, Tells, is_update, spends_behind}
-use Rattle.ls_world.specs.Steps.{NotDue, session_turn}
-use Rattle.ls_world.specs.World.{World, Item, Live, Session, RoundLine, due_at, is_due, is_waiting}
+use Rattle.ls_record.specs.Came.{Came}
+use Rattle.ls_value.specs.Each.{Each}
+use Rattle.ls_record.specs.Lines.{Line, Begins, Ends, Configures, Answers, Tells, is_update, spends_behind}
+use Rattle.ls_record.specs.Turning.{NotDue, session_turn}
+use Rattle.ls_world.specs.World.{World}
+use Rattle.ls_record.specs.Records.{Item, LiveSlot, Session, RoundLine, due_at, is_due, is_waiting}
 
 -- what the U lines of a session took of its bandwidth since that was set, the newest first
 abbrev pub spends_of : Session → List Spend
@@ -21,14 +22,14 @@ spends_of s = spends_behind s.rate.behind s.board.lines
 
 -- a round's line is that of a slot of the session which is due
 pub record IsOfDue (now : ℕ) (s : Session) (t : RoundLine) : Type 0 where
-  pub slot : Live
+  pub slot : LiveSlot
   pub is_in : Contains s.board.round slot
   pub due : is_due now s slot ≡ true
   pub same : t.live ≡ record slot { slot = t.live.slot }
 
 -- one line was numbered at a tick, and it tells of a slot of the session which was due then
 pub record NumbersDue (now : ℕ) (s : Session) (lines : List Line) : Type 0 where
-  pub slot : Live
+  pub slot : LiveSlot
   pub is_in : Contains s.board.round slot
   pub due : is_due now s slot ≡ true
   pub came : Came
@@ -36,11 +37,11 @@ pub record NumbersDue (now : ℕ) (s : Session) (lines : List Line) : Type 0 whe
 
 -- a tick is that of a slot which waits, and of none that waits it is an earlier one
 pub record IsLeastWait (now : ℕ) (items : List Item) (s : Session) (tick : ℕ) : Type 0 where
-  pub slot : Live
+  pub slot : LiveSlot
   pub is_in : Contains s.board.round slot
   pub waits : is_waiting now items s slot ≡ true
   pub at : due_at now s slot ≡ tick
-  pub least : (v : Live) → Contains s.board.round v → is_waiting now items s v ≡ true → tick ≤ due_at now s v
+  pub least : (v : LiveSlot) → Contains s.board.round v → is_waiting now items s v ≡ true → tick ≤ due_at now s v
 
 -- whether a slot that waits now is due at a tick, where nothing comes meanwhile
 abbrev pub is_any_due : ℕ → List Item → Session → ℕ → Bool
@@ -80,6 +81,7 @@ configured sub [] = None
 configured sub (Begins s items fields keys ∷ lines) = configured sub lines
 configured sub (Ends s ∷ lines) = configured sub lines
 configured sub (Configures s frequency filtered ∷ lines) = if s == sub then frequency else configured sub lines
+configured sub (Answers outcome ∷ lines) = configured sub lines
 configured sub (Tells s rank tick c ∷ lines) = configured sub lines
 
 -- whether lines leave a subscription as it is: none begins it, ends it or tells of its frequency
@@ -88,6 +90,7 @@ is_left_by sub [] = true
 is_left_by sub (Begins s items fields keys ∷ lines) = not (s == sub) && is_left_by sub lines
 is_left_by sub (Ends s ∷ lines) = not (s == sub) && is_left_by sub lines
 is_left_by sub (Configures s frequency filtered ∷ lines) = not (s == sub) && is_left_by sub lines
+is_left_by sub (Answers outcome ∷ lines) = is_left_by sub lines
 is_left_by sub (Tells s rank tick c ∷ lines) = is_left_by sub lines
 
 -- two updates of a slot under one frequency, between which its subscription is left as it is, are at least the

@@ -7,12 +7,13 @@ use Rattle.std.specs.Option.{ForSome}
 use Rattle.ls_keep.specs.declared.limits.TheConstants.{MOST_KEPT_LINES, MOST_KEPT_BYTES}
 use Rattle.ls_keep.specs.Keeping.{bytes_of}
 use Rattle.ls_request.specs.declared.request.Bind.{Bind}
-use Rattle.ls_world.specs.declared.TheConstants.{MOST_UNBOUND}
-use Rattle.ls_world.specs.Lines.{text_at, texts_behind}
-use Rattle.ls_world.specs.World.{World, Session, Stream, Alive, change, is_alive, opening_lines, count_lines}
-use Rattle.ls_world.specs.Acting.{bind_code}
-use Rattle.ls_world.specs.Steps.{SessionTurn, Gave}
-use Rattle.ls_world.specs.Lawful.{Each}
+use Rattle.ls_record.specs.declared.TheConstants.{MOST_UNBOUND}
+use Rattle.ls_record.specs.Lines.{text_at, texts_behind}
+use Rattle.ls_world.specs.World.{World}
+use Rattle.ls_record.specs.Records.{Session, Stream, Alive, change, is_alive, opening_lines, count_lines}
+use Rattle.ls_record.specs.Acting.{bind_code}
+use Rattle.ls_record.specs.Turning.{SessionTurn, Send}
+use Rattle.ls_value.specs.Each.{Each}
 
 -- so many numbers behind a number, in order
 abbrev pub numbers_behind : ℕ → ℕ → List ℕ
@@ -30,7 +31,7 @@ given_on s = map (λ t. t.given) s.streams
 -- a turn gives the text of the line of a number, and the number is the next one of the newest stream
 pub record GivesLine (s : Session) (t : SessionTurn) : Type 0 where
   pub number : ℕ
-  pub text : t.gives ≡ Gave (text_at t.session.board.lines number)
+  pub text : t.gives ≡ Send (text_at t.session.board.lines number)
   pub streams : given_on t.session ≡ change 0 (λ ns. number ∷ ns) (given_on s)
 
 -- a stream that a client had, and how many of the lines given on it came before it was lost

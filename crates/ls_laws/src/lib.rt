@@ -12,7 +12,8 @@
 //! `a_client_that_binds_with_its_count_holds_all_lines`, `a_new_stream_goes_on_behind_its_count` and
 //! `a_recovery_is_refused_exactly` say how a client goes on whose stream was lost, and
 //! `lines_are_given_up_only_beyond_the_limits`, `streams_have_their_lines_without_a_gap` and
-//! `a_session_times_out_exactly` what each session keeps of its streams.
+//! `a_session_times_out_exactly` what each session keeps of its streams. `want_of_memory_leaves_a_lawful_world` says that
+//! a step that failed for want of memory leaves a lawful world too.
 //!
 //! The laws are of the definitions alone. That the program does what these say is the contracts of the engine's crates.
 //! Only the program stands on this crate, so a change of a proof here proves nothing else again.
@@ -32,6 +33,7 @@ pub use law::{
     only_due_slots_give_lines, only_old_rows_are_left_out, settled_clients_have_the_items_rows,
     settled_clients_have_the_items_state, settled_clients_know_of_each_update,
     settled_slots_are_at_the_last_event, settled_tables_are_the_items,
-    streams_have_their_lines_without_a_gap, the_turn_ends_its_cuts, turns_move_the_round,
-    updates_of_a_slot_are_apart, updates_of_a_window_are_bounded,
+    streams_have_their_lines_without_a_gap, the_limits, the_turn_ends_its_cuts,
+    turns_move_the_round, updates_of_a_slot_are_apart, updates_of_a_window_are_bounded,
+    want_of_memory_leaves_a_lawful_world,
 };

@@ -37,39 +37,39 @@ pub record Shape : Type 0 where
   pub parts : List Part
 
 -- a line that PROG doesn't count, and a numbered line, which it counts
-abbrev pub free : List ℕ → List Part → Shape
-free tag parts = record { tag = tag; counts = false; parts = parts }
+abbrev pub unnumbered : List ℕ → List Part → Shape
+unnumbered tag parts = record { tag = tag; counts = false; parts = parts }
 
-abbrev pub counted : List ℕ → List Part → Shape
-counted tag parts = record { tag = tag; counts = true; parts = parts }
+abbrev pub numbered : List ℕ → List Part → Shape
+numbered tag parts = record { tag = tag; counts = true; parts = parts }
 
 -- the table of lines
 abbrev pub shape_of : Line → Shape
 shape_of (line.ConOk session keep_alive) =
-    free (codes "CONOK") (Text session ∷ Fixed word.RequestLimit ∷ Count keep_alive ∷ Fixed word.NoControlLink ∷ [])
-shape_of (line.ConErr code message) = free (codes "CONERR") (Count code ∷ Message message ∷ [])
-shape_of line.ServName = free (codes "SERVNAME") (Fixed word.ServerName ∷ [])
-shape_of (line.Cons bandwidth) = free (codes "CONS") (Text bandwidth ∷ [])
-shape_of (line.Prog count) = free (codes "PROG") (Count count ∷ [])
-shape_of line.Probe = free (codes "PROBE") []
-shape_of line.Loop = free (codes "LOOP") (Fixed word.NoDelay ∷ [])
-shape_of (line.End code message) = free (codes "END") (Count code ∷ Message message ∷ [])
-shape_of (line.SubOk sub items fields) = counted (codes "SUBOK") (Ordinal sub ∷ Ordinal items ∷ Ordinal fields ∷ [])
+    unnumbered (codes "CONOK") (Text session ∷ Fixed word.RequestLimit ∷ Count keep_alive ∷ Fixed word.NoControlLink ∷ [])
+shape_of (line.ConErr code message) = unnumbered (codes "CONERR") (Count code ∷ Message message ∷ [])
+shape_of line.ServName = unnumbered (codes "SERVNAME") (Fixed word.ServerName ∷ [])
+shape_of (line.Cons bandwidth) = unnumbered (codes "CONS") (Text bandwidth ∷ [])
+shape_of (line.Prog count) = unnumbered (codes "PROG") (Count count ∷ [])
+shape_of line.Probe = unnumbered (codes "PROBE") []
+shape_of line.Loop = unnumbered (codes "LOOP") (Fixed word.NoDelay ∷ [])
+shape_of (line.End code message) = unnumbered (codes "END") (Count code ∷ Message message ∷ [])
+shape_of (line.SubOk sub items fields) = numbered (codes "SUBOK") (Ordinal sub ∷ Ordinal items ∷ Ordinal fields ∷ [])
 shape_of (line.SubCmd sub items fields key command) =
-    counted (codes "SUBCMD") (Ordinal sub ∷ Ordinal items ∷ Ordinal fields ∷ Ordinal key ∷ Ordinal command ∷ [])
-shape_of (line.Conf sub frequency filter) = counted (codes "CONF") (Ordinal sub ∷ Text frequency ∷ Text filter ∷ [])
-shape_of (line.Unsub sub) = counted (codes "UNSUB") (Ordinal sub ∷ [])
-shape_of (line.Eos sub item) = counted (codes "EOS") (Ordinal sub ∷ Ordinal item ∷ [])
-shape_of (line.Cs sub item) = counted (codes "CS") (Ordinal sub ∷ Ordinal item ∷ [])
-shape_of (line.Ov sub item lost) = counted (codes "OV") (Ordinal sub ∷ Ordinal item ∷ Count lost ∷ [])
-shape_of (line.U sub item fields) = counted (codes "U") (Ordinal sub ∷ Ordinal item ∷ Coded fields ∷ [])
-shape_of (line.ReqOk request) = free (codes "REQOK") (Text request ∷ [])
-shape_of (line.ReqErr request code message) = free (codes "REQERR") (Text request ∷ Count code ∷ Message message ∷ [])
-shape_of (line.Error code message) = free (codes "ERROR") (Count code ∷ Message message ∷ [])
-shape_of line.WsOk = free (codes "WSOK") []
-shape_of (line.MsgDone sequence number) = counted (codes "MSGDONE") (Text sequence ∷ Count number ∷ [])
+    numbered (codes "SUBCMD") (Ordinal sub ∷ Ordinal items ∷ Ordinal fields ∷ Ordinal key ∷ Ordinal command ∷ [])
+shape_of (line.Conf sub frequency filter) = numbered (codes "CONF") (Ordinal sub ∷ Text frequency ∷ Text filter ∷ [])
+shape_of (line.Unsub sub) = numbered (codes "UNSUB") (Ordinal sub ∷ [])
+shape_of (line.Eos sub item) = numbered (codes "EOS") (Ordinal sub ∷ Ordinal item ∷ [])
+shape_of (line.Cs sub item) = numbered (codes "CS") (Ordinal sub ∷ Ordinal item ∷ [])
+shape_of (line.Ov sub item lost) = numbered (codes "OV") (Ordinal sub ∷ Ordinal item ∷ Count lost ∷ [])
+shape_of (line.U sub item fields) = numbered (codes "U") (Ordinal sub ∷ Ordinal item ∷ Coded fields ∷ [])
+shape_of (line.ReqOk request) = unnumbered (codes "REQOK") (Text request ∷ [])
+shape_of (line.ReqErr request code message) = unnumbered (codes "REQERR") (Text request ∷ Count code ∷ Message message ∷ [])
+shape_of (line.Error code message) = unnumbered (codes "ERROR") (Count code ∷ Message message ∷ [])
+shape_of line.WsOk = unnumbered (codes "WSOK") []
+shape_of (line.MsgDone sequence number) = numbered (codes "MSGDONE") (Text sequence ∷ Count number ∷ [])
 shape_of (line.MsgFail sequence number code message) =
-    counted (codes "MSGFAIL") (Text sequence ∷ Count number ∷ Count code ∷ Message message ∷ [])
+    numbered (codes "MSGFAIL") (Text sequence ∷ Count number ∷ Count code ∷ Message message ∷ [])
 
 -- the lines of messages, which are not read
 abbrev pub is_of_message : Line → Bool

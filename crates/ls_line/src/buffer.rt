@@ -1,5 +1,5 @@
 //! A buffer for the text of a line.
-ghost use Rattle.std.specs.Prelude.{◌≡◌, ◌≤◌, IfOk, [], length, take};
+ghost use Rattle.std.specs.Prelude.{◌≡◌, ◌≤◌, IfOk, [], length};
 ghost use Rattle.ls_line.specs.declared.limits.TheConstants.{LONGEST_TEXT};
 
 use crate::limits::LONGEST_TEXT;
@@ -7,22 +7,23 @@ use ls_value::NoMemory;
 use std::alloc::Global;
 use std::marker::Model;
 
-/// A buffer that holds a text of at most [`LONGEST_TEXT`] bytes, in memory that it has from its beginning.
+/// A buffer that holds a text of at most [`LONGEST_TEXT`] bytes, and nothing else. It has room for the longest from its
+/// beginning, and keeps it; the bytes behind the text are not written.
 #[derive(Drop)]
 pub struct LineBuf {
-    bytes: Vec<u8>,
-    used: usize,
+    text: Vec<u8>,
 }
 
 impl Model for LineBuf {
-    ghost use Rattle.std.specs.Prelude.{◌≡◌, ◌≤◌, List, ℕ, length, take};
+    ghost use Rattle.std.specs.Prelude.{◌≤◌, List, ℕ, length};
+    ghost use Rattle.std.specs.Vec.{vec_capacity};
     ghost use Rattle.ls_line.specs.declared.limits.TheConstants.{LONGEST_TEXT};
 
     ghost Value = { List ℕ };
 
-    ghost view = { λ b. take b.used b.bytes.items };
+    ghost view = { λ b. b.text.items };
 
-    ghost invariant = { λ b. (length b.bytes.items ≡ LONGEST_TEXT) × (b.used ≤ LONGEST_TEXT) };
+    ghost invariant = { λ b. (length b.text.items ≤ LONGEST_TEXT) × (LONGEST_TEXT ≤ vec_capacity b.text) };
 }
 
 impl LineBuf {
@@ -30,8 +31,8 @@ impl LineBuf {
     pub fn new(alloc: Global) -> Result<LineBuf, NoMemory>
         ensures { IfOk result (λ b. b ≡ []) }
     {
-        let bytes = vec![in alloc; 0; LONGEST_TEXT]?;
-        Ok(LineBuf { bytes, used: 0 })
+        let text = Vec::with_capacity(alloc, LONGEST_TEXT)?;
+        Ok(LineBuf { text })
     }
 
     /// Holds this text, of at most [`LONGEST_TEXT`] bytes, in place of the one before. No memory is taken.
@@ -39,23 +40,16 @@ impl LineBuf {
         requires { length text.now ≤ LONGEST_TEXT }
         ensures { self.new ≡ text.now }
     {
-        put_first(&mut self.bytes, text);
-        self.used = text.len();
+        self.text.clear();
+        let Ok(()) = self.text.extend_from_slice(text) else {
+            unreachable!()
+        };
     }
 
     /// The text that it holds. No memory is taken.
     pub fn text(&self) -> &[u8]
         ensures { result.now ≡ self.now }
     {
-        &self.bytes[..self.used]
+        &self.text
     }
-}
-
-/// Writes a text over the first bytes.
-fn put_first(bytes: &mut [u8], text: &[u8])
-    requires { length text.now ≤ length bytes.old }
-    ensures text { take (length text.now) bytes.new ≡ text.now }
-    ensures length { length bytes.new ≡ length bytes.old }
-{
-    bytes[..text.len()].copy_from_slice(text);
 }

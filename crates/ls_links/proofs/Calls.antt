@@ -9,8 +9,8 @@ use Rattle.std.proofs.lemmas.List.FromFn.{get_or-map-range_with_len, length-map-
 use Rattle.std.proofs.lemmas.List.Sums.{sum_by-le, sum_by-set}
 use Rattle.ls_links.specs.declared.node.Node.{Node}
 use Rattle.ls_links.specs.Chains.{Link, Chains, without, with_last, is_node, pushed, unlinked, moved_back}
-use Rattle.ls_links.specs.Nodes.{Kept, Chain, IsOf, IsRing, IsSound, ring, follow, link_of, links_of, chains_of, node_of, after_of, before_of, with_value}
-use Rattle.ls_links.specs.Nodes.{discounted, shifted, added, alone}
+use Rattle.ls_links.specs.Nodes.{LinkedNodes, Chain, IsOf, IsRing, IsSound, ring, follow, link_of, links_of, chains_of, node_of, after_of, before_of, with_value}
+use Rattle.ls_links.specs.Nodes.{one_less, shifted, added, alone}
 use Rattle.ls_links.proofs.Chaining.{differs, Lacks, but, but_lacking, unlike, once_before, once_behind}
 use Rattle.ls_links.proofs.Writes.{field_written, field_other}
 use Rattle.ls_links.proofs.Rings.{Rings, Found, found_own, own_lacks, other_lacks, rings_of, ring_is, sound_of}
@@ -26,26 +26,26 @@ chains_same : (a b : List (List Link)) (m n : ℕ) → a ≡ b → m ≡ n → m
 chains_same a b m n p q = rw (p, q) refl
 
 -- the links of a list after a move
-shifted_links : (k : Kept) (t n : ℕ) → Shifts k t n → (u : ℕ) → u ≤ k.free
+shifted_links : (k : LinkedNodes) (t n : ℕ) → Shifts k t n → (u : ℕ) → u ≤ k.free
     → links_of (shifted t n k) u ≡ map (link_of k.nodes) (but n (ring k u) ++ last_if u t n)
 shifted_links k t n sh u le =
     map_alike (link_of (shifted t n k).nodes) (link_of k.nodes) (λ z. ap (λ (v : ℕ). record { node = z; value = v }) (sh.values z)) (ring (shifted t n k) u)
     ∙ ap (map (link_of k.nodes)) (sh.ring_is u le)
 
 -- where the list isn't the one it went to
-links_left : (k : Kept) (t n : ℕ) → Shifts k t n → (u : ℕ) → u ≤ k.free → (u ≡ t → ⊥) → links_of (shifted t n k) u ≡ without n (links_of k u)
+links_left : (k : LinkedNodes) (t n : ℕ) → Shifts k t n → (u : ℕ) → u ≤ k.free → (u ≡ t → ⊥) → links_of (shifted t n k) u ≡ without n (links_of k u)
 links_left k t n sh u le ne =
     shifted_links k t n sh u le ∙ ap (λ (b : Bool). map (link_of k.nodes) (but n (ring k u) ++ cond b (n ∷ []) [])) (unlike u t ne)
     ∙ ap (map (link_of k.nodes)) (append-nil (but n (ring k u))) ∙ links_but k.nodes n (ring k u)
 
 -- a node is linked no more
-pub unlinked_view : (k : Kept) (s n : ℕ) → IsSound k → s < k.free → Found (ring k) s n → chains_of (shifted k.free n k) ≡ unlinked n (chains_of k)
+pub unlinked_view : (k : LinkedNodes) (s n : ℕ) → IsSound k → s < k.free → Found (ring k) s n → chains_of (shifted k.free n k) ≡ unlinked n (chains_of k)
 unlinked_view k s n sound l f =
     let sh : Shifts k k.free n = shift k s k.free n sound (omega arith) (omega arith) f in
     let me : IsOf k.nodes k.free s n = found_own k.nodes k.free s n (ring k) (sound.rings s (omega arith)) f in
     let own : (node_of k.nodes n).list ≡ s = me.list in
     let lists : length k.lengths ≡ k.free + 1 = sound.lists in
-    let ds = discounted s k.lengths in
+    let ds = one_less s k.lengths in
     let dl : length ds ≡ length k.lengths = length-set k.lengths s _ in
     chains_same _ _ _ _
     (rows_alike (links_of (shifted k.free n k)) (λ u. without n (links_of k u)) 0 k.free (λ u a b. links_left k k.free n sh u (omega arith) (λ e. omega arith))
@@ -54,7 +54,7 @@ unlinked_view k s n sound l f =
     ∙ ap (λ (m : ℕ). m + 1) (get_or-set_other k.lengths s k.free (get_or k.lengths s 0 - 1) 0 (λ e. omega arith))))
 
 -- a node is the last of its list
-back_links : (k : Kept) (s n : ℕ) → IsSound k → s < k.free → Found (ring k) s n → (u : ℕ) → u < k.free → links_of (shifted s n k) u ≡ with_last n (links_of k u)
+back_links : (k : LinkedNodes) (s n : ℕ) → IsSound k → s < k.free → Found (ring k) s n → (u : ℕ) → u < k.free → links_of (shifted s n k) u ≡ with_last n (links_of k u)
 back_links k s n sound l f u ul = by_test (u == s) refl
   where
     sh : Shifts k s n
@@ -85,11 +85,11 @@ back_links k s n sound l f u ul = by_test (u == s) refl
         links_left k s n sh u (omega arith) us
         ∙ sym (ap (λ (ls : List Link). without n (links_of k u) ++ ls) (none_there k.nodes n (ring k u) lacks) ∙ append-nil (without n (links_of k u)))
 
-pub back_view : (k : Kept) (s n : ℕ) → IsSound k → s < k.free → Found (ring k) s n → chains_of (shifted s n k) ≡ moved_back n (chains_of k)
+pub back_view : (k : LinkedNodes) (s n : ℕ) → IsSound k → s < k.free → Found (ring k) s n → chains_of (shifted s n k) ≡ moved_back n (chains_of k)
 back_view k s n sound l f =
     let me : IsOf k.nodes k.free s n = found_own k.nodes k.free s n (ring k) (sound.rings s (omega arith)) f in
     let own : (node_of k.nodes n).list ≡ s = me.list in
-    let ds = discounted s k.lengths in
+    let ds = one_less s k.lengths in
     chains_same _ _ _ _
     (rows_alike (links_of (shifted s n k)) (λ u. with_last n (links_of k u)) 0 k.free (λ u a b. back_links k s n sound l f u (omega arith))
     ∙ sym (map_rows (with_last n) (links_of k) 0 k.free))
@@ -101,21 +101,21 @@ follow_some : (ns : List Node) (m n : ℕ) → 0 < m → (back : List ℕ) × (f
 follow_some ns zero n h = absurd (omega arith)
 follow_some ns (suc m) n h = (follow ns m (after_of ns n), refl)
 
-pub first_free : (k : Kept) → 0 < get_or k.lengths k.free 0 → Found (ring k) k.free (after_of k.nodes k.free)
+pub first_free : (k : LinkedNodes) → 0 < get_or k.lengths k.free 0 → Found (ring k) k.free (after_of k.nodes k.free)
 first_free k some =
     let r = follow_some k.nodes (get_or k.lengths k.free 0) (after_of k.nodes k.free) some in
     record { front = []; back = r.0; is = r.1 }
 
 -- a free node has a value
-abbrev pub valued : ℕ → ℕ → Kept → Kept
+abbrev pub valued : ℕ → ℕ → LinkedNodes → LinkedNodes
 valued n v k = record k { nodes = with_value n v k.nodes }
 
-pub record Values (k : Kept) (n v : ℕ) : Type 0 where
+pub record Values (k : LinkedNodes) (n v : ℕ) : Type 0 where
   pub sound : IsSound (valued n v k)
   pub rings_same : (u : ℕ) → u ≤ k.free → ring (valued n v k) u ≡ ring k u
   pub found : Found (ring (valued n v k)) k.free n
 
-pub value_written : (k : Kept) (n v : ℕ) → IsSound k → Found (ring k) k.free n → Values k n v
+pub value_written : (k : LinkedNodes) (n v : ℕ) → IsSound k → Found (ring k) k.free n → Values k n v
 value_written k n v sound f =
     let me : IsOf k.nodes k.free k.free n = found_own k.nodes k.free k.free n (ring k) (sound.rings k.free (omega arith)) f in
     let rings : Rings (with_value n v k.nodes) k.lengths k.free (ring k) =
@@ -134,7 +134,7 @@ links_valued ns n v [] l = refl
 links_valued ns n v (x ∷ xs) l =
     rw (field_other (λ m. m.value) ns n (record (node_of ns n) { value = v }) x l.0) (ap (λ (ls : List Link). link_of ns x ∷ ls) (links_valued ns n v xs l.1))
 
-pushed_links : (k : Kept) (t n v : ℕ) → IsSound k → t < k.free → Found (ring k) k.free n → (u : ℕ) → u < k.free
+pushed_links : (k : LinkedNodes) (t n v : ℕ) → IsSound k → t < k.free → Found (ring k) k.free n → (u : ℕ) → u < k.free
     → links_of (shifted t n (valued n v k)) u ≡ links_of k u ++ map (link_of (with_value n v k.nodes)) (last_if u t n)
 pushed_links k t n v sound l f u ul =
     let w : Values k n v = value_written k n v sound f in
@@ -150,7 +150,7 @@ pushed_links k t n v sound l f u ul =
     lacks)
 
 -- what is seen of a list after a node was linked behind its others
-pushed_at : (k : Kept) (t n v : ℕ) → IsSound k → t < k.free → Found (ring k) k.free n → (u : ℕ) → u < k.free
+pushed_at : (k : LinkedNodes) (t n v : ℕ) → IsSound k → t < k.free → Found (ring k) k.free n → (u : ℕ) → u < k.free
     → get_or (pushed t (record { node = n; value = v }) (chains_of k)).lists u [] ≡ links_of (shifted t n (valued n v k)) u
 pushed_at k t n v sound l f u ul = by_test (u == t) refl
   where
@@ -180,14 +180,14 @@ pushed_at k t n v sound l f u ul = by_test (u == t) refl
         ∙ list_is k u ul ∙ sym (append-nil (links_of k u))
         ∙ sym (pushed_links k t n v sound l f u ul ∙ ap (λ (b : Bool). links_of k u ++ map (link_of (with_value n v k.nodes)) (cond b (n ∷ []) [])) e)
 
-pub pushed_view : (k : Kept) (t n v : ℕ) → IsSound k → t < k.free → Found (ring k) k.free n
+pub pushed_view : (k : LinkedNodes) (t n v : ℕ) → IsSound k → t < k.free → Found (ring k) k.free n
     → chains_of (shifted t n (valued n v k)) ≡ pushed t (record { node = n; value = v }) (chains_of k)
 pushed_view k t n v sound l f =
     let me : IsOf k.nodes k.free k.free n = found_own k.nodes k.free k.free n (ring k) (sound.rings k.free (omega arith)) f in
     let own : (node_of (with_value n v k.nodes) n).list ≡ k.free =
     field_written (λ m. m.list) k.nodes n (record (node_of k.nodes n) { value = v }) me.within ∙ me.list in
     let lists : length k.lengths ≡ k.free + 1 = sound.lists in
-    let ds = discounted k.free k.lengths in
+    let ds = one_less k.free k.lengths in
     let rows = (pushed t (record { node = n; value = v }) (chains_of k)).lists in
     let ln : length rows ≡ k.free = length-set (chains_of k).lists t _ ∙ length-map-range_with_len (links_of k) 0 k.free in
     chains_same _ _ _ _ (sym (fill_by_all (links_of (shifted t n (valued n v k))) rows k.free [] ln (λ u ul. pushed_at k t n v sound l f u ul)))
@@ -195,14 +195,14 @@ pushed_view k t n v sound l f =
     ∙ get_or-set_same k.lengths k.free (get_or k.lengths k.free 0 - 1) 0 (omega arith)))
 
 -- more nodes are free
-abbrev pub enlarged : ℕ → Kept → Kept
+abbrev pub enlarged : ℕ → LinkedNodes → LinkedNodes
 enlarged m k = record k { nodes = added m k.free k.nodes; lengths = set k.lengths k.free (get_or k.lengths k.free 0 + m) }
 
-pub record Enlarges (k : Kept) (m : ℕ) : Type 0 where
+pub record Enlarges (k : LinkedNodes) (m : ℕ) : Type 0 where
   pub sound : IsSound (enlarged m k)
   pub seen : chains_of (enlarged m k) ≡ record (chains_of k) { spare = get_or k.lengths k.free 0 + m }
 
-pub enlarges : (k : Kept) (m : ℕ) → IsSound k → Enlarges k m
+pub enlarges : (k : LinkedNodes) (m : ℕ) → IsSound k → Enlarges k m
 enlarges k m sound =
     let lists : length k.lengths ≡ k.free + 1 = sound.lists in
     let total : sum_by (λ n. n) k.lengths + length k.lengths ≡ length k.nodes = sound.total in
@@ -226,7 +226,7 @@ enlarges k m sound =
     }
 
 -- no node but those of the lists themselves
-abbrev pub empty : ℕ → Kept
+abbrev pub empty : ℕ → LinkedNodes
 empty free = record { nodes = map alone (range_with_len 0 (free + 1)); lengths = replicate (free + 1) 0; free = free }
 
 empty_node : (free s : ℕ) → s ≤ free → node_of (empty free).nodes s ≡ alone s

@@ -10,23 +10,23 @@ use Rattle.std.proofs.lemmas.List.FromFn.{get_or-map-range_with_len, length-map-
 use Rattle.std.proofs.lemmas.List.Sums.{get_or-le-sum_by, sum_by-set}
 use Rattle.ls_links.specs.declared.node.Node.{Node}
 use Rattle.ls_links.specs.Chains.{Link, IsAt, Apart, list_of, link_at, node_at}
-use Rattle.ls_links.specs.Nodes.{Kept, Each, Chain, IsOf, IsRing, IsSound, MayShift, ring, link_of, links_of, chains_of, node_of, after_of, before_of, detached}
-use Rattle.ls_links.specs.Nodes.{discounted, proper}
+use Rattle.ls_links.specs.Nodes.{LinkedNodes, Each, Chain, IsOf, IsRing, IsSound, MayShift, ring, link_of, links_of, chains_of, node_of, after_of, before_of, detached}
+use Rattle.ls_links.specs.Nodes.{one_less, proper}
 use Rattle.ls_links.proofs.Chaining.{Lacks, chain_right, chains_agree, each_right}
 use Rattle.ls_links.proofs.Writes.{IsBetween, IsPutAt, detached_length}
 use Rattle.ls_links.proofs.Rings.{Found, found_own, own_lacks, Cut, cut_rings, rings_of, between}
 use Rattle.ls_links.proofs.Shifts.{put_at, some_found}
 
 -- a node stands at a place of a ring
-pub record Stands (k : Kept) (list place node value : ℕ) : Type 0 where
+pub record Stands (k : LinkedNodes) (list place node value : ℕ) : Type 0 where
   pub within : list < k.free
   pub here : slice_get (ring k list) place ≡ Some node
   pub valued : (node_of k.nodes node).value ≡ value
 
-pub list_is : (k : Kept) (list : ℕ) → list < k.free → list_of (chains_of k) list ≡ links_of k list
+pub list_is : (k : LinkedNodes) (list : ℕ) → list < k.free → list_of (chains_of k) list ≡ links_of k list
 list_is k list l = get_or-map-range_with_len (links_of k) 0 k.free list list [] l (omega arith)
 
-list_past : (k : Kept) (list : ℕ) → k.free ≤ list → list_of (chains_of k) list ≡ []
+list_past : (k : LinkedNodes) (list : ℕ) → k.free ≤ list → list_of (chains_of k) list ≡ []
 list_past k list l =
     let n : length (map (links_of k) (range_with_len 0 k.free)) ≡ k.free = length-map-range_with_len (links_of k) 0 k.free in
     get_or_past (map (links_of k) (range_with_len 0 k.free)) list [] (omega arith)
@@ -43,7 +43,7 @@ seen_at ns (x ∷ xs) zero node value h =
     (ap (λ (z : ℕ). Some z) e, subst (λ (z : ℕ). (node_of ns z).value ≡ value) e (ap (λ (l : Link). l.value) same))
 seen_at ns (x ∷ xs) (suc place) node value h = seen_at ns xs place node value h
 
-pub stands : (k : Kept) (list place node value : ℕ) → IsAt (chains_of k) list place node value → Stands k list place node value
+pub stands : (k : LinkedNodes) (list place node value : ℕ) → IsAt (chains_of k) list place node value → Stands k list place node value
 stands k list place node value h = by_test (nat_lt list k.free) refl
   where
     by_test : (v : Bool) → nat_lt list k.free ≡ v → Stands k list place node value
@@ -71,13 +71,13 @@ around (y ∷ xs) (suc place) x h =
     let r = around xs place x h in
     record { front = y ∷ r.front; back = r.back; is = ap (λ (zs : List _). y ∷ zs) r.is; long = ap suc r.long }
 
-pub found : (k : Kept) (list place node value : ℕ) → Stands k list place node value → Found (ring k) list node
+pub found : (k : LinkedNodes) (list place node value : ℕ) → Stands k list place node value → Found (ring k) list node
 found k list place node value s =
     let r = around (ring k list) place node s.here in
     record { front = r.front; back = r.back; is = r.is }
 
 -- a node stands at one place at most
-pub apart : (k : Kept) → IsSound k → Apart (chains_of k)
+pub apart : (k : LinkedNodes) → IsSound k → Apart (chains_of k)
 apart k sound = λ node list list' place place' value value' a b.
     let s : Stands k list place node value = stands k list place node value a in
     let t : Stands k list' place' node value' = stands k list' place' node value' b in
@@ -124,7 +124,7 @@ behind_is ns free a (x ∷ xs) s b le own c =
     let l : free < x = own.0.behind in
     rw (c.0.0, lt-ltb free x l) refl
 
-pub first_is : (k : Kept) (list : ℕ) → IsSound k → list < k.free → proper k.free (after_of k.nodes list) ≡ node_at (chains_of k) list 0
+pub first_is : (k : LinkedNodes) (list : ℕ) → IsSound k → list < k.free → proper k.free (after_of k.nodes list) ≡ node_at (chains_of k) list 0
 first_is k list sound l =
     let rg : IsRing k.nodes k.free list (ring k list) = sound.rings list (omega arith) in
     rw (list_is k list l) (behind_is k.nodes k.free list (ring k list) list list (omega arith) rg.own rg.chain)
@@ -134,7 +134,7 @@ at_next : (ns : List Node) (xs : List ℕ) (n : ℕ) (ys : List ℕ)
 at_next ns [] n ys = refl
 at_next ns (x ∷ xs) n ys = at_next ns xs n ys
 
-pub next_is : (k : Kept) (list place node value : ℕ) → IsSound k → IsAt (chains_of k) list place node value
+pub next_is : (k : LinkedNodes) (list place node value : ℕ) → IsSound k → IsAt (chains_of k) list place node value
     → proper k.free (after_of k.nodes node) ≡ node_at (chains_of k) list (place + 1)
 next_is k list place node value sound h =
     let s : Stands k list place node value = stands k list place node value h in
@@ -154,7 +154,7 @@ next_is k list place node value sound h =
     b ∙ sym e
 
 -- what a move of a node reads and writes is there
-pub may_shift : (k : Kept) (s t n : ℕ) → IsSound k → s ≤ k.free → t ≤ k.free → Found (ring k) s n → MayShift k.nodes k.lengths t n
+pub may_shift : (k : LinkedNodes) (s t n : ℕ) → IsSound k → s ≤ k.free → t ≤ k.free → Found (ring k) s n → MayShift k.nodes k.lengths t n
 may_shift k s t n sound sle tle f =
     let lists : length k.lengths ≡ k.free + 1 = sound.lists in
     let total : sum_by (λ n. n) k.lengths + length k.lengths ≡ length k.nodes = sound.total in
@@ -169,7 +169,7 @@ may_shift k s t n sound sle tle f =
     let pa : IsPutAt (detached n k.nodes) t n =
     put_at (detached n k.nodes) k.free t n _ tle me.behind (omega arith) (cut.rings.ring t tle) (cut.loose.lacks t tle) in
     let last : before_of (detached n k.nodes) t < length (detached n k.nodes) = pa.left in
-    let ds = discounted s k.lengths in
+    let ds = one_less s k.lengths in
     let sl : length ds ≡ length k.lengths = length-set k.lengths s _ in
     let sum : sum_by (λ n. n) ds + get_or k.lengths s 0 ≡ sum_by (λ n. n) k.lengths + (get_or k.lengths s 0 - 1) =
     sum_by-set (λ (n : ℕ). n) k.lengths s (get_or k.lengths s 0 - 1) 0 (omega arith) in

@@ -5,7 +5,7 @@ use Rattle.std.specs.List.{sum_by}
 use Rattle.std.proofs.lemmas.Bool.{eqb-true, eq-eqb}
 use Rattle.std.proofs.lemmas.List.{get_or-set_same, get_or-set_other}
 use Rattle.ls_links.specs.declared.node.Node.{Node}
-use Rattle.ls_links.specs.Nodes.{Kept, Each, Chain, IsOf, IsRing, IsSound, ring, follow, node_of, after_of, before_of, detached, discounted}
+use Rattle.ls_links.specs.Nodes.{LinkedNodes, Each, Chain, IsOf, IsRing, IsSound, ring, follow, node_of, after_of, before_of, detached, one_less}
 use Rattle.ls_links.proofs.Chaining.{differs, Lacks, each_append, each_left, each_right, each_weaker, cut_elsewhere, cut_here}
 use Rattle.ls_links.proofs.Chaining.{once_before, once_behind, but, but_lacking, but_here, beside}
 use Rattle.ls_links.proofs.Writes.{IsBetween, detached_length, detached_keeps, detached_cuts}
@@ -23,16 +23,16 @@ pub follow_chain : (ns : List Node) (a : ℕ) (xs : List ℕ) (b : ℕ) → Chai
 follow_chain ns a [] b c = refl
 follow_chain ns a (x ∷ xs) b c = rw c.0.0 (ap (λ (zs : List ℕ). x ∷ zs) (follow_chain ns x xs b c.1))
 
-pub rings_of : (k : Kept) → IsSound k → Rings k.nodes k.lengths k.free (ring k)
+pub rings_of : (k : LinkedNodes) → IsSound k → Rings k.nodes k.lengths k.free (ring k)
 rings_of k sound = record { ring = sound.rings; long = λ s le. follow_length k.nodes (get_or k.lengths s 0) (after_of k.nodes s) }
 
 -- what the links say is what the rings are
-pub ring_is : (k : Kept) (r : ℕ → List ℕ) → Rings k.nodes k.lengths k.free r → (s : ℕ) → s ≤ k.free → ring k s ≡ r s
+pub ring_is : (k : LinkedNodes) (r : ℕ → List ℕ) → Rings k.nodes k.lengths k.free r → (s : ℕ) → s ≤ k.free → ring k s ≡ r s
 ring_is k r rings s le =
     let long : length (r s) ≡ get_or k.lengths s 0 = rings.long s le in
     ap (λ (n : ℕ). follow k.nodes n (after_of k.nodes s)) (sym long) ∙ follow_chain k.nodes s (r s) s (rings.ring s le).chain
 
-pub sound_of : (k : Kept) (r : ℕ → List ℕ) → length k.lengths ≡ k.free + 1 → sum_by (λ n. n) k.lengths + length k.lengths ≡ length k.nodes
+pub sound_of : (k : LinkedNodes) (r : ℕ → List ℕ) → length k.lengths ≡ k.free + 1 → sum_by (λ n. n) k.lengths + length k.lengths ≡ length k.nodes
     → Rings k.nodes k.lengths k.free r → IsSound k
 sound_of k r lists total rings =
     record {
@@ -131,7 +131,7 @@ keep_ring ns free s u n r le us un b list rg =
 
 -- all rings after a node left its list
 pub record Cut (ns : List Node) (ls : List ℕ) (free s n : ℕ) (r : ℕ → List ℕ) : Type 0 where
-  pub rings : Rings (detached n ns) (discounted s ls) free (λ u. but n (r u))
+  pub rings : Rings (detached n ns) (one_less s ls) free (λ u. but n (r u))
   pub loose : Loose (λ u. but n (r u)) free n
 
 pub cut_rings : (ns : List Node) (ls : List ℕ) (free s n : ℕ) (r : ℕ → List ℕ) → s ≤ free → length ls ≡ free + 1 → free < length ns
@@ -167,9 +167,9 @@ cut_rings ns ls free s n r le lists in' rings f =
         (keep_ring ns free s u n r ule (λ q. differs (u == s) (eq-eqb u s q) e) (apart u ule me) b me.list (rings.ring u ule)).1
 
     by_long : (u : ℕ) → u ≤ free → IsBetween ns n → IsOf ns free s n → length (but n (r s)) + 1 ≡ length (r s) → length (r s) ≡ get_or ls s 0 → s < length ls
-        → (v : Bool) → (u == s) ≡ v → length (but n (r u)) ≡ get_or (discounted s ls) u 0
+        → (v : Bool) → (u == s) ≡ v → length (but n (r u)) ≡ get_or (one_less s ls) u 0
     by_long u ule b me here long sl true e =
-        subst (λ (z : ℕ). length (but n (r z)) ≡ get_or (discounted s ls) z 0) (sym (eqb-true u s e))
+        subst (λ (z : ℕ). length (but n (r z)) ≡ get_or (one_less s ls) z 0) (sym (eqb-true u s e))
         (rw (get_or-set_same ls s (get_or ls s 0 - 1) 0 sl) (omega arith))
     by_long u ule b me here long sl false e =
         let us : u ≡ s → ⊥ = λ q. differs (u == s) (eq-eqb u s q) e in

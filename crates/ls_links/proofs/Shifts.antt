@@ -6,7 +6,7 @@ use Rattle.std.proofs.lemmas.Bool.{eqb-true, eq-eqb}
 use Rattle.std.proofs.lemmas.List.{get_or-set_same, get_or-set_other, length-set, append-nil, length_push}
 use Rattle.std.proofs.lemmas.List.Sums.{sum_by-set}
 use Rattle.ls_links.specs.declared.node.Node.{Node}
-use Rattle.ls_links.specs.Nodes.{Kept, Each, IsOf, IsRing, IsSound, ring, node_of, after_of, before_of, detached, attached, counted, discounted, shifted}
+use Rattle.ls_links.specs.Nodes.{LinkedNodes, Each, IsOf, IsRing, IsSound, ring, node_of, after_of, before_of, detached, attached, one_more, one_less, shifted}
 use Rattle.ls_links.proofs.Chaining.{differs, Lacks, each_append, put_elsewhere, put_here, but, last_of, Last}
 use Rattle.ls_links.proofs.Writes.{IsBetween, IsPutAt, detached_length, detached_keeps, attached_length, attached_other, attached_list, attached_value}
 use Rattle.ls_links.proofs.Writes.{attached_puts}
@@ -68,7 +68,7 @@ put_ring_elsewhere ns free t u n xs le ule ut behind b rg l =
     }
 
 pub put_rings : (ns : List Node) (ls : List ℕ) (free t n : ℕ) (r : ℕ → List ℕ) → t ≤ free → length ls ≡ free + 1 → free < n → n < length ns
-    → Rings ns ls free r → Loose r free n → Rings (attached t n ns) (counted t ls) free (λ u. r u ++ last_if u t n)
+    → Rings ns ls free r → Loose r free n → Rings (attached t n ns) (one_more t ls) free (λ u. r u ++ last_if u t n)
 put_rings ns ls free t n r le lists behind in' rings loose =
     let b : IsPutAt ns t n = put_at ns free t n (r t) le behind in' (rings.ring t le) (loose.lacks t le) in
     let tl : t < length ls = omega arith in
@@ -82,15 +82,15 @@ put_rings ns ls free t n r le lists behind in' rings loose =
         rw e (subst (IsRing (attached t n ns) free u) (sym (append-nil (r u)))
         (put_ring_elsewhere ns free t u n (r u) le ule (λ q. differs (u == t) (eq-eqb u t q) e) behind b (rings.ring u ule) (loose.lacks u ule)))
 
-    by_long : (u : ℕ) → u ≤ free → t < length ls → (v : Bool) → (u == t) ≡ v → length (r u ++ cond (u == t) (n ∷ []) []) ≡ get_or (counted t ls) u 0
+    by_long : (u : ℕ) → u ≤ free → t < length ls → (v : Bool) → (u == t) ≡ v → length (r u ++ cond (u == t) (n ∷ []) []) ≡ get_or (one_more t ls) u 0
     by_long u ule tl true e =
-        rw e (subst (λ (z : ℕ). length (r z ++ n ∷ []) ≡ get_or (counted t ls) z 0) (sym (eqb-true u t e))
+        rw e (subst (λ (z : ℕ). length (r z ++ n ∷ []) ≡ get_or (one_more t ls) z 0) (sym (eqb-true u t e))
         (length_push (r t) n ∙ ap (λ (m : ℕ). m + 1) (rings.long t le) ∙ sym (get_or-set_same ls t (get_or ls t 0 + 1) 0 tl)))
     by_long u ule tl false e =
         rw e (ap length (append-nil (r u)) ∙ rings.long u ule ∙ sym (get_or-set_other ls t u (get_or ls t 0 + 1) 0 (λ q. differs (u == t) (eq-eqb u t q) e)))
 
 -- a node goes from its list to the back of one
-pub shift_rings : (k : Kept) (s t n : ℕ) → IsSound k → s ≤ k.free → t ≤ k.free → Found (ring k) s n
+pub shift_rings : (k : LinkedNodes) (s t n : ℕ) → IsSound k → s ≤ k.free → t ≤ k.free → Found (ring k) s n
     → Rings (shifted t n k).nodes (shifted t n k).lengths k.free (λ u. but n (ring k u) ++ last_if u t n)
 shift_rings k s t n sound sle tle f =
     let rings : Rings k.nodes k.lengths k.free (ring k) = rings_of k sound in
@@ -101,12 +101,12 @@ shift_rings k s t n sound sle tle f =
     let cut : Cut k.nodes k.lengths k.free s n (ring k) = cut_rings k.nodes k.lengths k.free s n (ring k) sle lists in' rings f in
     let dl : length (detached n k.nodes) ≡ length k.nodes = detached_length n k.nodes in
     let w : n < length k.nodes = me.within in
-    let ll : length (discounted s k.lengths) ≡ length k.lengths = length-set k.lengths s _ in
+    let ll : length (one_less s k.lengths) ≡ length k.lengths = length-set k.lengths s _ in
     rw me.list
-    (put_rings (detached n k.nodes) (discounted s k.lengths) k.free t n (λ u. but n (ring k u)) tle (ll ∙ lists) me.behind (omega arith) cut.rings cut.loose)
+    (put_rings (detached n k.nodes) (one_less s k.lengths) k.free t n (λ u. but n (ring k u)) tle (ll ∙ lists) me.behind (omega arith) cut.rings cut.loose)
 
 -- what it leaves
-pub record Shifts (k : Kept) (t n : ℕ) : Type 0 where
+pub record Shifts (k : LinkedNodes) (t n : ℕ) : Type 0 where
   pub sound : IsSound (shifted t n k)
   pub ring_is : (u : ℕ) → u ≤ k.free → ring (shifted t n k) u ≡ but n (ring k u) ++ last_if u t n
   pub values : (z : ℕ) → (node_of (shifted t n k).nodes z).value ≡ (node_of k.nodes z).value
@@ -118,23 +118,23 @@ attached_values t n ns b z = by_test (z == n) refl
     by_test true e = subst (λ (y : ℕ). (node_of (attached t n ns) y).value ≡ (node_of ns y).value) (sym (eqb-true z n e)) (attached_value t n ns b)
     by_test false e = attached_other (λ m. m.value) (λ m a. refl) (λ m a. refl) t n ns b z (λ q. differs (z == n) (eq-eqb z n q) e)
 
-sum_moved : (ls : List ℕ) (s t : ℕ) → s < length ls → t < length ls → 0 < get_or ls s 0 → sum_by (λ n. n) (counted t (discounted s ls)) ≡ sum_by (λ n. n) ls
+sum_moved : (ls : List ℕ) (s t : ℕ) → s < length ls → t < length ls → 0 < get_or ls s 0 → sum_by (λ n. n) (one_more t (one_less s ls)) ≡ sum_by (λ n. n) ls
 sum_moved ls s t sl tl some =
-    let ds = discounted s ls in
+    let ds = one_less s ls in
     let dl : length ds ≡ length ls = length-set ls s _ in
     let a : sum_by (λ n. n) ds + get_or ls s 0 ≡ sum_by (λ n. n) ls + (get_or ls s 0 - 1) = sum_by-set (λ (n : ℕ). n) ls s (get_or ls s 0 - 1) 0 sl in
-    let b : sum_by (λ n. n) (counted t ds) + get_or ds t 0 ≡ sum_by (λ n. n) ds + (get_or ds t 0 + 1) =
+    let b : sum_by (λ n. n) (one_more t ds) + get_or ds t 0 ≡ sum_by (λ n. n) ds + (get_or ds t 0 + 1) =
     sum_by-set (λ (n : ℕ). n) ds t (get_or ds t 0 + 1) 0 (omega arith) in
     omega arith
 
-pub some_found : (k : Kept) (s n : ℕ) → IsSound k → s ≤ k.free → Found (ring k) s n → 0 < get_or k.lengths s 0
+pub some_found : (k : LinkedNodes) (s n : ℕ) → IsSound k → s ≤ k.free → Found (ring k) s n → 0 < get_or k.lengths s 0
 some_found k s n sound sle f =
     let long : length (ring k s) ≡ get_or k.lengths s 0 = (rings_of k sound).long s sle in
     let l : length (ring k s) ≡ length (f.front ++ n ∷ f.back) = ap length f.is in
     let m = length-append f.front (n ∷ f.back) in
     omega arith
 
-pub shift : (k : Kept) (s t n : ℕ) → IsSound k → s ≤ k.free → t ≤ k.free → Found (ring k) s n → Shifts k t n
+pub shift : (k : LinkedNodes) (s t n : ℕ) → IsSound k → s ≤ k.free → t ≤ k.free → Found (ring k) s n → Shifts k t n
 shift k s t n sound sle tle f =
     let rings = shift_rings k s t n sound sle tle f in
     let lists : length k.lengths ≡ k.free + 1 = sound.lists in
@@ -143,7 +143,7 @@ shift k s t n sound sle tle f =
     let own : (node_of k.nodes n).list ≡ s = me.list in
     let some : 0 < get_or k.lengths s 0 = some_found k s n sound sle f in
     let al = attached_length t n (detached n k.nodes) ∙ detached_length n k.nodes in
-    let ll : length (shifted t n k).lengths ≡ length k.lengths = length-set (discounted (node_of k.nodes n).list k.lengths) t _ ∙ length-set k.lengths _ _ in
+    let ll : length (shifted t n k).lengths ≡ length k.lengths = length-set (one_less (node_of k.nodes n).list k.lengths) t _ ∙ length-set k.lengths _ _ in
     let sums : sum_by (λ n. n) (shifted t n k).lengths ≡ sum_by (λ n. n) k.lengths = rw own (sum_moved k.lengths s t (omega arith) (omega arith) some) in
     let in' : k.free < length k.nodes = omega arith in
     let b : IsBetween k.nodes n = between k.nodes k.free s n (ring k) (omega arith) (sound.rings s sle) f in

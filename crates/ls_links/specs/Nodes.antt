@@ -11,7 +11,7 @@ alone n = record { after = n; before = n; list = n; value = 0 }
 
 -- what is kept: the nodes, of which the first ones are those of the lists themselves; how many nodes each list has; and
 -- the number of the list of nodes that are free, which is the last list
-pub record Kept : Type 0 where
+pub record LinkedNodes : Type 0 where
   pub nodes : List Node
   pub lengths : List ℕ
   pub free : ℕ
@@ -31,17 +31,17 @@ follow ns zero n = []
 follow ns (suc k) n = n ∷ follow ns k (after_of ns n)
 
 -- the nodes of a list
-abbrev pub ring : Kept → ℕ → List ℕ
+abbrev pub ring : LinkedNodes → ℕ → List ℕ
 ring k s = follow k.nodes (get_or k.lengths s 0) (after_of k.nodes s)
 
 abbrev pub link_of : List Node → ℕ → Link
 link_of ns n = record { node = n; value = (node_of ns n).value }
 
-abbrev pub links_of : Kept → ℕ → List Link
+abbrev pub links_of : LinkedNodes → ℕ → List Link
 links_of k s = map (link_of k.nodes) (ring k s)
 
 -- what the nodes are seen as
-abbrev pub chains_of : Kept → Chains
+abbrev pub chains_of : LinkedNodes → Chains
 chains_of k =
     record { lists = map (links_of k) (range_with_len 0 k.free); spare = get_or k.lengths k.free 0 }
 
@@ -66,8 +66,8 @@ pub record IsRing (ns : List Node) (free s : ℕ) (xs : List ℕ) : Type 0 where
   pub chain : Chain (after_of ns) (before_of ns) s xs s
   pub own : Each (IsOf ns free s) xs
 
--- so are those of each list; there is a node for each one that is counted, and for each list
-pub record IsSound (k : Kept) : Type 0 where
+-- so are those of each list; there is a node for each one that is one_more, and for each list
+pub record IsSound (k : LinkedNodes) : Type 0 where
   pub lists : length k.lengths ≡ k.free + 1
   pub total : sum_by (λ n. n) k.lengths + length k.lengths ≡ length k.nodes
   pub rings : (s : ℕ) → s ≤ k.free → IsRing k.nodes k.free s (ring k s)
@@ -95,18 +95,18 @@ attached s n ns =
     (record (node_of (with_after (before_of ns s) n ns) n) { after = s; before = before_of ns s; list = s }))
 
 -- a list has one node less, or one more
-abbrev pub discounted : ℕ → List ℕ → List ℕ
-discounted s ls = set ls s (get_or ls s 0 - 1)
+abbrev pub one_less : ℕ → List ℕ → List ℕ
+one_less s ls = set ls s (get_or ls s 0 - 1)
 
-abbrev pub counted : ℕ → List ℕ → List ℕ
-counted s ls = set ls s (get_or ls s 0 + 1)
+abbrev pub one_more : ℕ → List ℕ → List ℕ
+one_more s ls = set ls s (get_or ls s 0 + 1)
 
 -- a node went from its list to the back of one
-abbrev pub shifted : ℕ → ℕ → Kept → Kept
+abbrev pub shifted : ℕ → ℕ → LinkedNodes → LinkedNodes
 shifted s n k =
     record k {
       nodes = attached s n (detached n k.nodes);
-      lengths = counted s (discounted (node_of k.nodes n).list k.lengths);
+      lengths = one_more s (one_less (node_of k.nodes n).list k.lengths);
     }
 
 -- a new node is free, and so are so many
@@ -127,7 +127,7 @@ pub record MayShift (ns : List Node) (ls : List ℕ) (s n : ℕ) : Type 0 where
   pub own : (node_of ns n).list < length ls
   pub some : 0 < get_or ls (node_of ns n).list 0
   pub listed : s < length ls
-  pub few : get_or (discounted (node_of ns n).list ls) s 0 < length ns
+  pub few : get_or (one_less (node_of ns n).list ls) s 0 < length ns
 
 -- the number of a node, and none where it is that of a list's own node
 abbrev pub proper : ℕ → ℕ → Option ℕ

@@ -1,7 +1,7 @@
 //! Changes of linked nodes.
 ghost use Rattle.std.specs.Prelude.{◌≡◌, ◌+◌, ◌<◌, ◌≤◌, ◌^◌, length, get_or};
 ghost use Rattle.std.specs.Vec.{vec_len, vec_capacity};
-ghost use Rattle.ls_links.specs.Nodes.{node_of, after_of, before_of, detached, attached, counted, discounted, added};
+ghost use Rattle.ls_links.specs.Nodes.{node_of, after_of, before_of, detached, attached, one_more, one_less, added};
 ghost use Rattle.ls_links.specs.Nodes.{MayShift, proper, with_value};
 
 use crate::node::Node;
@@ -50,7 +50,7 @@ pub fn set_value(nodes: &mut Vec<Node>, node: usize, value: usize)
 pub fn shift(nodes: &mut Vec<Node>, lengths: &mut Vec<usize>, list: usize, node: usize)
     requires { MayShift nodes.old.items lengths.old.items list node }
     ensures nodes { nodes.new.items ≡ attached list node (detached node nodes.old.items) }
-    ensures lengths { lengths.new.items ≡ counted list (discounted
+    ensures lengths { lengths.new.items ≡ one_more list (one_less
         (node_of nodes.old.items node).list lengths.old.items) }
 {
     let from = nodes[node].list;

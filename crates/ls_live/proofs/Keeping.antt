@@ -3,9 +3,11 @@ use Rattle.std.proofs.Common.{◌≡◌, ℕ, ◌≤◌, ◌==◌, List, [], ◌
 use Rattle.std.proofs.Common.{Bool, true, false, Option, Some, None, IsSome, is_some, eq-eqb}
 use Rattle.std.proofs.lemmas.Bool.{eqb-true}
 use Rattle.ls_value.specs.declared.limits.TheConstants.{GREATEST_NUMBER}
+use Rattle.ls_value.proofs.Each.{each_append}
 use Rattle.ls_event.specs.declared.event.Entry.{Entry}
 use Rattle.ls_event.specs.Publishes.{IsHistory}
 use Rattle.ls_event.specs.Slots.{Slot}
+use Rattle.ls_event.specs.Textual.{Textual, TextualEvent}
 use Rattle.ls_cell.specs.Numbered.{slot_at, set_slot}
 use Rattle.ls_cell.specs.Standing.{StandsSlot}
 use Rattle.ls_cell.specs.Cell.{Held, StandsCell, HasSlot, last_in}
@@ -90,3 +92,8 @@ stands_lawful c h st = st.1.history
 
 pub stands_few : (c : Held) (h : List Entry) → StandsFor c h → length h ≤ GREATEST_NUMBER
 stands_few c h st = st.1.history.few
+
+-- an entry with texts in UTF-8 was added
+pub textual_added : (h : List Entry) (e : Entry) (l : List Entry) → l ≡ h ++ e ∷ [] → TextualEvent e.event → Textual h → Textual l
+textual_added h e l is t k =
+    subst Textual (sym is) (each_append (λ (x : Entry). TextualEvent x.event) h (e ∷ []) k (t, tt))

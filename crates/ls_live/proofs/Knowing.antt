@@ -4,10 +4,10 @@ use Rattle.std.proofs.lemmas.Bool.{eqb-true}
 use Rattle.ls_event.specs.declared.item.ItemDef.{ItemDef}
 use Rattle.ls_register.specs.Places.{Placed}
 use Rattle.ls_register.specs.Items.{ShowsItem}
-use Rattle.ls_live.specs.Live.{Live, IsPassFor, whole_pass}
+use Rattle.ls_live.specs.Live.{HeldItem, IsPassFor, whole_pass}
 
 -- a pass of an item that has a place and this number
-pub known_item : (config : List ItemDef) (item : ℕ) (i : Live) (adapter : ℕ)
+pub known_item : (config : List ItemDef) (item : ℕ) (i : HeldItem) (adapter : ℕ)
     → IfSome i.place (λ p. ShowsItem config p i.item i.shape i.table) → (is_some i.place && (i.item == item)) ≡ true
     → IsPassFor config item (whole_pass i adapter)
 known_item config item i adapter shows is = by_place i.place refl shows is

@@ -17,7 +17,7 @@ use Rattle.ls_live.specs.declared.shape.ItemShape.{ItemShape}
 
 -- an item: its number and its place in the register, where it has one, what is kept of it, the table on which its
 -- history stands, its shape, and the history
-pub record Live : Type 0 where
+pub record HeldItem : Type 0 where
   pub item : ℕ
   pub place : Option Placed
   pub cell : Held
@@ -36,7 +36,7 @@ pub record Pass : Type 0 where
   pub list : List Entry
 
 -- a pass is of an item
-pub record IsOf (p : Pass) (i : Live) : Type 0 where
+pub record IsOf (p : Pass) (i : HeldItem) : Type 0 where
   pub table : p.table ≡ i.table
   pub shape : p.shape ≡ i.shape
 
@@ -47,7 +47,7 @@ are_one (Some p) None = false
 are_one (Some p) (Some q) = p.at == q.at
 
 -- an adapter's pass that has seen an item's whole history
-abbrev pub whole_pass : Live → ℕ → Pass
+abbrev pub whole_pass : HeldItem → ℕ → Pass
 whole_pass i adapter =
     record {
       adapter = adapter;

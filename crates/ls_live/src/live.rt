@@ -7,11 +7,13 @@ ghost use Rattle.ls_event.specs.declared.event.Entry.{Entry};
 ghost use Rattle.ls_event.specs.History.{HasFields};
 ghost use Rattle.ls_event.specs.Publishes.{IsHistory};
 ghost use Rattle.ls_event.specs.Shapes.{IsShape, shape_of};
+ghost use Rattle.ls_event.specs.Textual.{Textual, TextualEvent};
 ghost use Rattle.ls_cell.specs.Cell.{StandsCell, refusal_of};
 ghost use Rattle.ls_register.specs.Items.{ShowsItem};
 ghost use Rattle.ls_live.specs.Live.{IsOf, IsPassFor, KeepsSlots, IsCause, are_one, cause_in, entry_of, whole_pass};
 ghost use Rattle.ls_live.specs.Live.{StandsFor};
 
+use crate::copied::{CopiedEntry, copied_entry};
 use crate::shape::ItemShape;
 use crate::weighing::weigh;
 use ls_cell::ItemCell;
@@ -23,8 +25,8 @@ use std::alloc::Global;
 use std::marker::Model;
 
 /// An item with publishers: a cell, and its history's writer. Contracts see the item's number and its place in the
-/// register, the cell, the history's table, the item's shape and the whole history, for which the cell stands. A lone
-/// item has no place. It keeps the allocator that its constructor took.
+/// register, the cell, the history's table, the item's shape and the whole history, for which the cell stands and whose
+/// texts are UTF-8. A lone item has no place. It keeps the allocator that its constructor took.
 #[derive(Drop)]
 pub struct LiveItem<N: House> {
     alloc: Global,
@@ -38,10 +40,11 @@ pub struct LiveItem<N: House> {
 
 impl<N: House> Model for LiveItem<N> {
     ghost use Rattle.std.specs.Prelude.{◌≡◌, IfSome};
+    ghost use Rattle.ls_event.specs.Textual.{Textual};
     ghost use Rattle.ls_register.specs.Items.{ShowsItem};
-    ghost use Rattle.ls_live.specs.Live.{Live, StandsFor, shape_kept};
+    ghost use Rattle.ls_live.specs.Live.{HeldItem, StandsFor, shape_kept};
 
-    ghost Value = { Live };
+    ghost Value = { HeldItem };
 
     ghost view = { λ i. record {
       item = i.item;
@@ -54,12 +57,13 @@ impl<N: House> Model for LiveItem<N> {
 
     ghost invariant = { λ i. (i.writer.table ≡ i.chron) × (shape_kept i.shape ≡ i.cell.item.shape)
         × StandsFor i.cell i.writer.list
-        × IfSome i.place (λ p. ShowsItem N.deed.config p i.item i.cell.item.shape i.chron) };
+        × IfSome i.place (λ p. ShowsItem N.deed.config p i.item i.cell.item.shape i.chron)
+        × Textual i.writer.list };
 }
 
 /// An adapter's pass to an item: by it events are published, and it has seen what was published through it. Contracts
 /// see the adapter, from 1, the item's number, its place in the register, where the pass knows it, its table and shape,
-/// and a beginning of its history.
+/// and a beginning of its history, whose texts are UTF-8.
 #[derive(Drop)]
 pub struct PubPass<N: House> {
     item: u32,
@@ -72,6 +76,7 @@ pub struct PubPass<N: House> {
 impl<N: House> Model for PubPass<N> {
     ghost use Rattle.std.specs.Prelude.{◌≡◌, ◌≤◌, IfSome};
     ghost use Rattle.ls_event.specs.declared.limits.TheConstants.{MOST_ADAPTERS};
+    ghost use Rattle.ls_event.specs.Textual.{Textual};
     ghost use Rattle.ls_register.specs.Items.{ShowsItem};
     ghost use Rattle.ls_live.specs.Live.{Pass, shape_kept};
 
@@ -87,7 +92,8 @@ impl<N: House> Model for PubPass<N> {
     } };
 
     ghost invariant = { λ p. (1 ≤ p.adapter) × (p.adapter ≤ MOST_ADAPTERS)
-        × IfSome p.place (λ q. ShowsItem N.deed.config q p.item (shape_kept p.shape) p.reader.table) };
+        × IfSome p.place (λ q. ShowsItem N.deed.config q p.item (shape_kept p.shape) p.reader.table)
+        × Textual p.reader.list };
 }
 
 impl<N: House> LiveItem<N> {
@@ -150,6 +156,7 @@ impl<N: House> LiveItem<N> {
         requires most { adapter ≤ MOST }
         ensures same { self.new ≡ self.old }
         ensures pass { result ≡ record (whole_pass self.old adapter) { place = None } }
+        ensures textual { Textual result.list }
     {
         let reader = self.chron.note(&mut self.writer);
         PubPass {
@@ -168,6 +175,7 @@ impl<N: House> LiveItem<N> {
         requires most { adapter ≤ MOST }
         ensures same { self.new ≡ self.old }
         ensures pass { result ≡ whole_pass self.old adapter }
+        ensures textual { Textual result.list }
     {
         let reader = self.chron.note(&mut self.writer);
         let place = match &mut self.place {
@@ -230,18 +238,6 @@ impl<N: House> PubPass<N> {
     }
 }
 
-/// A copy of an adapter's event with its seq.
-pub fn copied_entry(alloc: Global, adapter: u8, seq: u64, event: &Event) -> Result<Entry, NoMemory>
-    ensures { IfOk result (λ e. e ≡ entry_of adapter seq event.now) }
-{
-    let event = event.copy(alloc)?;
-    Ok(Entry {
-        adapter,
-        seq,
-        event,
-    })
-}
-
 /// Adds an event to the end of the item's history by the pass, which then has seen the whole history. It answers the
 /// event's number, or the first cause of [`ItemCell::publish`]'s order that stands against it. A slot that lags by
 /// [`MOST_LAG`](ls_event::MOST_LAG) is caught up and keeps nothing back, so `Backlog` is never answered. After a
@@ -267,6 +263,7 @@ pub fn publish_into<N: House>(
     ensures refused { IfErr result (λ cause. (item.new.history ≡ item.old.history)
         × IsCause (cause_in item.old.shape item.old.history (entry_of pass.old.adapter seq event)) cause) }
     ensures lawful { IsHistory item.old.shape item.new.history }
+    ensures textual { Textual item.new.history }
 {
     let entry = copied_entry(item.alloc, pass.adapter(), seq, &event);
     publish_copied(item, pass, seq, event, &entry)
@@ -279,7 +276,7 @@ pub fn publish_copied<N: House>(
     pass: &mut PubPass<N>,
     seq: u64,
     event: Event,
-    entry: &Result<Entry, NoMemory>,
+    entry: &Result<CopiedEntry, NoMemory>,
 ) -> Result<u64, PublishRefused>
     requires of { IsOf pass.old item.old }
     requires fields { HasFields item.old.shape.fields event }
@@ -296,6 +293,7 @@ pub fn publish_copied<N: House>(
     ensures refused { IfErr result (λ cause. (item.new.history ≡ item.old.history)
         × IsCause (cause_in item.old.shape item.old.history (entry_of pass.old.adapter seq event)) cause) }
     ensures lawful { IsHistory item.old.shape item.new.history }
+    ensures textual { Textual item.new.history }
 {
     let LiveItem {
         cell,
@@ -324,7 +322,7 @@ fn add_copied(
     adapter: u8,
     seq: u64,
     event: Event,
-    entry: &Result<Entry, NoMemory>,
+    entry: &Result<CopiedEntry, NoMemory>,
 ) -> Result<u64, PublishRefused>
     requires adapter { adapter ≤ MOST }
     requires fields { HasFields cell.old.item.shape.fields event }
@@ -337,6 +335,7 @@ fn add_copied(
     ensures table { writer.new.table ≡ writer.old.table }
     ensures reader { reader.new ≡ writer.new }
     ensures begins { IsPrefix reader.old.list writer.old.list }
+    ensures textual { Textual writer.old.list → Textual writer.new.list }
     ensures done { IfOk result (λ number.
         (writer.new.list ≡ writer.old.list ++ entry_of adapter seq event ∷ [])
         × (number ≡ length writer.new.list)) }
@@ -366,7 +365,7 @@ fn weigh_copied<'a>(
     adapter: u8,
     seq: u64,
     event: &Event,
-    entry: &'a Result<Entry, NoMemory>,
+    entry: &'a Result<CopiedEntry, NoMemory>,
 ) -> Result<&'a Entry, PublishRefused>
     requires adapter { adapter ≤ MOST }
     requires fields { HasFields cell.old.item.shape.fields event.now }
@@ -374,6 +373,7 @@ fn weigh_copied<'a>(
     ensures shape { cell.new.item.shape ≡ cell.old.item.shape }
     ensures slots { (h : List Entry) → KeepsSlots cell.old h cell.new h }
     ensures copy { IfOk result (λ e. e.now ≡ entry_of adapter seq event.now) }
+    ensures textual { IfOk result (λ e. TextualEvent e.now.event) }
     ensures ok { OnOk result (refusal_of cell.new (entry_of adapter seq event.now) ≡ None) }
     ensures admitted { OnOk result ((h : List Entry) → StandsFor cell.old h
         → cause_in cell.old.item.shape h (entry_of adapter seq event.now) ≡ None) }
@@ -387,5 +387,5 @@ fn weigh_copied<'a>(
     let Ok(entry) = entry else {
         return Err(PublishRefused::NoMemory);
     };
-    Ok(entry)
+    Ok(entry.as_entry())
 }

@@ -6,14 +6,14 @@ use Rattle.ls_value.specs.declared.row.Value.{Value}
 use Rattle.ls_mirror.specs.Keys.{KeyTable}
 use Rattle.ls_mirror.specs.declared.command.KeyPlaces.{KeyPlaces}
 use Rattle.ls_mirror.specs.Client.{What, Row, Lost, Cleared, End, Heard, Coded, Missed, Emptied, Ended, AreDecoded, last_row}
-use Rattle.ls_mirror.specs.Tables.{counted, table_of, table_after, lost_by, updates_by, IsDecoded, IsTableAfter}
+use Rattle.ls_mirror.specs.Tables.{capped, table_of, table_after, lost_by, updates_by, IsDecoded, IsTableAfter}
 use Rattle.ls_mirror.specs.Standing.{StandsTable}
 
 same_table : (last : Option (List Value)) (keys : KeyTable) (a b m n : ℕ) → a ≡ b → m ≡ n
     → ◌≡◌ {A = Table} (record { last = last; keys = keys; lost = a; updates = m }) (record { last = last; keys = keys; lost = b; updates = n })
 same_table last keys a b m n e f i = record { last = last; keys = keys; lost = e i; updates = f i }
 
-counted_more : (n k m : ℕ) → m ≡ k + n → counted (counted n + k) ≡ counted m
+counted_more : (n k m : ℕ) → m ≡ k + n → capped (capped n + k) ≡ capped m
 counted_more n k m e = omega (arith, e)
 
 lost_sum : (w : What) (ws : List What) → sum_by lost_by (w ∷ ws) ≡ lost_by w + sum_by lost_by ws
@@ -22,7 +22,7 @@ lost_sum w ws = sum_by-cons lost_by w ws
 updates_sum : (w : What) (ws : List What) → sum_by updates_by (w ∷ ws) ≡ updates_by w + sum_by updates_by ws
 updates_sum w ws = sum_by-cons updates_by w ws
 
-kept : (n m : ℕ) → m ≡ 0 + n → counted n ≡ counted m
+kept : (n m : ℕ) → m ≡ 0 + n → capped n ≡ capped m
 kept n m e = omega (arith, e)
 
 pub table_more : (places : Option KeyPlaces) (w : What) (ws : List What) → table_after w places (table_of places ws) ≡ table_of places (w ∷ ws)

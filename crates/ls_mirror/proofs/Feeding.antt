@@ -8,7 +8,7 @@ use Rattle.std.proofs.lemmas.Bool.Decides.{eqb_tells}
 use Rattle.ls_line.specs.declared.line.Line.{Line}
 use Rattle.ls_mirror.specs.declared.client.Client.{Client}
 use Rattle.ls_mirror.specs.declared.subscription.Subscription.{Subscription}
-use Rattle.ls_mirror.specs.Client.{Heard, begun, begun_after, heard, heard_of, last_row, AreDecoded}
+use Rattle.ls_mirror.specs.Client.{Heard, begun_as, begun_after, heard, heard_of, last_row, AreDecoded}
 use Rattle.ls_mirror.specs.Refusing.{IsBad}
 use Rattle.ls_mirror.specs.Standing.{StandsClient, StandsTable, IsTableOf, IsSame, AreSame, AreSubscriptionsAfter, IsBadAt, IsBadHeard, IsHeardOf, has_item}
 use Rattle.ls_mirror.specs.Standing.{BeginsOrEnds, begun_of, table_at, subscription_at}
@@ -27,7 +27,7 @@ abbrev pub with : Client → BTreeMap ℕ Subscription → Client
 with c subscriptions = record { alloc = c.alloc; subscriptions = subscriptions; blank = c.blank }
 
 pub begun_at : (c : Client) (lines : List Line) (sub : ℕ) (s : Subscription) → StandsClient c lines → subscription_at c.subscriptions sub ≡ Some s
-    → begun sub lines ≡ Some (begun_of s)
+    → begun_as sub lines ≡ Some (begun_of s)
 begun_at c lines sub s st e = sym (st.live sub) ∙ ap (option_map begun_of) e
 
 begun_kept : (s t : Subscription) → t.items ≡ s.items → t.fields ≡ s.fields → t.places ≡ s.places → begun_of t ≡ begun_of s
@@ -35,14 +35,14 @@ begun_kept s t a b p i = record { items = a i; fields = b i; keyed = p i }
 
 module _ (c : Client) (subs : BTreeMap ℕ Subscription) (l : Line) (lines : List Line) (sub item : ℕ) (h : Heard)
     (adds : IsHeardOf l sub item h) (m : AreSubscriptionsAfter sub item h c.subscriptions subs) (st : StandsClient c lines) where
-  live_here : option_map begun_of (subscription_at subs sub) ≡ begun_after sub l (begun sub lines)
+  live_here : option_map begun_of (subscription_at subs sub) ≡ begun_after sub l (begun_as sub lines)
   live_here = ap (option_map begun_of) m.is ∙ ap (λ b. Some b) (begun_kept m.before m.after m.hears.items m.hears.fields m.hears.places)
-      ∙ sym (begun_at c lines sub m.before st m.was) ∙ sym (adds.begins sub (begun sub lines))
+      ∙ sym (begun_at c lines sub m.before st m.was) ∙ sym (adds.begins sub (begun_as sub lines))
 
-  live_after : (q : ℕ) → option_map begun_of (subscription_at subs q) ≡ begun_after q l (begun q lines)
+  live_after : (q : ℕ) → option_map begun_of (subscription_at subs q) ≡ begun_after q l (begun_as q lines)
   live_after q = ⊎_elim
-      (λ yes. subst (λ x. option_map begun_of (subscription_at subs x) ≡ begun_after x l (begun x lines)) (sym yes.1) live_here)
-      (λ no. ap (option_map begun_of) (m.others q no.0) ∙ st.live q ∙ sym (adds.begins q (begun q lines)))
+      (λ yes. subst (λ x. option_map begun_of (subscription_at subs x) ≡ begun_after x l (begun_as x lines)) (sym yes.1) live_here)
+      (λ no. ap (option_map begun_of) (m.others q no.0) ∙ st.live q ∙ sym (adds.begins q (begun_as q lines)))
       (eqb_tells q sub)
 
   at_here : (q : ℕ) (s : Subscription) → q ≡ sub → subscription_at subs q ≡ Some s → s ≡ m.after
@@ -119,11 +119,11 @@ module _ (c : Client) (subs : BTreeMap ℕ Subscription) (sub : ℕ) (to : Optio
     (blank : (s : Subscription) → to ≡ Some s → (i : ℕ) → table_at s.tables i ≡ blank_table)
     (l : Line) (lines : List Line)
     (b : BeginsOrEnds l sub (option_map begun_of to)) (st : StandsClient c lines) where
-  live_begun : (q : ℕ) → option_map begun_of (subscription_at subs q) ≡ begun_after q l (begun q lines)
+  live_begun : (q : ℕ) → option_map begun_of (subscription_at subs q) ≡ begun_after q l (begun_as q lines)
   live_begun q = ⊎_elim
       (λ yes. ap (λ x. option_map begun_of (subscription_at subs x)) yes.1 ∙ ap (option_map begun_of) here
-      ∙ sym (rw yes.0 at (b.begins q (begun q lines))))
-      (λ no. ap (option_map begun_of) (others q no.0) ∙ st.live q ∙ sym (rw no.0 at (b.begins q (begun q lines))))
+      ∙ sym (rw yes.0 at (b.begins q (begun_as q lines))))
+      (λ no. ap (option_map begun_of) (others q no.0) ∙ st.live q ∙ sym (rw no.0 at (b.begins q (begun_as q lines))))
       (eqb_tells q sub)
 
   to_here : (q : ℕ) (s : Subscription) → q ≡ sub → subscription_at subs q ≡ Some s → to ≡ Some s

@@ -6,7 +6,7 @@ use Rattle.ls_mirror.specs.declared.table.Table.{Table}
 use Rattle.ls_mirror.specs.declared.command.KeyPlaces.{KeyPlaces}
 use Rattle.ls_mirror.specs.Client.{Coded, Missed, Row, Lost}
 use Rattle.ls_mirror.specs.Commands.{has_command}
-use Rattle.ls_mirror.specs.Tables.{IsTableAfter, table_after, counted}
+use Rattle.ls_mirror.specs.Tables.{IsTableAfter, table_after, capped}
 
 pub coded_moves : {X E : Type 0} (answer : Result X E) (fields : ℕ) (places : Option KeyPlaces) (old new : Table) (coded : List ℕ) (row : List Value)
     → Reads (row_before fields old.last) (tokens_of coded) row
@@ -14,6 +14,6 @@ pub coded_moves : {X E : Type 0} (answer : Result X E) (fields : ℕ) (places : 
 coded_moves (Ok x) fields places old new coded row reads h = (Row row, reads, h.1)
 coded_moves (Err e) fields places old new coded row reads h = tt
 
-pub missed_moves : (fields : ℕ) (places : Option KeyPlaces) (old : Table) (lost n : ℕ) → n ≡ counted (old.lost + lost)
+pub missed_moves : (fields : ℕ) (places : Option KeyPlaces) (old : Table) (lost n : ℕ) → n ≡ capped (old.lost + lost)
     → IsTableAfter fields places (Missed lost) old (record { last = old.last; keys = old.keys; lost = n; updates = old.updates })
 missed_moves fields places old lost n e = (Lost lost, refl, ap (λ (x : ℕ). record { last = old.last; keys = old.keys; lost = x; updates = old.updates }) e)

@@ -6,7 +6,7 @@ use Rattle.ls_line.specs.declared.line.Line.TheVariants as line
 use Rattle.ls_update.specs.Reading.{Reads, row_before, tokens_of}
 use Rattle.ls_mirror.specs.declared.command.KeyPlaces.{KeyPlaces}
 
--- a subscription that has begun: how many items and fields it has, and in mode COMMAND where its key and command are
+-- a subscription that has begun_as: how many items and fields it has, and in mode COMMAND where its key and command are
 pub record Begun : Type 0 where
   pub items : ℕ
   pub fields : ℕ
@@ -28,9 +28,9 @@ begun_after sub (line.Unsub s) before = if s == sub then None else before
 begun_after sub l before = before
 
 -- the live subscription of a number: a UNSUB ends it
-abbrev pub begun : ℕ → List Line → Option Begun
-begun sub [] = None
-begun sub (l ∷ lines) = begun_after sub l (begun sub lines)
+abbrev pub begun_as : ℕ → List Line → Option Begun
+begun_as sub [] = None
+begun_as sub (l ∷ lines) = begun_after sub l (begun_as sub lines)
 
 -- what a line says of an item of a subscription, where a row's fields are still coded
 pub data Heard : Type 0 where
@@ -91,7 +91,7 @@ AreDecoded fields hs ws = ⊥
 -- what came of an item of a live subscription by these lines
 pub record HasCome (sub item : ℕ) (lines : List Line) (ws : List What) : Type 0 where
   pub subscription : Begun
-  pub is_live : begun sub lines ≡ Some subscription
+  pub is_live : begun_as sub lines ≡ Some subscription
   pub first : 1 ≤ item
   pub last : item ≤ subscription.items
   pub decoded : AreDecoded subscription.fields (heard sub item lines) ws

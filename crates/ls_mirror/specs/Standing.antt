@@ -13,7 +13,7 @@ use Rattle.ls_mirror.specs.declared.table.Table.{Table}
 use Rattle.ls_mirror.specs.declared.refused.MirrorRefused.{MirrorRefused}
 use Rattle.ls_mirror.specs.declared.refused.MirrorRefused.TheVariants as refused
 use Rattle.ls_mirror.specs.declared.command.KeyPlaces.{KeyPlaces}
-use Rattle.ls_mirror.specs.Client.{Begun, Heard, Coded, What, begun, begun_after, heard, heard_after}
+use Rattle.ls_mirror.specs.Client.{Begun, Heard, Coded, What, begun_as, begun_after, heard, heard_after}
 use Rattle.ls_mirror.specs.Client.{heard_of, last_row, AreDecoded, HasCome}
 use Rattle.ls_mirror.specs.Refusing.{IsBad}
 use Rattle.ls_mirror.specs.Tables.{table_of, blank_table, IsTableAfter}
@@ -39,7 +39,7 @@ pub record StandsTable (fields : ℕ) (places : Option KeyPlaces) (hs : List Hea
 -- a client stands for the lines that it was fed, the newest first
 pub record StandsClient (client : Client) (lines : List Line) : Type 0 where
   pub blank : client.blank ≡ blank_table
-  pub live : (sub : ℕ) → option_map begun_of (subscription_at client.subscriptions sub) ≡ begun sub lines
+  pub live : (sub : ℕ) → option_map begun_of (subscription_at client.subscriptions sub) ≡ begun_as sub lines
   pub small : (sub : ℕ) (s : Subscription) → subscription_at client.subscriptions sub ≡ Some s → s.fields < 2 ^ 64
   pub come : (sub item : ℕ) (s : Subscription) → subscription_at client.subscriptions sub ≡ Some s
       → StandsTable s.fields s.places (heard sub item lines) (table_at s.tables item)
@@ -61,12 +61,12 @@ unless_known known sub item = if known then None else Some (refused.Unknown sub 
 
 -- the refusal of a line that names a subscription which is not live, or an item which no live one has
 abbrev pub unknown_of : List Line → Line → Option MirrorRefused
-unknown_of lines (line.Unsub s) = unless_known (is_some (begun s lines)) s 0
-unknown_of lines (line.Conf s frequency filter) = unless_known (is_some (begun s lines)) s 0
-unknown_of lines (line.Eos s i) = unless_known (has_item (begun s lines) i) s i
-unknown_of lines (line.Cs s i) = unless_known (has_item (begun s lines) i) s i
-unknown_of lines (line.Ov s i lost) = unless_known (has_item (begun s lines) i) s i
-unknown_of lines (line.U s i coded) = unless_known (has_item (begun s lines) i) s i
+unknown_of lines (line.Unsub s) = unless_known (is_some (begun_as s lines)) s 0
+unknown_of lines (line.Conf s frequency filter) = unless_known (is_some (begun_as s lines)) s 0
+unknown_of lines (line.Eos s i) = unless_known (has_item (begun_as s lines) i) s i
+unknown_of lines (line.Cs s i) = unless_known (has_item (begun_as s lines) i) s i
+unknown_of lines (line.Ov s i lost) = unless_known (has_item (begun_as s lines) i) s i
+unknown_of lines (line.U s i coded) = unless_known (has_item (begun_as s lines) i) s i
 unknown_of lines l = None
 
 -- another refusal than that of an unknown name

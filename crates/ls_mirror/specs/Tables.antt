@@ -26,16 +26,16 @@ updates_by Cleared = 0
 updates_by End = 0
 
 -- a count, or 2^64 - 1 where that is less
-abbrev pub counted : ℕ → ℕ
-counted n = min n (2 ^ 64 - 1)
+abbrev pub capped : ℕ → ℕ
+capped n = min n (2 ^ 64 - 1)
 
 -- how many updates were lost
 abbrev pub lost_count : List What → ℕ
-lost_count whats = counted (sum_by lost_by whats)
+lost_count whats = capped (sum_by lost_by whats)
 
 -- how many updates came
 abbrev pub update_count : List What → ℕ
-update_count whats = counted (sum_by updates_by whats)
+update_count whats = capped (sum_by updates_by whats)
 
 -- the table of what came
 abbrev pub table_of : Option KeyPlaces → List What → Table
@@ -52,12 +52,12 @@ table_after (Row row) places t = record {
   last = Some row;
   keys = keys_after (Row row) places t.keys;
   lost = t.lost;
-  updates = counted (t.updates + 1);
+  updates = capped (t.updates + 1);
 }
 table_after (Lost k) places t = record {
   last = t.last;
   keys = t.keys;
-  lost = counted (t.lost + k);
+  lost = capped (t.lost + k);
   updates = t.updates;
 }
 table_after Cleared places t = record { last = t.last; keys = finite.empty; lost = t.lost; updates = t.updates }

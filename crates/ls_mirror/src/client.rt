@@ -2,7 +2,7 @@
 ghost use Rattle.std.specs.Prelude.{◌≡◌, List, [], ◌∷◌, Option, None, Some, IfOk, OnOk, OnErr, IfErr, IfSome};
 ghost use Rattle.std.specs.Prelude.{IsErrOf, is_some};
 ghost use Rattle.ls_line.specs.declared.line.Line.{Line as AnyLine};
-ghost use Rattle.ls_mirror.specs.Client.{begun, Begun};
+ghost use Rattle.ls_mirror.specs.Client.{begun_as, Begun};
 ghost use Rattle.ls_mirror.specs.Refusing.{AnswersBad};
 ghost use Rattle.ls_mirror.specs.Tables.{heard_value};
 ghost use Rattle.ls_mirror.specs.Standing.{StandsClient, IsTableOf, has_item, unless_known, unknown_of};
@@ -43,7 +43,7 @@ impl Client {
         ensures table { IfSome result (λ t. (lines : List AnyLine) → StandsClient self.now lines
             → IsTableOf sub item lines t.now) }
         ensures some { (lines : List AnyLine) → StandsClient self.now lines
-            → is_some result ≡ has_item (begun sub lines) item }
+            → is_some result ≡ has_item (begun_as sub lines) item }
     {
         let Some(subscription) = self.subscriptions.get(&sub) else {
             return None;
@@ -134,7 +134,7 @@ impl Client {
         ensures err { OnErr result ((lines : List AnyLine) → StandsClient self.old lines
             → StandsClient self.new lines) }
         ensures unknown { (lines : List AnyLine) → StandsClient self.old lines
-            → AnswersUnknown (unless_known (is_some (begun sub lines)) sub 0) result }
+            → AnswersUnknown (unless_known (is_some (begun_as sub lines)) sub 0) result }
         ensures refused { IfErr result (λ e. e ≡ MirrorRefused.Unknown sub 0) }
     {
         if self.subscriptions.remove(&sub).is_none() {
@@ -146,7 +146,7 @@ impl Client {
     /// Whether a subscription is live.
     fn find(&self, sub: u32) -> Result<(), MirrorRefused>
         ensures unknown { (lines : List AnyLine) → StandsClient self.now lines
-            → AnswersUnknown (unless_known (is_some (begun sub lines)) sub 0) result }
+            → AnswersUnknown (unless_known (is_some (begun_as sub lines)) sub 0) result }
         ensures refused { IfErr result (λ e. e ≡ MirrorRefused.Unknown sub 0) }
     {
         if self.subscriptions.contains_key(&sub) {
@@ -163,7 +163,7 @@ impl Client {
         ensures err { OnErr result ((lines : List AnyLine) → StandsClient self.old lines
             → StandsClient self.new lines) }
         ensures unknown { (lines : List AnyLine) → StandsClient self.old lines
-            → AnswersUnknown (unless_known (has_item (begun sub lines) item) sub item) result }
+            → AnswersUnknown (unless_known (has_item (begun_as sub lines) item) sub item) result }
         ensures bad { (lines : List AnyLine) → StandsClient self.old lines → IsErrOf result MirrorRefused.BadFields
             → IsBadHeard sub item lines (heard_value heard.entry) }
         ensures only_bad { (lines : List AnyLine) → StandsClient self.old lines

@@ -1,4 +1,3 @@
-pub mod Adapters
 pub mod Causes
 pub mod Clocks
 pub mod Memory

@@ -4,7 +4,6 @@ use crate::gate::{OpenGate, Point};
 use crate::mem_sink::{MemSink, PlainSink};
 use crate::mem_source::{MemSource, PlainSource};
 use crate::pipe::{MemPipe, PlainPipe};
-use crate::std_io::{StdSink, StdSource};
 
 /// A type whose values may be sent.
 fn sends<T: Send>() {}
@@ -24,12 +23,6 @@ pub(crate) fn plain() {
     sends::<PlainSource>();
     sends::<PlainSink>();
     sends::<PlainPipe>();
-}
-
-/// Those over std's readers and writers.
-pub(crate) fn over_std<T: Send>() {
-    sends::<StdSource<T>>();
-    sends::<StdSink<T>>();
 }
 
 /// A clock in memory.

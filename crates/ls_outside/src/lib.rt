@@ -6,9 +6,8 @@
 //! stands still.
 //!
 //! `MemSource` and `MemSink` are in memory, and their calls go by a list, for tests; `PlainSource` and `PlainSink`
-//! never fail. `StdSource` and `StdSink` stand over std's readers and writers. What a source has not given yet and what
-//! a sink holds is told by objects in memory and by those over a reader or writer that tells it; a socket or a terminal
-//! tells nothing, and then nothing is claimed of the bytes.
+//! never fail. What a source has not given yet and what a sink holds is told by objects in memory. A socket or a
+//! terminal tells nothing, and then nothing is claimed of the bytes; such real objects are made elsewhere.
 //!
 //! A `Pipe` is both, as a connection is, and neither half changes the other; `MemPipe` and `PlainPipe` are made of the
 //! halves above. A `Clock` tells ticks that never fall, and `MemClock` tells those of a list. A `Gate` is passed by
@@ -27,19 +26,15 @@ mod cross;
 mod gate;
 mod mem_sink;
 mod mem_source;
-mod once;
 mod pipe;
 mod sink;
 mod source;
-mod std_io;
 
 pub use call::Call;
 pub use clock::{Clock, MemClock};
 pub use gate::{Gate, OpenGate, Point};
 pub use mem_sink::{MemSink, PlainSink};
 pub use mem_source::{MemSource, PlainSource};
-pub use once::{Reader, Writer};
 pub use pipe::{MemPipe, Pipe, PlainPipe};
 pub use sink::{Put, Sink, write_all};
 pub use source::{Got, Source};
-pub use std_io::{StdSink, StdSource, WRITE_TRIES};

@@ -2,7 +2,7 @@
 //! and the tokens of callers know one another.
 //!
 //! Of a value behind a lock only what its type keeps is known. So every type that has to agree on the register has a
-//! parameter `N: House`, which names the register and the items of one server. A [`Made`] is an entry of the register:
+//! parameter `N: House`, which names the register, the adapter set and the items of one server. A [`Made`] is an entry of the register:
 //! an item, a session or a slot, each with the table on which its history or tie stands, a session that is gone, or
 //! room for slots that was claimed or freed. A [`Told`] is an entry of a session's history.
 //!

@@ -1,7 +1,7 @@
 -- What feeding a line, and then more lines, does.
 use Rattle.std.proofs.Common.{◌≡◌, ℕ, ◌+◌, ◌<◌, ◌-◌, List, [], ◌∷◌, ◌++◌, length, take, drop, get_or, arith, false}
 use Rattle.std.proofs.Common.{refl, sym, ◌∙◌, ap, subst, append_assoc, append-nil, ◌⊎◌, ⊎_elim, inl, inr}
-use Rattle.std.proofs.lemmas.List.{take-append-drop}
+use Rattle.std.proofs.lemmas.List.{take-append-drop, take_all}
 use Rattle.std.specs.Prelude.{Option, Some, None}
 use Rattle.std.specs.Io.KnownBytes.{Appends}
 use Rattle.ls_outside.proofs.Bytes.{appends_on}
@@ -11,13 +11,14 @@ use Rattle.ls_world.specs.Script.{step, whole_from, rest_from, output_of, text_o
 use Rattle.ls_world.specs.Script.{IsPrefix, last_line}
 use Rattle.ls_run.specs.declared.engine.Engine.{Engine}
 use Rattle.ls_run.specs.Engine.{StandsEngine, Steps, IsBad}
-use Rattle.ls_run.specs.Replay.{Progress, progress_after, line_after, rest_after, Kept, kept_with, StandsWithin, StandsFor}
-use Rattle.ls_run.specs.Replay.{Meets, Feeds, Holds, Writes, EndsNoLine}
+use Rattle.ls_run.specs.Replay.{Progress, progress_after, KeptReplay, kept_with, StandsWithin, StandsFor}
+use Rattle.ls_run.specs.Replay.{Meets, Feeds, Holds, Writes}
 use Rattle.ls_run.specs.declared.replay.Fed.{Fed}
 use Rattle.ls_run.specs.declared.replay.Fed.TheVariants as fed
 use Rattle.ls_run.proofs.ScriptLines.{GoesOn, goes_on, Stops, stops, text_begins}
 use Rattle.ls_run.proofs.ScriptLines.{whole_from-append, rest_from-append}
-use Rattle.ls_run.proofs.PieceLines.{whole_from-line, whole_from-kept, progress_line, progress_rest, next_front}
+use Rattle.ls_run.proofs.PieceLines.{whole_are, rest_is}
+use Rattle.ls_lines.specs.Lines.{Cutting, EndsLine, EndsNone}
 
 -- nothing is written
 pub nothing : (held : Option (List ℕ)) → Appends held held []
@@ -161,80 +162,119 @@ met_stopped fed.WriteFault w xs ys t stopped met =
 met_stopped fed.NoMemory w xs ys t stopped met =
     prefix_in t (output_of w xs) (output_of w (xs ++ ys)) met (text_begins w xs ys)
 
--- the lines of a piece from its front, a line, and the bytes behind it
-abbrev pub next_bytes : List ℕ → List ℕ → List ℕ
-next_bytes front line = front ++ (line ++ 10 ∷ [])
-
--- one more line of a piece
-pub line_fed : (a : Fed) (p : Progress) (front line : List ℕ) (h i : Option (List ℕ)) (u u' : List ℕ) → EndsNoLine line
+-- the first bytes of a piece, and the next ones
+pub next_fed : (a : Fed) (p : Progress) (front xs : List ℕ) (h i : Option (List ℕ)) (u u' : List ℕ)
     → Feeds fed.All p.world (whole_from p.carry front) h i u
-    → Holds a (progress_after p front).world (((progress_after p front).carry ++ line) ∷ []) u u'
-    → Feeds a p.world (whole_from p.carry (next_bytes front line)) h i u'
-line_fed a p front line h i u u' plain f g =
-    let ls : List (List ℕ) = (rest_from p.carry front ++ line) ∷ [] in
-    let all : Feeds a p.world (whole_from p.carry front ++ ls) h i u' =
-    held_on a p.world (whole_from p.carry front) ls h i u u' f g in
-    let same : whole_from p.carry (next_bytes front line) ≡ whole_from p.carry front ++ ls =
-    whole_from-append p.carry front (line ++ 10 ∷ [])
-    ∙ ap (λ ys. whole_from p.carry front ++ ys) (whole_from-line (rest_from p.carry front) line plain) in
-    subst (λ (ys : List (List ℕ)). Feeds a p.world ys h i u') (sym same) all
+    → Holds a (progress_after p front).world (whole_from (progress_after p front).carry xs) u u'
+    → Feeds a p.world (whole_from p.carry (front ++ xs)) h i u'
+next_fed a p front xs h i u u' f g =
+    subst (λ (ys : List (List ℕ)). Feeds a p.world ys h i u') (sym (whole_from-append p.carry front xs))
+    (held_on a p.world (whole_from p.carry front) (whole_from (rest_from p.carry front) xs) h i u u' f g)
 
-pub line_stands : (k : Kept) (p : Progress) (front line : List ℕ) → EndsNoLine line
-    → has_bad_line p.world (whole_from p.carry front) ≡ false
-    → StandsWithin k (line_after (progress_after p front) line) → StandsWithin k (progress_after p (next_bytes front line))
-line_stands k p front line plain good st =
-    subst (λ (q : Progress). StandsWithin k q)
-    (sym (progress_line (progress_after p front) line plain) ∙ progress_on p front (line ++ 10 ∷ []) good) st
+pub next_stands : (k : KeptReplay) (p : Progress) (front xs : List ℕ) → has_bad_line p.world (whole_from p.carry front) ≡ false
+    → StandsWithin k (progress_after (progress_after p front) xs) → StandsWithin k (progress_after p (front ++ xs))
+next_stands k p front xs good st = subst (λ (q : Progress). StandsWithin k q) (progress_on p front xs good) st
 
--- a line at which a call stops, so that the rest of the piece doesn't count
-pub line_stopped : (a : Fed) (p : Progress) (piece front rest : List ℕ) (n : ℕ) (h i : Option (List ℕ)) (u : List ℕ)
-    → n < length rest → get_or rest n 0 ≡ 10 → piece ≡ front ++ rest → (a ≡ fed.All → ⊥)
-    → Feeds a p.world (whole_from p.carry (next_bytes front (take n rest))) h i u
-    → Feeds a p.world (whole_from p.carry piece) h i u
-line_stopped a p piece front rest n h i u within end is stopped f =
-    let next : List ℕ = next_bytes front (take n rest) in
-    let behind : List ℕ = take (length rest - (n + 1)) (drop (n + 1) rest) in
-    let ls : List (List ℕ) = whole_from (rest_from p.carry next) behind in
-    let same : whole_from p.carry piece ≡ whole_from p.carry next ++ ls =
-    ap (λ bytes. whole_from p.carry bytes) (next_front piece front rest n within end is)
-    ∙ whole_from-append p.carry next behind in
+-- a call stopped within a piece, so the rest of the piece doesn't count
+pub fed_more : (a : Fed) (p : Progress) (xs more piece : List ℕ) (h i : Option (List ℕ)) (u : List ℕ) → (a ≡ fed.All → ⊥)
+    → piece ≡ xs ++ more → Feeds a p.world (whole_from p.carry xs) h i u → Feeds a p.world (whole_from p.carry piece) h i u
+fed_more a p xs more piece h i u stopped is f =
+    let ls : List (List ℕ) = whole_from (rest_from p.carry xs) more in
+    let same : whole_from p.carry piece ≡ whole_from p.carry xs ++ ls =
+    ap (λ bytes. whole_from p.carry bytes) is ∙ whole_from-append p.carry xs more in
     record {
       written = f.written;
       appends = f.appends;
       met = subst (λ (ys : List (List ℕ)). Meets a p.world ys (f.written ++ u)) (sym same)
-          (met_stopped a p.world (whole_from p.carry next) ls (f.written ++ u) stopped f.met);
+          (met_stopped a p.world (whole_from p.carry xs) ls (f.written ++ u) stopped f.met);
     }
 
--- the bytes behind the last line of a piece
-rest_lines : (p : Progress) (piece front rest : List ℕ) → piece ≡ front ++ rest → EndsNoLine rest
-    → whole_from p.carry piece ≡ whole_from p.carry front
-rest_lines p piece front rest is plain =
-    ap (λ bytes. whole_from p.carry bytes) is ∙ whole_from-append p.carry front rest
-    ∙ ap (λ ls. whole_from p.carry front ++ ls) (whole_from-kept (rest_from p.carry front) rest plain)
-    ∙ append-nil (whole_from p.carry front)
+-- a line that ends in a piece, and what its answer says of the bytes up to its end
+line_is : (c c' : Cutting) (p : Progress) (piece : List ℕ) (used : ℕ) → c.carry ≡ p.carry → EndsLine c c' piece used
+    → whole_from p.carry (take used piece) ≡ c'.line ∷ []
+line_is c c' p piece used same e =
+    subst (λ t. whole_from t (take used piece) ≡ c'.line ∷ []) same
+    (whole_are c.limit c.carry (take used piece) (c'.line ∷ []) [] e.kept.plain e.are tt)
 
-pub rest_fed : (a : Fed) (p : Progress) (piece front rest : List ℕ) (h i : Option (List ℕ)) (u : List ℕ)
-    → (a ≡ fed.All) ⊎ (a ≡ fed.NoMemory) → piece ≡ front ++ rest → EndsNoLine rest
-    → Feeds fed.All p.world (whole_from p.carry front) h i u → Feeds a p.world (whole_from p.carry piece) h i u
-rest_fed a p piece front rest h i u answer is plain f =
-    let ls : List (List ℕ) = whole_from p.carry front in
-    let text : List ℕ = f.written ++ u in
-    let met : Meets a p.world ls text =
-    ⊎_elim (λ e. subst (λ (b : Fed). Meets b p.world ls text) (sym e) f.met)
-    (λ e. subst (λ (b : Fed). Meets b p.world ls text) (sym e) (met_prefix fed.All p.world ls text f.met)) answer in
+pub line_holds : (c c' : Cutting) (p : Progress) (line piece : List ℕ) (used : ℕ) (u u' : List ℕ) → c.carry ≡ p.carry → EndsLine c c' piece used
+    → line ≡ c'.line → Holds fed.All p.world (line ∷ []) u u' → Holds fed.All p.world (whole_from p.carry (take used piece)) u u'
+line_holds c c' p line piece used u u' same e is g =
+    subst (λ (ls : List (List ℕ)). Holds fed.All p.world ls u u') (ap (λ t. t ∷ []) is ∙ sym (line_is c c' p piece used same e)) g
+
+pub line_stops : (a : Fed) (c c' : Cutting) (p : Progress) (line piece : List ℕ) (used : ℕ) (u u' : List ℕ) → (a ≡ fed.All → ⊥)
+    → c.carry ≡ p.carry → EndsLine c c' piece used → line ≡ c'.line → Holds a p.world (line ∷ []) u u' → Holds a p.world (whole_from p.carry piece) u u'
+line_stops a c c' p line piece used u u' stopped same e is g =
+    let ls : List (List ℕ) = whole_from (rest_from p.carry (take used piece)) (drop used piece) in
+    let parts : whole_from p.carry piece ≡ (line ∷ []) ++ ls =
+    ap (λ bytes. whole_from p.carry bytes) (sym (take-append-drop used piece))
+    ∙ whole_from-append p.carry (take used piece) (drop used piece) ∙ ap (λ ys. ys ++ ls) (line_is c c' p piece used same e ∙ ap (λ t. t ∷ []) (sym is)) in
     record {
-      written = f.written;
-      appends = f.appends;
-      met = subst (λ (ys : List (List ℕ)). Meets a p.world ys text) (sym (rest_lines p piece front rest is plain)) met;
+      text = g.text;
+      behind = g.behind;
+      met = subst (λ (ys : List (List ℕ)). Meets a p.world ys g.text) (sym parts)
+          (met_stopped a p.world (line ∷ []) ls g.text stopped g.met);
     }
 
-pub rest_stands : (k : Kept) (p : Progress) (piece front rest : List ℕ) → piece ≡ front ++ rest → EndsNoLine rest
-    → has_bad_line p.world (whole_from p.carry front) ≡ false
-    → StandsWithin k (rest_after (progress_after p front) rest) → StandsWithin k (progress_after p piece)
-rest_stands k p piece front rest is plain good st =
-    subst (λ (q : Progress). StandsWithin k q)
-    (sym (progress_rest (progress_after p front) rest plain) ∙ progress_on p front rest good
-    ∙ ap (λ bytes. progress_after p bytes) (sym is)) st
+pub line_stands : (k : KeptReplay) (c c' : Cutting) (p : Progress) (line piece : List ℕ) (used : ℕ) → c.carry ≡ p.carry → EndsLine c c' piece used
+    → line ≡ c'.line → k.carry ≡ c'.carry → StandsEngine k.engine (world_of p.world (line ∷ [])) → StandsWithin k (progress_after p (take used piece))
+line_stands k c c' p line piece used same e is kept st =
+    let rest : rest_from p.carry (take used piece) ≡ [] =
+    subst (λ t. rest_from t (take used piece) ≡ []) same
+    (rest_is c.limit c.carry (take used piece) (c'.line ∷ []) [] e.kept.plain e.are tt) in
+    record {
+      engine = subst (λ (ls : List (List ℕ)). StandsEngine k.engine (world_of p.world ls))
+          (ap (λ t. t ∷ []) is ∙ sym (line_is c c' p piece used same e)) st;
+      carry = kept ∙ e.none ∙ sym rest;
+    }
+
+-- no line ends in a piece
+rest_line : (c c' : Cutting) (p : Progress) (piece : List ℕ) (n : ℕ) → n ≡ length piece → c.carry ≡ p.carry → EndsNone c c' piece
+    → whole_from p.carry (take n piece) ≡ []
+rest_line c c' p piece n len same e =
+    ap (λ t. whole_from p.carry t) (take_all n piece (omega (arith, len)))
+    ∙ subst (λ t. whole_from t piece ≡ []) same (whole_are c.limit c.carry piece [] c'.carry e.kept.plain e.are e.rest.plain)
+
+pub rest_holds : (c c' : Cutting) (p : Progress) (piece : List ℕ) (n : ℕ) (u : List ℕ) → n ≡ length piece → c.carry ≡ p.carry
+    → EndsNone c c' piece → Holds fed.All p.world (whole_from p.carry (take n piece)) u u
+rest_holds c c' p piece n u len same e =
+    subst (λ (ls : List (List ℕ)). Holds fed.All p.world ls u u) (sym (rest_line c c' p piece n len same e))
+    (record { text = []; behind = sym (append-nil u); met = (refl, refl) })
+
+pub rest_stands : (k : KeptReplay) (c c' : Cutting) (p : Progress) (piece : List ℕ) (n : ℕ) → n ≡ length piece → c.carry ≡ p.carry
+    → EndsNone c c' piece → k.carry ≡ c'.carry → StandsEngine k.engine p.world → StandsWithin k (progress_after p (take n piece))
+rest_stands k c c' p piece n len same e kept st =
+    let rest : rest_from p.carry (take n piece) ≡ c'.carry =
+    ap (λ t. rest_from p.carry t) (take_all n piece (omega (arith, len)))
+    ∙ subst (λ t. rest_from t piece ≡ c'.carry) same (rest_is c.limit c.carry piece [] c'.carry e.kept.plain e.are e.rest.plain) in
+    record {
+      engine = subst (λ (ls : List (List ℕ)). StandsEngine k.engine (world_of p.world ls)) (sym (rest_line c c' p piece n len same e)) st;
+      carry = kept ∙ sym rest;
+    }
+
+-- what was held back, as the type shows it
+pub holds_from : (a : Fed) (w : World) (lines : List (List ℕ)) (u0 u u' : List ℕ) → u0 ≡ u → Holds a w lines u0 u' → Holds a w lines u u'
+holds_from a w lines u0 u u' is g = subst (λ (t : List ℕ). Holds a w lines t u') is g
+
+-- a piece is its front, as no byte is left, or its front and the rest
+whole_piece : (front rest piece : List ℕ) → piece ≡ front ++ rest → rest ≡ [] → front ≡ piece
+whole_piece front rest piece is none = sym (is ∙ ap (λ t. front ++ t) none ∙ append-nil front)
+
+pub read_fed : (p : Progress) (front rest piece : List ℕ) (h i : Option (List ℕ)) (u : List ℕ) → piece ≡ front ++ rest → rest ≡ []
+    → Feeds fed.All p.world (whole_from p.carry front) h i u → Feeds fed.All p.world (whole_from p.carry piece) h i u
+read_fed p front rest piece h i u is none f =
+    subst (λ (t : List ℕ). Feeds fed.All p.world (whole_from p.carry t) h i u) (whole_piece front rest piece is none) f
+
+pub read_stands : (k : KeptReplay) (p : Progress) (front rest piece : List ℕ) → piece ≡ front ++ rest → rest ≡ []
+    → StandsWithin k (progress_after p front) → StandsWithin k (progress_after p piece)
+read_stands k p front rest piece is none st =
+    subst (λ (t : List ℕ). StandsWithin k (progress_after p t)) (whole_piece front rest piece is none) st
+
+pub stopped_fed : (a : Fed) (p : Progress) (front rest piece : List ℕ) (h i : Option (List ℕ)) (u u' : List ℕ) → piece ≡ front ++ rest
+    → Feeds fed.All p.world (whole_from p.carry front) h i u
+    → Holds a (progress_after p front).world (whole_from (progress_after p front).carry rest) u u'
+    → Feeds a p.world (whole_from p.carry piece) h i u'
+stopped_fed a p front rest piece h i u u' is f g =
+    subst (λ (t : List ℕ). Feeds a p.world (whole_from p.carry t) h i u') (sym is) (next_fed a p front rest h i u u' f g)
 
 -- no line is left
 pub none_left : (p : Progress) (held : Option (List ℕ)) → last_line p.carry ≡ []
@@ -244,7 +284,7 @@ none_left p held none =
     (record { written = []; appends = nothing held; met = (refl, refl) })
 
 -- no byte was taken
-pub none_stands : (k : Kept) (p : Progress) → StandsWithin k p → StandsWithin k (progress_after p [])
+pub none_stands : (k : KeptReplay) (p : Progress) → StandsWithin k p → StandsWithin k (progress_after p [])
 none_stands k p st = record { engine = st.engine; carry = st.carry }
 
 pub none_fed : (p : Progress) (held : Option (List ℕ)) (u : List ℕ) → u ≡ []
@@ -261,13 +301,13 @@ last_fed a before p h i u u' lines is none g wrote =
     subst (λ (ls : List (List ℕ)). Feeds a p.world ls h i []) is (written_on a before p.world lines h h i u' [] held wrote)
 
 -- another text is held back, or none
-pub stands_with : (k k' : Kept) (p : Progress) → k' ≡ kept_with k k'.unwritten → StandsWithin k p → StandsWithin k' p
+pub stands_with : (k k' : KeptReplay) (p : Progress) → k' ≡ kept_with k k'.unwritten → StandsWithin k p → StandsWithin k' p
 stands_with k k' p is st =
-    subst (λ (v : Kept). StandsWithin v p) (sym is) (record { engine = st.engine; carry = st.carry })
+    subst (λ (v : KeptReplay). StandsWithin v p) (sym is) (record { engine = st.engine; carry = st.carry })
 
-pub stands_clear : (k k' : Kept) (p : Progress) → k' ≡ kept_with k [] → StandsWithin k p → StandsFor k' p
+pub stands_clear : (k k' : KeptReplay) (p : Progress) → k' ≡ kept_with k [] → StandsWithin k p → StandsFor k' p
 stands_clear k k' p is st =
-    subst (λ (v : Kept). StandsFor v p) (sym is)
+    subst (λ (v : KeptReplay). StandsFor v p) (sym is)
     (record { within = record { engine = st.engine; carry = st.carry }; unwritten = refl })
 
 -- what a write of all that is held back is answered

@@ -6,14 +6,14 @@ use Rattle.ls_outside.proofs.Bytes.{appends_on, consumes_on}
 use Rattle.ls_world.specs.World.{empty}
 use Rattle.ls_world.specs.Script.{whole_from, rest_from, last_line, lines_of, world_of, done}
 use Rattle.ls_laws.proofs.Scripts.{lawful_script}
-use Rattle.ls_run.specs.Replay.{Progress, start, progress_after, Kept, StandsFor, Meets, Feeds}
+use Rattle.ls_run.specs.Replay.{Progress, start, progress_after, KeptReplay, StandsFor, Meets, Feeds}
 use Rattle.ls_run.specs.Ran.{Going, Ran, Outcome, DoesAll, status_at}
 use Rattle.ls_run.specs.declared.running.Status.TheVariants as status
 use Rattle.ls_run.specs.declared.replay.Fed.{Fed}
 use Rattle.ls_run.specs.declared.replay.Fed.TheVariants as fed
 use Rattle.ls_run.proofs.Feeding.{nothing, fed_on, progress_on, met_on}
 
-pub going_on : (k k' : Kept) (c : List ℕ) (l0 l1 l2 h0 h1 h2 : Option (List ℕ)) → Going k l0 l1 h0 h1 → Consumes l1 l2 c
+pub going_on : (k k' : KeptReplay) (c : List ℕ) (l0 l1 l2 h0 h1 h2 : Option (List ℕ)) → Going k l0 l1 h0 h1 → Consumes l1 l2 c
     → ((p : Progress) → StandsFor k p → Feeds fed.All p.world (whole_from p.carry c) h1 h2 [])
     → ((p : Progress) → StandsFor k p → StandsFor k' (progress_after p c)) → Going k' l0 l2 h0 h2
 going_on k k' c l0 l1 l2 h0 h1 h2 go took f all =
@@ -43,7 +43,7 @@ outcome_of (fed.Stopped line) read w ended e met =
 outcome_of fed.WriteFault read w ended e met = met
 outcome_of fed.NoMemory read w ended e met = met
 
-pub ran_stopped : (a : Fed) (k : Kept) (c : List ℕ) (l0 l1 l2 h0 h1 h2 : Option (List ℕ)) → (a ≡ fed.All → ⊥)
+pub ran_stopped : (a : Fed) (k : KeptReplay) (c : List ℕ) (l0 l1 l2 h0 h1 h2 : Option (List ℕ)) → (a ≡ fed.All → ⊥)
     → Going k l0 l1 h0 h1 → Consumes l1 l2 c
     → ((p : Progress) → StandsFor k p → Feeds a p.world (whole_from p.carry c) h1 h2 []) → Ran (status_at a) l0 l2 h0 h2
 ran_stopped a k c l0 l1 l2 h0 h1 h2 stopped go took f =
@@ -69,7 +69,7 @@ consumed_kept (Some l) None n x c k = absurd c
 consumed_kept (Some l) (Some m) None x c k = k
 consumed_kept (Some l) (Some m) (Some n) x c k = c ∙ ap (λ t. x ++ t) (sym k)
 
-pub ran_ended : (a : Fed) (k : Kept) (l0 l1 l2 h0 h1 h2 : Option (List ℕ)) → Going k l0 l1 h0 h1 → Keeps l1 l2
+pub ran_ended : (a : Fed) (k : KeptReplay) (l0 l1 l2 h0 h1 h2 : Option (List ℕ)) → Going k l0 l1 h0 h1 → Keeps l1 l2
     → IsAtEnd l2 → ((p : Progress) → StandsFor k p → Feeds a p.world (last_line p.carry) h1 h2 [])
     → Ran (status_at a) l0 l2 h0 h2
 ran_ended a k l0 l1 l2 h0 h1 h2 go kept none f =
@@ -97,7 +97,7 @@ kept_unread None = tt
 kept_unread (Some xs) = refl
 
 -- a run begins
-pub going_start : (k : Kept) (left held : Option (List ℕ)) → StandsFor k start → Going k left left held held
+pub going_start : (k : KeptReplay) (left held : Option (List ℕ)) → StandsFor k start → Going k left left held held
 going_start k left held st =
     record {
       read = [];
@@ -111,7 +111,7 @@ ran_nothing left held =
     record { read = []; written = []; ended = false; consumes = kept_unread left; appends = nothing held; at_end = λ e. cc; outcome = ([], refl) }
 
 -- a read failed
-pub ran_faulted : (k : Kept) (l0 l1 l2 h0 h1 : Option (List ℕ)) → Going k l0 l1 h0 h1 → Keeps l1 l2
+pub ran_faulted : (k : KeptReplay) (l0 l1 l2 h0 h1 : Option (List ℕ)) → Going k l0 l1 h0 h1 → Keeps l1 l2
     → Ran status.ReadFault l0 l2 h0 h1
 ran_faulted k l0 l1 l2 h0 h1 go kept =
     let whole : List (List ℕ) = whole_from [] go.read in
@@ -131,6 +131,12 @@ ran_faulted k l0 l1 l2 h0 h1 go kept =
     }
 
 -- the causes of a status
+pub status_ok : (a : Fed) → status_at a ≡ status.Ok → a ≡ fed.All
+status_ok fed.All h = refl
+status_ok (fed.Stopped line) h = absurd (cc h)
+status_ok fed.WriteFault h = absurd (cc h)
+status_ok fed.NoMemory h = absurd (cc h)
+
 pub not_usage : (a : Fed) → status_at a ≡ status.Usage → ⊥
 not_usage fed.All h = cc h
 not_usage (fed.Stopped line) h = cc h

@@ -3,11 +3,11 @@ use Rattle.std.proofs.Common.{◌≡◌, ◌==◌, ℕ, ◌+◌, List, [], ◌�
 use Rattle.std.specs.Prelude.{Option, None, Some, option_map}
 use Rattle.ls_step.specs.declared.step.Repeat.{Repeat}
 use Rattle.ls_step.specs.Grammar.{is_skipped, line_of}
-use Rattle.ls_world.specs.Cases.{with_found}
+use Rattle.ls_record.specs.Cases.{with_found}
 use Rattle.ls_world.specs.World.{World}
 use Rattle.ls_world.specs.Steps.{Stepped, stays, does}
 use Rattle.ls_world.proofs.Knowing.{does_counts}
-use Rattle.ls_world.specs.Script.{counted, known_of, step, whole_from, rest_from, output_of, text_of_outs, world_of, done, has_bad_line, IsPrefix}
+use Rattle.ls_world.specs.Script.{with_line_read, known_of, step, whole_from, rest_from, output_of, text_of_outs, world_of, done, has_bad_line, IsPrefix}
 
 pub whole_from-append : (carry xs ys : List ℕ) → whole_from carry (xs ++ ys) ≡ whole_from carry xs ++ whole_from (rest_from carry xs) ys
 whole_from-append carry [] ys = refl
@@ -28,14 +28,14 @@ abbrev Counts : World → Option Stepped → Type 0
 Counts w None = Unit {0}
 Counts w (Some s) = s.after.line ≡ w.line + 1
 
-asked_counts : (w : World) (asked : Option Repeat) → Counts w (option_map (λ r. does (counted w) r.step r.times) asked)
+asked_counts : (w : World) (asked : Option Repeat) → Counts w (option_map (λ r. does (with_line_read w) r.step r.times) asked)
 asked_counts w None = tt
-asked_counts w (Some r) = does_counts (counted w) r.step r.times
+asked_counts w (Some r) = does_counts (with_line_read w) r.step r.times
 
 step_counts : (w : World) (line : List ℕ) → Counts w (step w line)
 step_counts w line =
-    elim (is_skipped line) as (λ b. Counts w (cond b (Some (stays (counted w) []))
-    (option_map (λ r. does (counted w) r.step r.times) (line_of (known_of w) line))))
+    elim (is_skipped line) as (λ b. Counts w (cond b (Some (stays (with_line_read w) []))
+    (option_map (λ r. does (with_line_read w) r.step r.times) (line_of (known_of w) line))))
     [ true ↦ refl | false ↦ asked_counts w (line_of (known_of w) line) ]
 
 -- none of the first lines is bad, so the run goes on behind them

@@ -6,7 +6,7 @@ use Rattle.std.specs.Io.KnownBytes.{Consumes, Appends, IsAtEnd}
 use Rattle.ls_world.specs.World.{empty}
 use Rattle.ls_world.specs.Lawful.{Lawful}
 use Rattle.ls_world.specs.Script.{lines_of, output_of, world_of, done, has_bad_line, whole_from, IsPrefix}
-use Rattle.ls_run.specs.Replay.{start, progress_after, Kept, StandsFor, Feeds}
+use Rattle.ls_run.specs.Replay.{start, progress_after, KeptReplay, StandsFor, Feeds}
 use Rattle.ls_run.specs.declared.running.Status.{Status}
 use Rattle.ls_run.specs.declared.running.Status.TheVariants as status
 use Rattle.ls_run.specs.declared.replay.Fed.{Fed}
@@ -49,6 +49,10 @@ pub record Ran (result : Status) (left left' held held' : Option (List ℕ)) : T
   pub at_end : ended ≡ true → IsAtEnd left'
   pub outcome : Outcome result read written ended
 
+-- a run that ends well counted no fault: the counts of source and sink are as before
+abbrev pub CountsNoFault : Status → ℕ → ℕ → ℕ → ℕ → Type 0
+CountsNoFault result f f' g g' = result ≡ status.Ok → (f' ≡ f) × (g' ≡ g)
+
 -- how a script ends, if neither a read nor a write fails and memory suffices
 abbrev pub end_of : List (List ℕ) → Status
 end_of lines = if has_bad_line empty lines then status.BadScript (done empty lines + 1) else status.Ok
@@ -62,7 +66,7 @@ Completes result (Some script) held held' =
     ⊎ (result ≡ status.NoMemory)
 
 -- a run between two pieces: each line of the bytes read so far is done, and what they print is written
-pub record Going (k : Kept) (left left' held held' : Option (List ℕ)) : Type 0 where
+pub record Going (k : KeptReplay) (left left' held held' : Option (List ℕ)) : Type 0 where
   pub read : List ℕ
   pub consumes : Consumes left left' read
   pub now : StandsFor k (progress_after start read)

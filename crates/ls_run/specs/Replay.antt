@@ -1,5 +1,5 @@
 -- A script that is read piece by piece: how far it has come, and what is written and held back of what its lines print.
-use Rattle.std.specs.Prelude.{◌≡◌, ◌==◌, ℕ, ◌+◌, List, [], ◌∷◌, ◌++◌, Option, true, false, ◌⊎◌}
+use Rattle.std.specs.Prelude.{◌≡◌, ℕ, ◌+◌, List, [], ◌∷◌, ◌++◌, take, Option, Result, Ok, Err, true, false, ◌⊎◌}
 use Rattle.std.specs.Io.KnownBytes.{Appends}
 use Rattle.ls_world.specs.World.{World, empty}
 use Rattle.ls_world.specs.Script.{whole_from, rest_from, output_of, world_of, done, has_bad_line, IsPrefix}
@@ -22,31 +22,23 @@ abbrev pub progress_after : Progress → List ℕ → Progress
 progress_after p bytes =
     record { world = world_of p.world (whole_from p.carry bytes); carry = rest_from p.carry bytes }
 
--- after the rest of a line and its end, if the line is done
-abbrev pub line_after : Progress → List ℕ → Progress
-line_after p rest = record { world = world_of p.world ((p.carry ++ rest) ∷ []); carry = [] }
-
--- after bytes that end no line
-abbrev pub rest_after : Progress → List ℕ → Progress
-rest_after p bytes = record p { carry = p.carry ++ bytes }
-
 -- what a replay keeps: the engine, the bytes behind the last line that ended, and what lines print that isn't written
-pub record Kept : Type 0 where
+pub record KeptReplay : Type 0 where
   pub engine : Engine
   pub carry : List ℕ
   pub unwritten : List ℕ
 
 -- the same, where another text is held back
-abbrev pub kept_with : Kept → List ℕ → Kept
+abbrev pub kept_with : KeptReplay → List ℕ → KeptReplay
 kept_with k text = record k { unwritten = text }
 
 -- what is kept stands for a script within a piece, whatever is held back
-pub record StandsWithin (k : Kept) (p : Progress) : Type 0 where
+pub record StandsWithin (k : KeptReplay) (p : Progress) : Type 0 where
   pub engine : StandsEngine k.engine p.world
   pub carry : k.carry ≡ p.carry
 
 -- what is kept stands for a script between two pieces, where nothing is held back
-pub record StandsFor (k : Kept) (p : Progress) : Type 0 where
+pub record StandsFor (k : KeptReplay) (p : Progress) : Type 0 where
   pub within : StandsWithin k p
   pub unwritten : k.unwritten ≡ []
 
@@ -71,6 +63,14 @@ pub record Holds (answer : Fed) (w : World) (lines : List (List ℕ)) (unwritten
   pub behind : unwritten' ≡ unwritten ++ text
   pub met : Meets answer w lines text
 
+-- what an answer says of the first bytes of a piece, behind a script that came so far: so many were taken and their
+-- lines are done, or no more of the piece is
+abbrev pub HoldsNext : Result ℕ Fed → Progress → List ℕ → List ℕ → List ℕ → Type 0
+HoldsNext (Ok used) p piece unwritten unwritten' =
+    Holds fed.All p.world (whole_from p.carry (take used piece)) unwritten unwritten'
+HoldsNext (Err stopped) p piece unwritten unwritten' =
+    Holds stopped p.world (whole_from p.carry piece) unwritten unwritten'
+
 -- a front part of what is held back was written: the answer is the one before, or the rest is lost by a write fault
 pub record Writes (answer before : Fed) (held held' : Option (List ℕ)) (unwritten unwritten' : List ℕ) : Type 0 where
   pub written : List ℕ
@@ -78,8 +78,3 @@ pub record Writes (answer before : Fed) (held held' : Option (List ℕ)) (unwrit
   pub appends : Appends held held' written
   pub parts : unwritten ≡ written ++ rest
   pub ends : ((answer ≡ before) × (unwritten' ≡ rest)) ⊎ ((answer ≡ fed.WriteFault) × (unwritten' ≡ []))
-
--- no byte of these ends a line
-abbrev pub EndsNoLine : List ℕ → Type 0
-EndsNoLine [] = Unit {0}
-EndsNoLine (b ∷ bs) = ((b == 10) ≡ false) × EndsNoLine bs

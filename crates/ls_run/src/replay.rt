@@ -1,16 +1,16 @@
 //! A script in the middle of its run: pieces of its bytes come, and its lines are done as they end.
-ghost use Rattle.std.specs.Prelude.{◌≡◌, ◌<◌, ◌≤◌, [], ◌∷◌, ◌++◌, ◌⊎◌, ⊤, length, slice_index, take, MatchOption, IfOk};
+ghost use Rattle.std.specs.Prelude.{◌≡◌, ◌<◌, ◌≤◌, [], ◌∷◌, length, take, IfOk, IsErrOf};
 ghost use Rattle.ls_world.specs.World.{World};
 ghost use Rattle.ls_world.specs.Script.{whole_from, last_line, world_of};
 ghost use Rattle.ls_outside.specs.Causes.{Rose};
 ghost use Rattle.ls_run.specs.Engine.{StandsEngine};
-ghost use Rattle.ls_run.specs.Replay.{Progress, start, progress_after, line_after, rest_after, kept_with};
-ghost use Rattle.ls_run.specs.Replay.{StandsWithin, StandsFor, Feeds, Holds, Writes, EndsNoLine};
+ghost use Rattle.ls_run.specs.Replay.{Progress, start, progress_after, kept_with};
+ghost use Rattle.ls_run.specs.Replay.{StandsWithin, StandsFor, Feeds, Holds, HoldsNext, Writes};
 
 use crate::engine::{Engine, LineRefused};
+use ls_lines::LineCutter;
 use ls_outside::{Put, Sink, write_all};
 use ls_value::NoMemory;
-use memchr::memchr;
 use std::alloc::Global;
 use std::marker::Model;
 
@@ -44,7 +44,7 @@ pub enum Fed {
 #[derive(Drop)]
 pub struct Replay {
     engine: Engine,
-    carry: Vec<u8>,
+    lines: LineCutter,
     /// What one line prints. Its room is used again by the next.
     text: Vec<u8>,
     unwritten: Vec<u8>,
@@ -53,13 +53,13 @@ pub struct Replay {
 impl Model for Replay {
     ghost use Rattle.std.specs.Coded.{codes};
     ghost use Rattle.ls_run.specs.contracts.engine.Engine as an_engine;
-    ghost use Rattle.ls_run.specs.Replay.{Kept};
+    ghost use Rattle.ls_run.specs.Replay.{KeptReplay};
 
-    ghost Value = { Kept };
+    ghost Value = { KeptReplay };
 
     ghost coded = { Prim.hlevel (codes, an_engine.the_row.coded) };
 
-    ghost view = { λ r. record { engine = r.engine; carry = r.carry.items; unwritten = r.unwritten.items } };
+    ghost view = { λ r. record { engine = r.engine; carry = r.lines.carry; unwritten = r.unwritten.items } };
 }
 
 impl Replay {
@@ -69,47 +69,38 @@ impl Replay {
     {
         Ok(Replay {
             engine: Engine::new(alloc)?,
-            carry: Vec::new(alloc),
+            lines: LineCutter::new(alloc, usize::MAX),
             text: Vec::new(alloc),
             unwritten: Vec::new(alloc),
         })
     }
 
-    /// Takes the rest of a line, which has ended, does the line and holds back what it prints.
-    fn line(&mut self, rest: &[u8]) -> Fed
+    /// Takes bytes from the front of a piece, up to the end of the first line in it, does the line and holds back what it
+    /// prints; all of them, where none ends. Answers how many they were, or why no more is done.
+    fn next(&mut self, piece: &[u8]) -> Result<usize, Fed>
+        requires { 0 < length piece.now }
+        ensures used { IfOk result (λ used. (0 < used) × (used ≤ length piece.now)) }
         ensures holds { (p : Progress) → StandsWithin self.old p
-            → Holds result p.world ((p.carry ++ rest.now) ∷ []) self.old.unwritten self.new.unwritten }
-        ensures all { result ≡ Fed.All → (p : Progress) → StandsWithin self.old p
-            → StandsWithin self.new (line_after p rest.now) }
-        ensures not_fault { ¬ (result ≡ Fed.WriteFault) }
+            → HoldsNext result p piece.now self.old.unwritten self.new.unwritten }
+        ensures ok { IfOk result (λ used. (p : Progress) → StandsWithin self.old p
+            → StandsWithin self.new (progress_after p (take used piece.now))) }
+        ensures stops { (IsErrOf result Fed.All → ⊥) × (IsErrOf result Fed.WriteFault → ⊥) }
     {
-        if self.carry.is_empty() {
-            return done(&mut self.engine, rest, &mut self.text, &mut self.unwritten);
-        }
-        if self.carry.extend_from_slice(rest).is_err() {
-            return Fed::NoMemory;
-        }
-        let fed = done(
+        let used = match self.lines.take(piece) {
+            Ok(Some(used)) => used,
+            Ok(None) => return Ok(piece.len()),
+            Err(_) => return Err(Fed::NoMemory),
+        };
+        match done(
             &mut self.engine,
-            &self.carry,
+            self.lines.line(),
             &mut self.text,
             &mut self.unwritten,
-        );
-        self.carry.clear();
-        fed
-    }
-
-    /// Takes bytes that end no line.
-    fn keep(&mut self, bytes: &[u8]) -> Fed
-        ensures answer { (result ≡ Fed.All) ⊎ (result ≡ Fed.NoMemory) }
-        ensures all { result ≡ Fed.All → (p : Progress) → StandsWithin self.old p
-            → StandsWithin self.new (rest_after p bytes.now) }
-        ensures unwritten { self.new.unwritten ≡ self.old.unwritten }
-    {
-        match self.carry.extend_from_slice(bytes) {
-            Ok(()) => Fed::All,
-            Err(_) => Fed::NoMemory,
+        ) {
+            Fed::All => {}
+            stopped => return Err(stopped),
         }
+        Ok(used)
     }
 
     /// Writes what is held back. Answers what became of the bytes before, or that the sink failed.
@@ -118,6 +109,7 @@ impl Replay {
         ensures writes { Writes result before (K.held sink.old) (K.held sink.new) self.old.unwritten [] }
         ensures rest { self.new ≡ kept_with self.old [] }
         ensures cause { result ≡ Fed.WriteFault → Rose (K.faults sink.old) (K.faults sink.new) }
+        ensures well { result ≡ Fed.All → K.faults sink.new ≡ K.faults sink.old }
         ensures later { K.faults sink.old ≤ K.faults sink.new }
     {
         let put = write_all(sink, &self.unwritten);
@@ -134,6 +126,7 @@ impl Replay {
             self.old.unwritten self.new.unwritten }
         ensures rest { self.new ≡ kept_with self.old self.new.unwritten }
         ensures cause { result ≡ Fed.WriteFault → Rose (K.faults sink.old) (K.faults sink.new) }
+        ensures well { result ≡ Fed.All → K.faults sink.new ≡ K.faults sink.old }
         ensures later { K.faults sink.old ≤ K.faults sink.new }
     {
         if self.unwritten.len() <= MOST_UNWRITTEN {
@@ -152,21 +145,21 @@ impl Replay {
         ensures all { result ≡ Fed.All → (p : Progress) → StandsFor self.old p
             → StandsFor self.new (progress_after p piece.now) }
         ensures cause { result ≡ Fed.WriteFault → Rose (K.faults sink.old) (K.faults sink.new) }
+        ensures well { result ≡ Fed.All → K.faults sink.new ≡ K.faults sink.old }
         ensures later { K.faults sink.old ≤ K.faults sink.new }
     {
         let mut rest = piece;
-        while let Some(len) = line_len(rest) {
-            match self.line(&rest[..len]) {
-                Fed::All => {}
-                stopped => return self.write(sink, stopped),
-            }
+        while !rest.is_empty() {
+            let used = match self.next(rest) {
+                Ok(used) => used,
+                Err(stopped) => return self.write(sink, stopped),
+            };
             match self.write_much(sink) {
-                Fed::All => rest = &rest[len + 1..],
+                Fed::All => rest = &rest[used..],
                 failed => return failed,
             }
         }
-        let fed = self.keep(rest);
-        self.write(sink, fed)
+        self.write(sink, Fed::All)
     }
 
     /// Takes the end of the script: a rest that isn't empty is its last line.
@@ -174,22 +167,20 @@ impl Replay {
         ensures feeds { (p : Progress) → StandsFor self.old p
             → Feeds result p.world (last_line p.carry) (K.held sink.old) (K.held sink.new) [] }
         ensures cause { result ≡ Fed.WriteFault → Rose (K.faults sink.old) (K.faults sink.new) }
+        ensures well { result ≡ Fed.All → K.faults sink.new ≡ K.faults sink.old }
         ensures later { K.faults sink.old ≤ K.faults sink.new }
     {
-        if self.carry.is_empty() {
+        if self.lines.rest().is_empty() {
             return Fed::All;
         }
-        let fed = self.line(b"");
+        let fed = done(
+            &mut self.engine,
+            self.lines.rest(),
+            &mut self.text,
+            &mut self.unwritten,
+        );
         self.write(sink, fed)
     }
-}
-
-/// How long the first line of these bytes is, without its end, if it ends in them.
-fn line_len(bytes: &[u8]) -> Option<usize>
-    ensures none { MatchOption result (EndsNoLine bytes.now) (λ len. EndsNoLine (take len bytes.now)) }
-    ensures some { MatchOption result ⊤ (λ len. (len < length bytes.now) × (slice_index bytes.now len ≡ 10)) }
-{
-    memchr(b'\n', bytes)
 }
 
 /// Does a line, and holds back what it prints. The text is for that alone.

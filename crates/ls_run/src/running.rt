@@ -2,7 +2,7 @@
 ghost use Rattle.std.specs.Prelude.{◌≡◌, ◌⊎◌, ◌↔◌, IsTrue, map};
 ghost use Rattle.std.specs.String.{string_bytes};
 ghost use Rattle.ls_outside.specs.Causes.{Rose, RoseBy};
-ghost use Rattle.ls_run.specs.Ran.{Ran, Completes, IsReplay, status_at, number_at};
+ghost use Rattle.ls_run.specs.Ran.{Ran, Completes, CountsNoFault, IsReplay, status_at, number_at};
 ghost use Rattle.ls_run.specs.Replay.{StandsFor, start};
 
 use crate::replay::{Fed, Replay};
@@ -112,6 +112,8 @@ fn run_script<R: Wait, S: Source, K: Sink>(
     ensures read_fault { result ≡ Status.ReadFault → Rose (S.faults source.old) (S.faults source.new)
         ⊎ RoseBy 3000 (S.waits source.old) (S.waits source.new) }
     ensures write_fault { result ≡ Status.WriteFault → Rose (K.faults sink.old) (K.faults sink.new) }
+    ensures no_fault { CountsNoFault result (S.faults source.old) (S.faults source.new)
+        (K.faults sink.old) (K.faults sink.new) }
 {
     match Replay::new(alloc) {
         Ok(mut replay) => play(rt, source, sink, &mut replay),
@@ -132,6 +134,8 @@ fn play<R: Wait, S: Source, K: Sink>(
     ensures read_fault { result ≡ Status.ReadFault → Rose (S.faults source.old) (S.faults source.new)
         ⊎ RoseBy 3000 (S.waits source.old) (S.waits source.new) }
     ensures write_fault { result ≡ Status.WriteFault → Rose (K.faults sink.old) (K.faults sink.new) }
+    ensures no_fault { CountsNoFault result (S.faults source.old) (S.faults source.new)
+        (K.faults sink.old) (K.faults sink.new) }
 {
     let mut piece = [0u8; PIECE];
     let mut idles = 0u32;
@@ -164,7 +168,7 @@ fn play<R: Wait, S: Source, K: Sink>(
 ///
 /// Where neither a read nor a write fails, and fewer than 3,000 reads find no byte yet, a script without a bad line is
 /// done whole and ends `Status::Ok`, and another is done to its first bad line and ends `Status::BadScript` with its
-/// number, or memory was wanting.
+/// number, or memory was wanting. `Status::Ok` comes only where neither the source nor the sink counted a fault.
 pub fn run<R: Wait, S: Source, K: Sink>(
     rt: &R,
     alloc: Global,
@@ -177,6 +181,8 @@ pub fn run<R: Wait, S: Source, K: Sink>(
     ensures read_fault { result ≡ Status.ReadFault → Rose (S.faults source.old) (S.faults source.new)
         ⊎ RoseBy 3000 (S.waits source.old) (S.waits source.new) }
     ensures write_fault { result ≡ Status.WriteFault → Rose (K.faults sink.old) (K.faults sink.new) }
+    ensures no_fault { CountsNoFault result (S.faults source.old) (S.faults source.new)
+        (K.faults sink.old) (K.faults sink.new) }
     ensures complete { IsReplay (map string_bytes words.now)
         → ¬ Rose (S.faults source.old) (S.faults source.new)
         → ¬ RoseBy 3000 (S.waits source.old) (S.waits source.new)

@@ -4,7 +4,7 @@ ghost use Rattle.std.specs.Prelude.{IfSome};
 ghost use Rattle.ls_request.specs.Ranges.{AddFits, OpFits};
 
 use ls_cell::Enqueued;
-use ls_cells::Cells;
+use ls_cells::AllItems;
 use ls_config::{Config, read as read_config};
 use ls_event::{ItemDef, Kind, MOST_FIELDS, read_event};
 use ls_line::Line;
@@ -78,7 +78,7 @@ MSGDONE,chat,1
 /// Items, and two sessions that are to be told of them.
 #[derive(Drop)]
 struct Served {
-    cells: Cells,
+    cells: AllItems,
     one: Session,
     two: Session,
 }
@@ -112,7 +112,7 @@ fn add_of(alloc: Global, params: &[u8]) -> Option<Add>
 }
 
 /// One more item, without events, if its fields are sound.
-fn declares(cells: &mut Cells, definition: &ItemDef) -> Result<(), NoMemory> {
+fn declares(cells: &mut AllItems, definition: &ItemDef) -> Result<(), NoMemory> {
     let many = definition.fields.len();
     let key = definition.fields.find(b"key").unwrap_or(0);
     let command = definition.fields.find(b"command").unwrap_or(0);
@@ -126,8 +126,8 @@ fn declares(cells: &mut Cells, definition: &ItemDef) -> Result<(), NoMemory> {
 }
 
 /// These items, without events.
-fn cells_of(alloc: Global, definitions: &[ItemDef]) -> Result<Cells, NoMemory> {
-    let mut cells = Cells::new(alloc);
+fn cells_of(alloc: Global, definitions: &[ItemDef]) -> Result<AllItems, NoMemory> {
+    let mut cells = AllItems::new(alloc);
     for definition in definitions {
         declares(&mut cells, definition)?;
     }
@@ -135,7 +135,7 @@ fn cells_of(alloc: Global, definitions: &[ItemDef]) -> Result<Cells, NoMemory> {
 }
 
 /// The slots of these items join; those that may.
-fn joined(alloc: Global, cells: &mut Cells, items: &[PlanItem]) -> Result<Vec<u32>, NoMemory> {
+fn joined(alloc: Global, cells: &mut AllItems, items: &[PlanItem]) -> Result<Vec<u32>, NoMemory> {
     let mut slots = Vec::new(alloc);
     for item in items {
         if let Some(slot) = cells.join(item.item, item.mode, item.n, item.snapshot)? {
@@ -149,7 +149,7 @@ fn joined(alloc: Global, cells: &mut Cells, items: &[PlanItem]) -> Result<Vec<u3
 fn subscribes(
     alloc: Global,
     session: &mut Session,
-    cells: &mut Cells,
+    cells: &mut AllItems,
     config: &Config,
     params: &[u8],
 ) -> Result<bool, NoMemory> {
@@ -163,7 +163,7 @@ fn subscribes(
 fn adds(
     alloc: Global,
     session: &mut Session,
-    cells: &mut Cells,
+    cells: &mut AllItems,
     config: &Config,
     add: &Add,
 ) -> Result<bool, NoMemory>
@@ -183,7 +183,7 @@ fn adds(
 /// An update of an item. Whether it was published.
 fn publishes(
     alloc: Global,
-    cells: &mut Cells,
+    cells: &mut AllItems,
     config: &Config,
     item: u32,
     seq: u64,
@@ -199,7 +199,7 @@ fn publishes(
 }
 
 /// What a session asks of a slot is answered, and the slot moves past what was taken.
-fn tell(session: &mut Session, cells: &mut Cells, ask: Ask) -> Result<(), NoMemory> {
+fn tell(session: &mut Session, cells: &mut AllItems, ask: Ask) -> Result<(), NoMemory> {
     if !ask.due {
         let waits = cells.pending(ask.slot.item, ask.slot.slot);
         session.answer(
@@ -225,7 +225,7 @@ fn tell(session: &mut Session, cells: &mut Cells, ask: Ask) -> Result<(), NoMemo
 }
 
 /// How a session's turn at a tick ends on its newest stream: with a line, or how else.
-fn turned(session: &mut Session, cells: &mut Cells, now: u64) -> Result<Turn, NoMemory> {
+fn turned(session: &mut Session, cells: &mut AllItems, now: u64) -> Result<Turn, NoMemory> {
     for _ in 0..100 {
         match session.turn(now, session.epoch()) {
             Turn::Ask(ask) => tell(session, cells, ask)?,
@@ -239,7 +239,7 @@ fn turned(session: &mut Session, cells: &mut Cells, now: u64) -> Result<Turn, No
 fn lines_at(
     alloc: Global,
     session: &mut Session,
-    cells: &mut Cells,
+    cells: &mut AllItems,
     now: u64,
 ) -> Result<Vec<u8>, NoMemory> {
     let mut text = Vec::new(alloc);
@@ -254,12 +254,17 @@ fn lines_at(
 }
 
 /// Those at the first tick.
-fn lines(alloc: Global, session: &mut Session, cells: &mut Cells) -> Result<Vec<u8>, NoMemory> {
+fn lines(alloc: Global, session: &mut Session, cells: &mut AllItems) -> Result<Vec<u8>, NoMemory> {
     lines_at(alloc, session, cells, 0)
 }
 
 /// A session's slot takes its item's next event. Whether there was one.
-fn enqueues(session: &Session, cells: &mut Cells, sub: u64, place: u64) -> Result<bool, NoMemory> {
+fn enqueues(
+    session: &Session,
+    cells: &mut AllItems,
+    sub: u64,
+    place: u64,
+) -> Result<bool, NoMemory> {
     let Some(slot) = session.find(sub, place) else {
         return Ok(false);
     };
@@ -357,7 +362,7 @@ fn is_kept(session: &Session) -> bool {
 
 /// A session gives all its lines, with that of the message behind them.
 fn gives_message(alloc: Global, session: &mut Session) -> Result<bool, NoMemory> {
-    let mut cells = Cells::new(alloc);
+    let mut cells = AllItems::new(alloc);
     let given = lines(alloc, session, &mut cells)?;
     Ok(given.as_slice() == MESSAGE_BEHIND && session.sent() == 1)
 }

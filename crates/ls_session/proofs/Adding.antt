@@ -4,12 +4,12 @@ use Rattle.std.proofs.lemmas.List.{map-append}
 use Rattle.ls_event.specs.declared.item.ItemDef.{ItemDef}
 use Rattle.ls_request.specs.declared.request.Add.{Add}
 use Rattle.ls_turns.specs.Round.{slots_of, left}
-use Rattle.ls_world.specs.Lines.{Line, Begins, Configures}
+use Rattle.ls_record.specs.Lines.{Line, Begins, Configures}
 use Rattle.ls_stream.proofs.Moving.{lines_numbered, lines_twice, with_next}
 use Rattle.ls_stream.specs.Standing.{NumbersLine}
 use Rattle.ls_stream.specs.declared.lines.Lines.{Lines as KeptLines}
-use Rattle.ls_world.specs.World.{Live, numbered, are_filtered, frequency_of, without, is_used}
-use Rattle.ls_world.specs.Acting.{asks_of}
+use Rattle.ls_record.specs.Records.{LiveSlot, numbered, are_filtered, frequency_of, without, is_used}
+use Rattle.ls_record.specs.Acting.{asks_of}
 use Rattle.ls_mirror.specs.declared.command.KeyPlaces.{KeyPlaces}
 use Rattle.ls_subs.specs.declared.plan.AddPlan.{AddPlan}
 use Rattle.ls_subs.specs.declared.plan.PlanItem.{PlanItem}
@@ -17,7 +17,7 @@ use Rattle.ls_subs.specs.declared.subs.Subs.{Subs}
 use Rattle.ls_subs.specs.Plans.{IsPlan, JoinAll, AreRanked, keys_of_asks}
 use Rattle.ls_subs.specs.Standing.{ref_of, StandsSubs}
 use Rattle.ls_session.specs.Asking.{Asking, with_turns}
-use Rattle.ls_session.specs.Record.{Record, begun_anew, with_plan}
+use Rattle.ls_session.specs.Record.{Record, begun_again, with_plan}
 use Rattle.ls_session.specs.Session.{StandsSession, IsReady, refs_from}
 use Rattle.ls_session.specs.declared.session.Session.{Session as Kept}
 use Rattle.ls_session.proofs.Changing.{round_with}
@@ -25,7 +25,7 @@ use Rattle.ls_session.proofs.Moves.{rate_numbered}
 use Rattle.ls_session.proofs.Seats.{left_slots}
 
 -- the slots that joined are named by their places
-refs_are : (sub rank : ℕ) (items : List PlanItem) (numbers : List ℕ) (vs : List Live) → AreRanked sub rank items → JoinAll items numbers vs
+refs_are : (sub rank : ℕ) (items : List PlanItem) (numbers : List ℕ) (vs : List LiveSlot) → AreRanked sub rank items → JoinAll items numbers vs
     → refs_from sub rank items numbers ≡ map ref_of vs
 refs_are sub rank [] [] [] a j = refl
 refs_are sub rank [] [] (v ∷ vs) a j = absurd j
@@ -40,7 +40,7 @@ refs_are sub rank (p ∷ ps) (n ∷ ns) (v ∷ vs) a j =
     ∙ ap (λ xs. ref_of v ∷ xs) (refs_are sub (rank + 1) ps ns vs a.2 j.1)
 
 -- no slot leaves where a subscription isn't live
-unused_same : (sub : ℕ) (vs : List Live) → is_used sub vs ≡ false → without sub vs ≡ vs
+unused_same : (sub : ℕ) (vs : List LiveSlot) → is_used sub vs ≡ false → without sub vs ≡ vs
 unused_same sub [] none = refl
 unused_same sub (v ∷ vs) none = by_test (sub == v.sub) none (unused_same sub vs)
   where
@@ -51,24 +51,26 @@ unused_same sub (v ∷ vs) none = by_test (sub == v.sub) none (unused_same sub v
 
 -- a plan's slots join the round, and its two lines are numbered
 pub added : (k : Kept) (lines₁ lines₂ : KeptLines) (subs' : Subs) (asking' : Asking) (r : Record) (defs : List ItemDef) (a : Add) (p : AddPlan)
-    (numbers : List ℕ) (vs : List Live) → StandsSession k r → IsReady k p → NumbersLine k.lines p.begins lines₁ → NumbersLine lines₁ p.configures lines₂
+    (numbers : List ℕ) (vs : List LiveSlot) → StandsSession k r → IsReady k p → NumbersLine k.lines p.begins lines₁ → NumbersLine lines₁ p.configures lines₂
     → ((filtered : Bool) (most fields : ℕ) (keys : Option KeyPlaces) (frequency : Option ℕ)
     → StandsSubs subs' (Configures p.sub frequency filtered ∷ Begins p.sub most fields keys ∷ r.session.board.lines) (r.session.board.round ++ vs))
     → slots_of asking'.turns ≡ slots_of (left p.sub k.asking.turns) ++ refs_from p.sub 1 p.items.items numbers
     → asking' ≡ with_turns asking'.turns k.asking → IsPlan defs a p → JoinAll p.items.items numbers vs
-    → StandsSession (record k { lines = lines₂; subs = subs'; asking = asking' }) (begun_anew r.tick (numbered (with_plan defs a vs) r.session))
+    → StandsSession (record k { lines = lines₂; subs = subs'; asking = asking' }) (begun_again (numbered (with_plan defs a vs) r.session) r)
 added k lines₁ lines₂ subs' asking' r defs a p numbers vs st ready first_line second_line subs joined anew is joins =
     let lines : List Line = r.session.board.lines in
-    let round : List Live = r.session.board.round in
+    let round : List LiveSlot = r.session.board.round in
     let first : Line = Begins a.sub (length (asks_of defs a)) (length a.schema) (keys_of_asks defs (asks_of defs a)) in
     let second : Line = Configures a.sub (frequency_of (asks_of defs a)) (are_filtered (asks_of defs a)) in
     let unused : is_used p.sub round ≡ false = sym (st.subs.used p.sub) ∙ ready.new in
     record {
+      number = st.number;
       lines = lines_twice lines₂ r.session first second round (round ++ vs)
           (lines_numbered lines₁ lines₂ (numbered (with_next first round) r.session) second (round ++ vs) p.configures
           (lines_numbered k.lines lines₁ r.session first round p.begins st.lines first_line is.begins ready.begins) second_line is.configures
           ready.configures);
-      round = round_with k.asking asking' asking'.turns r.tick (numbered (with_plan defs a vs) r.session) st.round.most st.round.tick anew
+      round = round_with k.asking asking' asking'.turns r.number r.floor r.tick (numbered (with_plan defs a vs) r.session) st.round.above
+          st.round.most st.round.tick anew
           (joined
           ∙ ap (λ xs. xs ++ refs_from p.sub 1 p.items.items numbers)
           (left_slots p.sub k.asking.turns round st.round.slots ∙ ap (map ref_of) (unused_same p.sub round unused))
@@ -77,6 +79,6 @@ added k lines₁ lines₂ subs' asking' r defs a p numbers vs st ready first_lin
           ∷ Begins n (length (asks_of defs a)) (length a.schema) (keys_of_asks defs (asks_of defs a)) ∷ lines) (round ++ vs)) is.sub
           (subs (are_filtered (asks_of defs a)) (length (asks_of defs a)) (length a.schema) (keys_of_asks defs (asks_of defs a)) (frequency_of
           (asks_of defs a)));
-      rate = rate_numbered k.bandwidth r.session.rate (first ∷ lines) r.tick second
-          (rate_numbered k.bandwidth r.session.rate lines r.tick first st.rate refl) refl;
+      rate = rate_numbered k.bandwidth r.session.rate (first ∷ lines) r.floor second
+          (rate_numbered k.bandwidth r.session.rate lines r.floor first st.rate refl) refl;
     }

@@ -4,7 +4,7 @@ use Rattle.std.proofs.Common.{slice_get, option_map}
 use Rattle.std.proofs.lemmas.Option.{slice_get-map}
 use Rattle.ls_event.specs.Slots.{enqueued}
 use Rattle.ls_turns.specs.declared.slot_ref.SlotRef.{SlotRef}
-use Rattle.ls_world.specs.World.{Item, Live, history_of, is_at, is_due, enqueue_at, enqueued_in, on_board}
+use Rattle.ls_record.specs.Records.{Item, LiveSlot, history_of, is_at, is_due, enqueue_at, enqueued_in, on_board}
 use Rattle.ls_subs.specs.Standing.{ref_of}
 use Rattle.ls_subs.proofs.Enqueues.{enqueue_stands}
 use Rattle.ls_session.specs.Record.{Record, Question, question_of}
@@ -12,7 +12,7 @@ use Rattle.ls_session.specs.Session.{StandsSession, asked_of}
 use Rattle.ls_session.specs.declared.session.Session.{Session as Kept}
 use Rattle.ls_stream.proofs.Moving.{lines_round}
 
-named_alike : (items : List Item) (sub rank : ℕ) (v : Live) → ref_of (enqueue_at items sub rank v) ≡ ref_of v
+named_alike : (items : List Item) (sub rank : ℕ) (v : LiveSlot) → ref_of (enqueue_at items sub rank v) ≡ ref_of v
 named_alike items sub rank v = by_test (is_at sub rank v) (nat_lt v.slot.last (length (history_of items v.item)))
   where
     by_test : (t u : Bool) → ref_of (cond t (cond u (record v { slot = enqueued v.slot }) v) v) ≡ ref_of v
@@ -20,17 +20,17 @@ named_alike items sub rank v = by_test (is_at sub rank v) (nat_lt v.slot.last (l
     by_test true false = refl
     by_test false u = refl
 
-pub named_enqueued : (items : List Item) (sub rank : ℕ) (vs : List Live) → map ref_of (map (enqueue_at items sub rank) vs) ≡ map ref_of vs
+pub named_enqueued : (items : List Item) (sub rank : ℕ) (vs : List LiveSlot) → map ref_of (map (enqueue_at items sub rank) vs) ≡ map ref_of vs
 named_enqueued items sub rank [] = refl
 named_enqueued items sub rank (v ∷ vs) =
     ap (λ (s : SlotRef). s ∷ map ref_of (map (enqueue_at items sub rank) vs)) (named_alike items sub rank v)
     ∙ ap (λ xs. ref_of v ∷ xs) (named_enqueued items sub rank vs)
 
 -- the question of a slot is the same
-abbrev question_at : Record → Live → Question
+abbrev question_at : Record → LiveSlot → Question
 question_at r v = record { live = v; due = is_due r.tick r.session v }
 
-asked_alike : (r : Record) (items : List Item) (sub rank : ℕ) (v : Live)
+asked_alike : (r : Record) (items : List Item) (sub rank : ℕ) (v : LiveSlot)
     → (asked_of r.tick r.session (question_at r (enqueue_at items sub rank v)) ≡ asked_of r.tick r.session (question_at r v))
     × ((question_at r (enqueue_at items sub rank v)).due ≡ (question_at r v).due)
 asked_alike r items sub rank v = by_test (is_at sub rank v) (nat_lt v.slot.last (length (history_of items v.item)))
@@ -45,7 +45,7 @@ asked_alike r items sub rank v = by_test (is_at sub rank v) (nat_lt v.slot.last 
 abbrev moved : Record → List Item → ℕ → ℕ → Record
 moved r items sub rank = record r { session = on_board (enqueued_in items sub rank) r.session }
 
-moved_at : (r : Record) (items : List Item) (sub rank : ℕ) (asks : Bool) (o : Option Live)
+moved_at : (r : Record) (items : List Item) (sub rank : ℕ) (asks : Bool) (o : Option LiveSlot)
     → (option_map (asked_of r.tick r.session) (cond asks (option_map (question_at r) o) None)
     ≡ option_map (asked_of r.tick r.session) (cond asks (option_map (question_at r) (option_map (enqueue_at items sub rank) o)) None))
     × ((q : Question) → cond asks (option_map (question_at r) (option_map (enqueue_at items sub rank) o)) None ≡ Some q → q.due ≡ true
@@ -72,10 +72,12 @@ session_enqueued k r items sub rank st =
     ≡ cond r.asks (option_map (question_at r) (option_map (enqueue_at items sub rank) (slice_get r.session.board.round r.asked))) None =
     ap (λ o. cond r.asks (option_map (question_at r) o) None) at in
     record {
+      number = st.number;
       lines = lines_round k.lines r.session (map (enqueue_at items sub rank) r.session.board.round) st.lines;
       round = record {
         slots = st.round.slots ∙ sym (named_enqueued items sub rank r.session.board.round);
         tick = st.round.tick;
+        above = st.round.above;
         most = st.round.most;
         next = st.round.next;
         asks = st.round.asks;

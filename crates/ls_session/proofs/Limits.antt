@@ -12,15 +12,16 @@ use Rattle.ls_event.specs.declared.limits.TheConstants.{MOST_FIELDS}
 use Rattle.ls_mirror.specs.declared.command.KeyPlaces.{KeyPlaces}
 use Rattle.ls_request.specs.declared.request.Add.{Add}
 use Rattle.ls_request.specs.Ranges.{AddFits, IsRate}
-use Rattle.ls_world.specs.Acting.{is_group, group_of, is_allowed, is_schema, are_names, asks_of, ask_of, places_among, shows_keys}
-use Rattle.ls_world.specs.Lines.{Begins, Ends, Configures, line_text, limit_text}
-use Rattle.ls_world.specs.Tables.{place_of_field, keys_shown_at}
-use Rattle.ls_world.specs.World.{frequency_of, frequency_in, are_filtered, fields_in, shape_in, keys_in}
+use Rattle.ls_record.specs.Acting.{is_group, group_of, is_allowed, is_schema, are_names, asks_of, ask_of}
+use Rattle.ls_record.specs.Acting.{places_among, shows_keys}
+use Rattle.ls_record.specs.Lines.{Begins, Ends, Configures, line_text, limit_text}
+use Rattle.ls_record.specs.Tables.{place_of_field, keys_shown_at}
+use Rattle.ls_record.specs.Records.{frequency_of, frequency_in, are_filtered, fields_in, shape_in, keys_in}
 use Rattle.ls_subs.specs.declared.plan.AddPlan.{AddPlan}
 use Rattle.ls_subs.specs.declared.subs.Subs.{Subs}
 use Rattle.ls_subs.specs.Kept.{has_sub}
 use Rattle.ls_subs.specs.Plans.{refusal_of, IsPlan, keys_of_asks}
-use Rattle.ls_world.specs.declared.TheConstants.{MOST_GROUP_ITEMS}
+use Rattle.ls_record.specs.declared.TheConstants.{MOST_GROUP_ITEMS}
 use Rattle.ls_stream.proofs.Lengths.{decimal_few, limit_few, then_length}
 use Rattle.ls_stream.specs.Standing.{IsShort}
 use Rattle.ls_session.proofs.Tables.{and_first, and_second, few_items, plan_length}

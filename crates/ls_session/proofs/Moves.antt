@@ -9,22 +9,23 @@ use Rattle.ls_stream.proofs.Moving.{lines_roomier}
 use Rattle.ls_stream.specs.Standing.{StandsLines, IsRoomier}
 use Rattle.ls_stream.specs.declared.lines.Lines.{Lines as KeptLines}
 use Rattle.ls_turns.specs.Round.{Seat, slots_of}
-use Rattle.ls_world.specs.Lines.{Line, spent_by, spends_behind}
-use Rattle.ls_world.specs.World.{Board, Rate, Session}
+use Rattle.ls_record.specs.Lines.{Line, spent_by, spends_behind}
+use Rattle.ls_record.specs.Records.{Board, Rate, Session}
 use Rattle.ls_subs.specs.Standing.{ref_of, StandsSubs}
 use Rattle.ls_subs.specs.declared.subs.Subs.{Subs}
-use Rattle.ls_session.specs.Asking.{Asking, begun}
-use Rattle.ls_session.specs.Record.{Record, begun_anew}
+use Rattle.ls_session.specs.Asking.{Asking, asked_anew}
+use Rattle.ls_session.specs.Record.{Record, rests}
 use Rattle.ls_session.specs.Session.{StandsSession, StandsRound, StandsRate}
 use Rattle.ls_session.specs.declared.session.Session.{Session as Kept}
 
 -- a round that begins anew
-pub round_anew : (k : Asking) (tick : ℕ) (s : Session) → tick ≤ GREATEST_TICK → slots_of k.turns ≡ map ref_of s.board.round
-    → StandsRound (begun tick k) (begun_anew tick s)
-round_anew k tick s most slots =
+pub round_anew : (k : Asking) (number floor tick : ℕ) (s : Session) → floor ≤ tick → tick ≤ GREATEST_TICK → slots_of k.turns ≡ map ref_of s.board.round
+    → StandsRound (asked_anew tick k) (rests number floor tick s)
+round_anew k number floor tick s above most slots =
     record {
       slots = slots;
       tick = refl;
+      above = above;
       most = most;
       next = refl;
       asks = refl;
@@ -33,9 +34,9 @@ round_anew k tick s most slots =
       left = λ q e. absurd (let x : None ≡ Some q = e in cc);
     }
 
--- the bandwidth at a later tick
-pub rate_later : (k : KeptCredit) (rate : Rate) (lines : List Line) (tick now : ℕ) → StandsRate k rate lines tick → tick ≤ now → StandsRate k rate lines now
-rate_later k rate lines tick now st later =
+-- the bandwidth with a higher floor
+pub rate_later : (k : KeptCredit) (rate : Rate) (lines : List Line) (floor now : ℕ) → StandsRate k rate lines floor → floor ≤ now → StandsRate k rate lines now
+rate_later k rate lines floor now st later =
     record {
       latest = omega (arith, st.latest, later);
       behind = st.behind;
@@ -70,18 +71,40 @@ rate_spent k k' rate lines tick l spend st some latest spends =
           (sym (spends_step rate.behind l lines st.behind ∙ ap (λ spends. spends ++ spends_behind rate.behind lines) some)) spends;
     }
 
--- a session whose round begins anew at a tick, with other lines
-pub stands_anew : (k : Kept) (lines : KeptLines) (r : Record) (s : Session) (now : ℕ) → StandsSession k r → r.tick ≤ now → now ≤ GREATEST_TICK
-    → StandsLines lines s → s.board ≡ r.session.board → s.rate ≡ r.session.rate
-    → StandsSession (record k { lines = lines; asking = begun now k.asking }) (begun_anew now s)
-stands_anew k lines r s now st later most kept board rate =
+-- a session whose round begins anew at a tick, with other lines and another floor
+pub stands_anew : (k : Kept) (lines : KeptLines) (r : Record) (s : Session) (floor now : ℕ) → StandsSession k r → r.floor ≤ floor → floor ≤ now
+    → now ≤ GREATEST_TICK → StandsLines lines s → s.board ≡ r.session.board → s.rate ≡ r.session.rate
+    → StandsSession (record k { lines = lines; asking = asked_anew now k.asking }) (rests r.number floor now s)
+stands_anew k lines r s floor now st rose above most kept board rate =
     record {
+      number = st.number;
       lines = kept;
-      round = round_anew k.asking now s most (st.round.slots ∙ ap (λ (b : Board). map ref_of b.round) (sym board));
+      round = round_anew k.asking r.number floor now s above most (st.round.slots ∙ ap (λ (b : Board). map ref_of b.round) (sym board));
       subs = subst (λ (b : Board). StandsSubs k.subs b.lines b.round) (sym board) st.subs;
-      rate = subst (λ (b : Board). StandsRate k.bandwidth s.rate b.lines now) (sym board)
-          (subst (λ (x : Rate). StandsRate k.bandwidth x r.session.board.lines now) (sym rate)
-          (rate_later k.bandwidth r.session.rate r.session.board.lines r.tick now st.rate later));
+      rate = subst (λ (b : Board). StandsRate k.bandwidth s.rate b.lines floor) (sym board)
+          (subst (λ (x : Rate). StandsRate k.bandwidth x r.session.board.lines floor) (sym rate)
+          (rate_later k.bandwidth r.session.rate r.session.board.lines r.floor floor st.rate rose));
+    }
+
+-- a floor may be given up for a higher one
+pub stands_above : (k : Kept) (r : Record) (floor : ℕ) → StandsSession k r → r.floor ≤ floor → floor ≤ r.tick → StandsSession k (record r { floor = floor })
+stands_above k r floor st rose above =
+    record {
+      number = st.number;
+      lines = st.lines;
+      round = record {
+        slots = st.round.slots;
+        tick = st.round.tick;
+        above = above;
+        most = st.round.most;
+        next = st.round.next;
+        asks = st.round.asks;
+        question = st.round.question;
+        wait = st.round.wait;
+        left = st.round.left;
+      };
+      subs = st.subs;
+      rate = rate_later k.bandwidth r.session.rate r.session.board.lines r.floor floor st.rate rose;
     }
 
 -- what is true, whatever a call answers
@@ -97,6 +120,7 @@ round_reserved k k' r st same rest =
     (record {
       slots = ap (λ (seats : List Seat). map (λ (s : Seat). s.slot) seats) same ∙ st.slots;
       tick = st.tick;
+      above = st.above;
       most = st.most;
       next = st.next ∙ ap (λ (seats : List Seat). option_map (λ (s : Seat). s.node) (slice_get seats r.asked)) (sym same);
       asks = st.asks;
@@ -108,7 +132,7 @@ round_reserved k k' r st same rest =
 -- other subscriptions that stand for the same
 pub stands_subs : (k : Kept) (subs : Subs) (r : Record) → StandsSession k r → StandsSubs subs r.session.board.lines r.session.board.round
     → StandsSession (record k { subs = subs }) r
-stands_subs k subs r st s = record { lines = st.lines; round = st.round; subs = s; rate = st.rate }
+stands_subs k subs r st s = record { number = st.number; lines = st.lines; round = st.round; subs = s; rate = st.rate }
 
 -- more room for slots and lines alone
 pub stands_reserved : (k : Kept) (asking' : Asking) (lines' : KeptLines) (r : Record) → StandsSession k r → asking'.turns.seats ≡ k.asking.turns.seats
@@ -116,6 +140,7 @@ pub stands_reserved : (k : Kept) (asking' : Asking) (lines' : KeptLines) (r : Re
     → StandsSession (record k { asking = asking'; lines = lines' }) r
 stands_reserved k asking' lines' r st seats round roomier =
     record {
+      number = st.number;
       lines = lines_roomier k.lines lines' r.session st.lines roomier;
       round = round_reserved k.asking asking' r st.round seats round;
       subs = st.subs;

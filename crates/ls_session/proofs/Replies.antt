@@ -12,16 +12,16 @@ use Rattle.ls_budget.specs.declared.due.Due.TheVariants as due
 use Rattle.ls_event.specs.declared.event.Taken.{Taken}
 use Rattle.ls_mirror.specs.Client.{What}
 use Rattle.ls_turns.specs.Round.{gave}
-use Rattle.ls_world.specs.Came.{came_by}
-use Rattle.ls_world.specs.Lines.{Line, Tells, line_text, tells_text, last_row, came, is_update, spends_behind}
-use Rattle.ls_world.specs.World.{Live, change, is_due, due_at}
-use Rattle.ls_world.specs.Light.{IsLight}
-use Rattle.ls_world.proofs.Short.{line_is_short}
+use Rattle.ls_record.specs.Came.{came_by}
+use Rattle.ls_record.specs.Lines.{Line, Tells, line_text, tells_text, last_row, came, is_update, spends_behind}
+use Rattle.ls_record.specs.Records.{LiveSlot, change, is_due, due_at}
+use Rattle.ls_record.specs.Light.{IsLight}
+use Rattle.ls_record.proofs.Short.{line_is_short}
 use Rattle.ls_subs.specs.declared.plan.PlanItem.{PlanItem}
 use Rattle.ls_subs.specs.declared.subs.Subs.{Subs}
 use Rattle.ls_subs.specs.Kept.{kept_at}
 use Rattle.ls_subs.proofs.Moves.{found_live}
-use Rattle.ls_subs.specs.declared.told.Told.TheVariants as tells
+use Rattle.ls_subs.specs.declared.cut_line.CutLine.TheVariants as tells
 use Rattle.ls_subs.specs.Standing.{ref_of, StandsKeptAt, AskedSlot, AcceptedAs, what_of, passed_live, passed_at, passed_back}
 use Rattle.ls_subs.specs.Subscription.{Appended, told_by}
 use Rattle.ls_session.specs.Asking.{Asking, ask_of, is_now, unasked, with_turns, waiting}
@@ -34,12 +34,12 @@ use Rattle.ls_session.specs.declared.asking.Asked.{Asked}
 use Rattle.ls_session.specs.declared.session.Reply.{Reply}
 use Rattle.ls_session.specs.declared.session.Session.{Session as Kept}
 use Rattle.ls_session.proofs.Changing.{numbered_stands}
-use Rattle.ls_session.proofs.Moves.{rate_numbered, rate_spent}
+use Rattle.ls_session.proofs.Moves.{rate_later, rate_numbered, rate_spent}
 use Rattle.ls_session.proofs.Seats.{gave_slots}
 use Rattle.ls_session.proofs.Turns.{is_now_due}
 
 -- the slot that is asked
-abbrev pub asked_slot : Record → Live → AskedSlot
+abbrev pub asked_slot : Record → LiveSlot → AskedSlot
 asked_slot r v = record { lines = r.session.board.lines; round = r.session.board.round; place = r.asked; live = v; now = r.tick }
 
 -- what a question that stands says
@@ -47,8 +47,8 @@ pub question_parts : (r : Record) (q : Question) → question_of r ≡ Some q
     → (slice_get r.session.board.round r.asked ≡ Some q.live) × (q.due ≡ is_due r.tick r.session q.live)
 question_parts r q is = by_parts r.asks (slice_get r.session.board.round r.asked) is
   where
-    by_parts : (asks : Bool) (o : Option Live)
-        → cond asks (option_map (λ (v : Live). record { live = v; due = is_due r.tick r.session v }) o) None ≡ Some q
+    by_parts : (asks : Bool) (o : Option LiveSlot)
+        → cond asks (option_map (λ (v : LiveSlot). record { live = v; due = is_due r.tick r.session v }) o) None ≡ Some q
         → (o ≡ Some q.live) × (q.due ≡ is_due r.tick r.session q.live)
     by_parts false o e = absurd (let x : None ≡ Some q = e in cc)
     by_parts true None e = absurd (let x : None ≡ Some q = e in cc)
@@ -86,7 +86,7 @@ kept_stands k r a st kept = by_question (question_of r) refl
     by_question (Some q) e = ap Some (sym (asked_is r q e) ∙ sym (ap ask_of (kept_same k r q a st e kept)))
 
 -- a question that is asked of this slot is kept of it, and by whether it is due
-pub kept_asked : (k : Kept) (r : Record) (v : Live) (d : Bool) (a : Asked) → StandsSession k r → question_of r ≡ Some (record { live = v; due = d })
+pub kept_asked : (k : Kept) (r : Record) (v : LiveSlot) (d : Bool) (a : Asked) → StandsSession k r → question_of r ≡ Some (record { live = v; due = d })
     → k.asking.question ≡ Some a → ask_of a ≡ record { slot = ref_of v; due = d }
 kept_asked k r v d a st is kept = ap ask_of (kept_same k r (record { live = v; due = d }) a st is kept) ∙ asked_is r (record { live = v; due = d }) is
 
@@ -102,10 +102,12 @@ passed_stands k k' r st passes =
     subst (λ (x : Kept). StandsSession x (passed_over r)) (sym passes.rest)
     (subst (λ (a : Asking). StandsSession (record k { asking = a }) (passed_over r)) (sym passes.asking.rest)
     (record {
+      number = st.number;
       lines = st.lines;
       round = record {
         slots = st.round.slots;
         tick = st.round.tick;
+        above = st.round.above;
         most = st.round.most;
         next = passes.asking.next r.asked st.round.next;
         asks = refl;
@@ -117,16 +119,18 @@ passed_stands k k' r st passes =
       rate = st.rate;
     }))
 
-pub waited_stands : (k k' : Kept) (r : Record) (v : Live) (tick : ℕ) → StandsSession k r → tick ≡ due_at r.tick r.session v
+pub waited_stands : (k k' : Kept) (r : Record) (v : LiveSlot) (tick : ℕ) → StandsSession k r → tick ≡ due_at r.tick r.session v
     → PassesOver (waiting tick k.asking) k k' → StandsSession k' (waited r v)
 waited_stands k k' r v tick st is passes =
     subst (λ (x : Kept). StandsSession x (waited r v)) (sym passes.rest)
     (subst (λ (a : Asking). StandsSession (record k { asking = a }) (waited r v)) (sym passes.asking.rest)
     (record {
+      number = st.number;
       lines = st.lines;
       round = record {
         slots = st.round.slots;
         tick = st.round.tick;
+        above = st.round.above;
         most = st.round.most;
         next = passes.asking.next r.asked st.round.next;
         asks = refl;
@@ -152,12 +156,12 @@ due_now due.Now is = refl
 due_now (due.At tick) is = absurd (let x : false ≡ true = is in cc)
 
 -- a slot that was moved past a cut keeps its name, also at the back
-named_same : (n : ℕ) (t : Taken) (vs : List Live) → map ref_of (change n (passed_live t) vs) ≡ map ref_of vs
+named_same : (n : ℕ) (t : Taken) (vs : List LiveSlot) → map ref_of (change n (passed_live t) vs) ≡ map ref_of vs
 named_same n t [] = refl
 named_same zero t (v ∷ vs) = refl
 named_same (suc n) t (v ∷ vs) = ap (λ xs. ref_of v ∷ xs) (named_same n t vs)
 
-named_back : (n : ℕ) (v : Live) (t : Taken) (vs : List Live)
+named_back : (n : ℕ) (v : LiveSlot) (t : Taken) (vs : List LiveSlot)
     → map ref_of (passed_back n v t vs) ≡ (take n (map ref_of vs) ++ drop (n + 1) (map ref_of vs)) ++ ref_of v ∷ []
 named_back n v t vs =
     map-append ref_of (take n vs ++ drop (n + 1) vs) (passed_live t v ∷ [])
@@ -166,7 +170,7 @@ named_back n v t vs =
     ∙ ap (λ xs. (take n (map ref_of vs) ++ xs) ++ ref_of v ∷ []) (sym (drop-map ref_of (n + 1) vs))
 
 -- a cut that makes no line
-pub answered_silent : (k : Kept) (lines₁ : KeptLines) (subs' : Subs) (asking' : Asking) (r : Record) (v : Live) (t : Taken) (a : Appended) → StandsSession k r
+pub answered_silent : (k : Kept) (lines₁ : KeptLines) (subs' : Subs) (asking' : Asking) (r : Record) (v : LiveSlot) (t : Taken) (a : Appended) → StandsSession k r
     → IsRoomier k.lines lines₁ → asking' ≡ unasked k.asking → a.told ≡ tells.Nothing
     → AcceptedAs (what_of r.session.board.lines v t) subs' (asked_slot r v) t a
     → (false ≡ is_some (what_of r.session.board.lines v t))
@@ -185,11 +189,13 @@ answered_silent k lines₁ subs' asking' r v t a st room again silent accepted =
       refl,
       subst (λ (x : Asking). StandsSession (record k { lines = lines₁; subs = subs'; asking = x }) (answered_by r v t None)) (sym again)
           (record {
+            number = st.number;
             lines = lines_round lines₁ r.session (passed_at r.asked t r.session.board.round)
                 (lines_roomier k.lines lines₁ r.session st.lines room);
             round = record {
               slots = st.round.slots ∙ sym (named_same r.asked t r.session.board.round);
               tick = st.round.tick;
+              above = st.round.above;
               most = st.round.most;
               next = st.round.next;
               asks = refl;
@@ -203,7 +209,7 @@ answered_silent k lines₁ subs' asking' r v t a st room again silent accepted =
     )
 
 -- a cut that makes a line, which is numbered
-pub answered_line : (k : Kept) (lines₁ lines' : KeptLines) (subs' : Subs) (asking' : Asking) (bandwidth' : KeptCredit) (r : Record) (v : Live) (t : Taken)
+pub answered_line : (k : Kept) (lines₁ lines' : KeptLines) (subs' : Subs) (asking' : Asking) (bandwidth' : KeptCredit) (r : Record) (v : LiveSlot) (t : Taken)
     (a : Appended) → StandsSession k r → IsRoomier k.lines lines₁ → NumbersLine lines₁ a.after lines' → a.before ≡ []
     → slice_get r.session.board.round r.asked ≡ Some v → asking' ≡ with_turns (gave v.sub v.rank k.asking.turns) k.asking
     → (a.told ≡ tells.Nothing → ⊥)
@@ -229,20 +235,20 @@ answered_line k lines₁ lines' subs' asking' bandwidth' r v t a st room numbers
         let few : IsShort a.after = subst (λ (x : List ℕ). IsShort x) (sym text) (short what e) in (
           refl,
           numbered_stands k lines₁ lines' subs' asking' bandwidth' (gave v.sub v.rank k.asking.turns) r l (passed_back r.asked v t r.session.board.round)
-              a.after
+              a.after r.tick
               st room numbers text few d.1 gives
               (gave_slots k.asking.turns r.session.board.round r.asked v st.subs.apart st.round.slots here
               ∙ sym (named_back r.asked v t r.session.board.round))
-              (rate what d.0.0 text few),
+              (omega arith) (rate what d.0.0 text few),
         )
 
 -- what a light cut tells is short
-pub tells_short : (k : Kept) (r : Record) (v : Live) (t : Taken) (what : What) → StandsSession k r → slice_get r.session.board.round r.asked ≡ Some v
+pub tells_short : (k : Kept) (r : Record) (v : LiveSlot) (t : Taken) (what : What) → StandsSession k r → slice_get r.session.board.round r.asked ≡ Some v
     → IsLight v.wanted.places t → v.sub < 2 ^ 32 → v.rank < 2 ^ 32 → what_of r.session.board.lines v t ≡ Some what
     → IsShort (tells_text (last_row (came v.sub v.rank r.session.board.lines)) v.sub v.rank what)
 tells_short k r v t what st here light sub rank is =
     let kept : StandsKeptAt (kept_at k.subs v.sub v.rank) r.session.board.lines (Some v) =
-    subst (λ (o : Option Live). StandsKeptAt (kept_at k.subs v.sub v.rank) r.session.board.lines o)
+    subst (λ (o : Option LiveSlot). StandsKeptAt (kept_at k.subs v.sub v.rank) r.session.board.lines o)
     (found_live r.asked r.session.board.round v st.subs.apart here) (st.subs.at v.sub v.rank) in
     by_kept (kept_at k.subs v.sub v.rank) kept
   where
@@ -262,7 +268,7 @@ credit_later (Some r) spends now = by_test (has_credit r spends now)
     by_test false = omega arith
 
 -- a slot that is due has credit
-pub credit_now : (r : Record) (v : Live) → is_due r.tick r.session v ≡ true
+pub credit_now : (r : Record) (v : LiveSlot) → is_due r.tick r.session v ≡ true
     → credit_tick r.session.rate.limit (spends_behind r.session.rate.behind r.session.board.lines) r.tick ≡ r.tick
 credit_now r v is =
     omega (
@@ -272,17 +278,19 @@ credit_now r v is =
     )
 
 -- what an update takes
-pub update_rate : (k : Kept) (bandwidth' : KeptCredit) (r : Record) (v : Live) (t : Taken) (what : What) (text : List ℕ) → StandsSession k r
+pub update_rate : (k : Kept) (bandwidth' : KeptCredit) (r : Record) (v : LiveSlot) (t : Taken) (what : What) (text : List ℕ) → StandsSession k r
     → is_due r.tick r.session v ≡ true → SpendsText text k.asking.tick k.bandwidth bandwidth' → tells.Update ≡ told_by what
     → text ≡ line_text r.session.board.lines (Tells v.sub v.rank r.tick (came_by v.slot t what)) → IsShort text
     → StandsRate bandwidth' r.session.rate (Tells v.sub v.rank r.tick (came_by v.slot t what) ∷ r.session.board.lines) r.tick
 update_rate k bandwidth' r v t what text st is spends told text_is short =
     let spends' : SpendsText text r.tick k.bandwidth bandwidth' = subst (λ (n : ℕ). SpendsText text n k.bandwidth bandwidth') st.round.tick spends in
-    let spent = spends' r.session.rate.limit (spends_behind r.session.rate.behind r.session.board.lines) st.rate.spends st.rate.latest st.round.most
+    let spent = spends' r.session.rate.limit (spends_behind r.session.rate.behind r.session.board.lines) st.rate.spends
+    (omega (arith, st.rate.latest, st.round.above)) st.round.most
     (credit_now r v is) short in
     let l : Line = Tells v.sub v.rank r.tick (came_by v.slot t what) in
     let updates : is_update what ≡ true = by_told (is_update what) told in
-    rate_spent k.bandwidth bandwidth' r.session.rate r.session.board.lines r.tick l (record { tick = r.tick; bytes = length text + 2 }) st.rate
+    rate_spent k.bandwidth bandwidth' r.session.rate r.session.board.lines r.tick l (record { tick = r.tick; bytes = length text + 2 })
+    (rate_later k.bandwidth r.session.rate r.session.board.lines r.floor r.tick st.rate st.round.above)
     (ap (λ (b : Bool). cond b (record { tick = r.tick; bytes = length (line_text r.session.board.lines l) + 2 } ∷ []) []) updates
     ∙ ap (λ (x : List ℕ). record { tick = r.tick; bytes = length x + 2 } ∷ []) (sym text_is))
     (omega (arith, spent.0)) spent.1
@@ -292,11 +300,12 @@ update_rate k bandwidth' r v t what text st is spends told text_is short =
     by_told false e = absurd (let x : tells.Update ≡ tells.Other = e in cc)
 
 -- and what another line takes
-pub other_rate : (k : Kept) (r : Record) (v : Live) (t : Taken) (what : What) → StandsSession k r → tells.Other ≡ told_by what
+pub other_rate : (k : Kept) (r : Record) (v : LiveSlot) (t : Taken) (what : What) → StandsSession k r → tells.Other ≡ told_by what
     → StandsRate k.bandwidth r.session.rate (Tells v.sub v.rank r.tick (came_by v.slot t what) ∷ r.session.board.lines) r.tick
 other_rate k r v t what st told =
     let l : Line = Tells v.sub v.rank r.tick (came_by v.slot t what) in
-    rate_numbered k.bandwidth r.session.rate r.session.board.lines r.tick l st.rate
+    rate_numbered k.bandwidth r.session.rate r.session.board.lines r.tick l
+    (rate_later k.bandwidth r.session.rate r.session.board.lines r.floor r.tick st.rate st.round.above)
     (ap (λ (b : Bool). cond b (record { tick = r.tick; bytes = length (line_text r.session.board.lines l) + 2 } ∷ []) [])
     (by_told (is_update what) told))
   where

@@ -9,9 +9,10 @@ use Rattle.std.proofs.lemmas.List.Filters.{length-filter_both}
 use Rattle.std.proofs.lemmas.Option.{slice_get-map}
 use Rattle.ls_turns.specs.Round.{Round, Seat, IsSeated, seat_at, node_of_place, slot_of_place, slots_of, has_slot, is_of, is_named, gave, left}
 use Rattle.ls_turns.specs.declared.slot_ref.SlotRef.{SlotRef}
-use Rattle.ls_world.specs.Lawful.{Each, Apart}
-use Rattle.ls_world.specs.World.{Live, is_at, with_frequency, without}
-use Rattle.ls_world.specs.World.{is_of as is_live_of}
+use Rattle.ls_value.specs.Each.{Each}
+use Rattle.ls_record.specs.Apart.{Apart}
+use Rattle.ls_record.specs.Records.{LiveSlot, is_at, with_frequency, without}
+use Rattle.ls_record.specs.Records.{is_of as is_live_of}
 use Rattle.ls_subs.specs.Standing.{ref_of}
 use Rattle.ls_subs.proofs.Rounds.{eqb_self, eqb_swap}
 use Rattle.ls_session.specs.Asking.{Holds}
@@ -19,7 +20,7 @@ use Rattle.ls_session.specs.Session.{refs_from, refs_of}
 use Rattle.ls_subs.specs.declared.plan.PlanItem.{PlanItem}
 
 -- a slot is named where the slots of a round are those of others
-pub slot_named : (turns : Round) (round : List Live) (i : ℕ) → slots_of turns ≡ map ref_of round
+pub slot_named : (turns : Round) (round : List LiveSlot) (i : ℕ) → slots_of turns ≡ map ref_of round
     → slot_of_place turns i ≡ option_map ref_of (slice_get round i)
 slot_named turns round i is =
     sym (slice_get-map (λ (s : Seat). s.slot) turns.seats i) ∙ ap (λ xs. slice_get xs i) is ∙ slice_get-map ref_of round i
@@ -149,7 +150,7 @@ passing p (s ∷ seats) = by_test (p s.slot) (passing p seats)
     by_test false more = more
 
 -- a subscription's slots leave a round and its record alike
-others : (sub : ℕ) (round : List Live) → filter (λ s. not (s.sub == sub)) (map ref_of round) ≡ map ref_of (without sub round)
+others : (sub : ℕ) (round : List LiveSlot) → filter (λ s. not (s.sub == sub)) (map ref_of round) ≡ map ref_of (without sub round)
 others sub [] = refl
 others sub (v ∷ round) = by_test (v.sub == sub) (sub == v.sub) (eqb_swap v.sub sub) (others sub round)
   where
@@ -161,7 +162,7 @@ others sub (v ∷ round) = by_test (v.sub == sub) (sub == v.sub) (eqb_swap v.sub
     by_test true false e more = absurd (let x : true ≡ false = e in cc)
     by_test false true e more = absurd (let x : false ≡ true = e in cc)
 
-pub left_slots : (sub : ℕ) (turns : Round) (round : List Live) → slots_of turns ≡ map ref_of round → slots_of (left sub turns) ≡ map ref_of (without sub round)
+pub left_slots : (sub : ℕ) (turns : Round) (round : List LiveSlot) → slots_of turns ≡ map ref_of round → slots_of (left sub turns) ≡ map ref_of (without sub round)
 left_slots sub turns round is =
     passing (λ s. not (s.sub == sub)) turns.seats ∙ ap (filter (λ s. not (s.sub == sub))) is ∙ others sub round
 
@@ -170,7 +171,7 @@ abbrev is_there : ℕ → ℕ → SlotRef → Bool
 is_there sub place s = (s.sub == sub) && (s.place == place)
 
 -- no other slot of a round is, and so the one that is goes to the back
-none_there : (v : Live) (round : List Live) → Each (λ u. is_at v.sub v.rank u ≡ false) round
+none_there : (v : LiveSlot) (round : List LiveSlot) → Each (λ u. is_at v.sub v.rank u ≡ false) round
     → (filter (λ s. not (is_there v.sub v.rank s)) (map ref_of round) ≡ map ref_of round)
     × (filter (is_there v.sub v.rank) (map ref_of round) ≡ [])
 none_there v [] apart = (refl, refl)
@@ -184,14 +185,14 @@ none_there v (u ∷ round) apart =
       ap (λ x. cond x (ref_of u ∷ filter (is_there v.sub v.rank) (map ref_of round)) (filter (is_there v.sub v.rank) (map ref_of round))) e ∙ more.1,
     )
 
-each_at : (P : Live → Type 0) (round : List Live) (n : ℕ) (v : Live) → Each P round → slice_get round n ≡ Some v → P v
+each_at : (P : LiveSlot → Type 0) (round : List LiveSlot) (n : ℕ) (v : LiveSlot) → Each P round → slice_get round n ≡ Some v → P v
 each_at P [] n v each at = absurd (let x : None ≡ Some v = at in cc)
 each_at P (u ∷ round) zero v each at =
     let x : Some u ≡ Some v = at in
     let same : u ≡ v = cc in subst P same each.0
 each_at P (u ∷ round) (suc n) v each at = each_at P round n v each.1 at
 
-one_there : (round : List Live) (n : ℕ) (v : Live) → Apart round → slice_get round n ≡ Some v
+one_there : (round : List LiveSlot) (n : ℕ) (v : LiveSlot) → Apart round → slice_get round n ≡ Some v
     → (filter (λ s. not (is_there v.sub v.rank s)) (map ref_of round) ≡ take n (map ref_of round) ++ drop (n + 1) (map ref_of round))
     × (filter (is_there v.sub v.rank) (map ref_of round) ≡ ref_of v ∷ [])
 one_there [] n v apart at = absurd (let x : None ≡ Some v = at in cc)
@@ -199,8 +200,8 @@ one_there (u ∷ round) zero v apart at =
     let x : Some u ≡ Some v = at in
     let same : v ≡ u = cc in
     let e : is_there v.sub v.rank (ref_of u) ≡ true =
-    subst (λ (w : Live). is_there w.sub w.rank (ref_of u) ≡ true) (sym same) (ap (λ y. y && (u.rank == u.rank)) (eqb_self u.sub) ∙ eqb_self u.rank) in
-    let none = none_there v round (subst (λ (w : Live). Each (λ y. is_at w.sub w.rank y ≡ false) round) (sym same) apart.0) in (
+    subst (λ (w : LiveSlot). is_there w.sub w.rank (ref_of u) ≡ true) (sym same) (ap (λ y. y && (u.rank == u.rank)) (eqb_self u.sub) ∙ eqb_self u.rank) in
+    let none = none_there v round (subst (λ (w : LiveSlot). Each (λ y. is_at w.sub w.rank y ≡ false) round) (sym same) apart.0) in (
       ap (λ y. cond (not y) (ref_of u ∷ filter (λ s. not (is_there v.sub v.rank s)) (map ref_of round))
           (filter (λ s. not (is_there v.sub v.rank s)) (map ref_of round))) e
           ∙ none.0,
@@ -217,7 +218,7 @@ one_there (u ∷ round) (suc n) v apart at =
       ap (λ y. cond y (ref_of u ∷ filter (is_there v.sub v.rank) (map ref_of round)) (filter (is_there v.sub v.rank) (map ref_of round))) e ∙ more.1,
     )
 
-pub gave_slots : (turns : Round) (round : List Live) (n : ℕ) (v : Live) → Apart round → slots_of turns ≡ map ref_of round → slice_get round n ≡ Some v
+pub gave_slots : (turns : Round) (round : List LiveSlot) (n : ℕ) (v : LiveSlot) → Apart round → slots_of turns ≡ map ref_of round → slice_get round n ≡ Some v
     → slots_of (gave v.sub v.rank turns) ≡ (take n (map ref_of round) ++ drop (n + 1) (map ref_of round)) ++ ref_of v ∷ []
 gave_slots turns round n v apart is at =
     let one = one_there round n v apart at in
@@ -228,7 +229,7 @@ gave_slots turns round n v apart is at =
     (passing (is_there v.sub v.rank) turns.seats ∙ ap (filter (is_there v.sub v.rank)) is ∙ one.1)
 
 -- another frequency leaves the names
-pub named_limited : (sub : ℕ) (frequency : Option ℕ) (round : List Live) → map ref_of (map (with_frequency sub frequency) round) ≡ map ref_of round
+pub named_limited : (sub : ℕ) (frequency : Option ℕ) (round : List LiveSlot) → map ref_of (map (with_frequency sub frequency) round) ≡ map ref_of round
 named_limited sub frequency [] = refl
 named_limited sub frequency (v ∷ round) = by_test (is_live_of sub v) (named_limited sub frequency round)
   where

@@ -5,11 +5,12 @@ use Rattle.std.proofs.lemmas.Bool.{leb-true, leb-false, ltb-true, ltb-false}
 use Rattle.std.proofs.lemmas.List.{length-map}
 use Rattle.ls_event.specs.declared.item.ItemDef.{ItemDef}
 use Rattle.ls_request.specs.declared.request.Add.{Add}
-use Rattle.ls_world.specs.Cases.{first_code}
-use Rattle.ls_world.specs.Cutting.{Ask}
-use Rattle.ls_world.specs.World.{Session, is_used}
-use Rattle.ls_world.specs.Acting.{is_group, group_of, is_allowed, is_schema, are_names, add_refusals, asks_of, are_too_many, are_spent, is_full}
-use Rattle.ls_world.specs.declared.TheConstants.{MOST_GROUP_ITEMS}
+use Rattle.ls_record.specs.Cases.{first_code}
+use Rattle.ls_record.specs.Cutting.{Ask}
+use Rattle.ls_record.specs.Records.{Session, is_used}
+use Rattle.ls_record.specs.Acting.{is_group, group_of, is_allowed, is_schema, are_names, add_refusals, asks_of}
+use Rattle.ls_record.specs.Acting.{are_too_many, are_spent, is_full}
+use Rattle.ls_record.specs.declared.TheConstants.{MOST_GROUP_ITEMS}
 use Rattle.ls_subs.specs.declared.plan.AddPlan.{AddPlan}
 use Rattle.ls_subs.specs.declared.plan.PlanItem.{PlanItem}
 use Rattle.ls_subs.specs.declared.subs.Subs.{Subs}

@@ -28,12 +28,12 @@ abbrev pub ask_of : Asked → Ask
 ask_of a = record { slot = a.slot; due = is_now a.due }
 
 -- no question stands, and the round begins anew at a tick
-abbrev pub begun : ℕ → Asking → Asking
-begun tick a = record a { tick = tick; next = node_of_place a.turns 0; question = None; wait = None }
+abbrev pub asked_anew : ℕ → Asking → Asking
+asked_anew tick a = record a { tick = tick; next = node_of_place a.turns 0; question = None; wait = None }
 
 -- it goes on at the same tick, where no question stands, and else begins anew
 abbrev pub resumed : ℕ → Asking → Asking
-resumed now a = if is_some a.question then begun now a else if nat_eq a.tick now then a else begun now a
+resumed now a = if is_some a.question then asked_anew now a else if nat_eq a.tick now then a else asked_anew now a
 
 -- a question stands
 abbrev pub questioned : Asked → Asking → Asking
@@ -54,7 +54,7 @@ pub record Passes (old new : Asking) : Type 0 where
 
 -- the slots are others, and the round begins anew
 abbrev pub with_turns : Round → Asking → Asking
-with_turns turns a = begun a.tick (record a { turns = turns })
+with_turns turns a = asked_anew a.tick (record a { turns = turns })
 
 -- the next slot is in the round, and so is the slot of a question; and there is room for all slots when they leave
 pub record Holds (turns : Round) (node : Option ℕ) (asked : Option Asked) (most : ℕ) : Type 0 where

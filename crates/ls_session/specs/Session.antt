@@ -10,17 +10,17 @@ use Rattle.ls_turns.specs.declared.slot_ref.SlotRef.{SlotRef}
 use Rattle.ls_stream.specs.Standing.{StandsLines, IsShort, IsReadyFor, current_text}
 use Rattle.ls_stream.specs.declared.lines.StreamTurn.{StreamTurn}
 use Rattle.ls_stream.specs.declared.lines.StreamTurn.TheVariants as stream
-use Rattle.ls_world.specs.Lines.{Line as NumberedLine, Configures, spends_behind}
-use Rattle.ls_world.specs.World.{Board, Rate, Session, due_at, with_frequency}
-use Rattle.ls_world.specs.declared.TheConstants.{MOST_GROUP_ITEMS}
+use Rattle.ls_record.specs.Lines.{Line as NumberedLine, Configures, spends_behind}
+use Rattle.ls_record.specs.Records.{Board, Rate, Session, due_at, with_frequency}
+use Rattle.ls_record.specs.declared.TheConstants.{MOST_GROUP_ITEMS}
 use Rattle.ls_subs.specs.declared.plan.AddPlan.{AddPlan}
 use Rattle.ls_subs.specs.declared.plan.PlanItem.{PlanItem}
 use Rattle.ls_subs.specs.Kept.{has_sub, room_of}
 use Rattle.ls_subs.specs.Plans.{IsReady as IsReadyItems}
 use Rattle.ls_subs.specs.Standing.{ref_of, StandsSubs}
 use Rattle.ls_session.specs.Asking.{Asking, Passes}
-use Rattle.ls_session.specs.Record.{Record, Question, question_of, Gives, Line, Asks, Nothing, Waits, NoNumber}
-use Rattle.ls_session.specs.Record.{Superseded, Unbound, Over}
+use Rattle.ls_session.specs.Record.{Record, Question, question_of, Gives, Send, Asks, Idle, NotDue, Spent}
+use Rattle.ls_session.specs.Record.{Superseded, Unbound, Ended}
 use Rattle.ls_session.specs.declared.asking.Asked.{Asked}
 use Rattle.ls_session.specs.declared.session.Ask.{Ask}
 use Rattle.ls_session.specs.declared.session.Reply.{Reply}
@@ -42,6 +42,7 @@ asked_of tick s q = record { slot = ref_of q.live; due = due_answer (due_at tick
 pub record StandsRound (k : Asking) (r : Record) : Type 0 where
   pub slots : slots_of k.turns ≡ map ref_of r.session.board.round
   pub tick : k.tick ≡ r.tick
+  pub above : r.floor ≤ r.tick
   pub most : r.tick ≤ GREATEST_TICK
   pub next : k.next ≡ node_of_place k.turns r.asked
   pub asks : is_some k.question ≡ r.asks
@@ -49,18 +50,20 @@ pub record StandsRound (k : Asking) (r : Record) : Type 0 where
   pub wait : k.wait ≡ r.wait
   pub left : (q : Question) → question_of r ≡ Some q → q.due ≡ true → length r.session.board.lines < GREATEST_NUMBER
 
--- the bandwidth that is kept stands for that of a session, and for what its lines took since it was set
-pub record StandsRate (k : KeptCredit) (rate : Rate) (lines : List NumberedLine) (tick : ℕ) : Type 0 where
-  pub latest : k.latest ≤ tick
+-- the bandwidth that is kept stands for that of a session, and for what its lines took since it was set; neither was at
+-- a tick above the floor
+pub record StandsRate (k : KeptCredit) (rate : Rate) (lines : List NumberedLine) (floor : ℕ) : Type 0 where
+  pub latest : k.latest ≤ floor
   pub behind : rate.behind ≤ length lines
   pub spends : StandsBandwidth k rate.limit (spends_behind rate.behind lines)
 
 -- what is kept stands for a record
 pub record StandsSession (k : Kept) (r : Record) : Type 0 where
+  pub number : k.number ≡ r.number
   pub lines : StandsLines k.lines r.session
   pub round : StandsRound k.asking r
   pub subs : StandsSubs k.subs r.session.board.lines r.session.board.round
-  pub rate : StandsRate k.bandwidth r.session.rate r.session.board.lines r.tick
+  pub rate : StandsRate k.bandwidth r.session.rate r.session.board.lines r.floor
 
 -- what a turn answers, by what was given before the round is asked
 abbrev pub turn_of : StreamTurn → Turn
@@ -77,14 +80,14 @@ turn_of_wait (Some tick) = turn.NotDue tick
 
 -- and by what it gives; the line is the session's current one
 abbrev pub AnswersTurn : Gives → Turn → Kept → Type 0
-AnswersTurn (Line text) t k = (t ≡ turn.Send) × (current_of k ≡ text)
+AnswersTurn (Send text) t k = (t ≡ turn.Send) × (current_of k ≡ text)
 AnswersTurn (Asks q) t k = t ≡ turn.Ask (record { slot = ref_of q.live; due = q.due })
-AnswersTurn Nothing t k = t ≡ turn.Idle
-AnswersTurn (Waits tick) t k = t ≡ turn.NotDue tick
-AnswersTurn NoNumber t k = t ≡ turn.Spent
+AnswersTurn Idle t k = t ≡ turn.Idle
+AnswersTurn (NotDue tick) t k = t ≡ turn.NotDue tick
+AnswersTurn Spent t k = t ≡ turn.Spent
 AnswersTurn (Superseded epoch) t k = t ≡ turn.Superseded epoch
 AnswersTurn Unbound t k = t ≡ turn.Unbound
-AnswersTurn (Over code) t k = t ≡ turn.Ended code
+AnswersTurn (Ended code) t k = t ≡ turn.Ended code
 
 -- whether a reply suits a question: a slot that is due has a cut or nothing, and another waits or has nothing
 abbrev pub suits : Bool → Reply → Bool

@@ -3,8 +3,8 @@ ghost use Rattle.std.specs.Prelude.{◌≡◌, ◌<◌, ◌^◌, ◌↔◌, ℕ,
 ghost use Rattle.ls_budget.specs.declared.due.Due.TheVariants as due_is;
 ghost use Rattle.ls_event.specs.declared.event.Taken.{Taken as Cut};
 ghost use Rattle.ls_turns.specs.Round.{has_slot, gave};
-ghost use Rattle.ls_world.specs.World.{Live};
-ghost use Rattle.ls_world.specs.Light.{IsLight};
+ghost use Rattle.ls_record.specs.Records.{LiveSlot};
+ghost use Rattle.ls_record.specs.Light.{IsLight};
 ghost use Rattle.ls_subs.specs.Standing.{ref_of, Suits, what_of};
 ghost use Rattle.ls_session.specs.Asking.{is_now, ask_of, waiting, with_turns};
 ghost use Rattle.ls_session.specs.Record.{Record, question_of, passed_over, waited, answered};
@@ -17,7 +17,7 @@ use crate::budgets::is_now;
 use crate::session::{Ask, Reply, Session};
 use ls_budget::Due;
 use ls_event::Taken;
-use ls_subs::{SlotRef, Told};
+use ls_subs::{CutLine, SlotRef};
 use ls_value::{Bytes, GREATEST_NUMBER, NoMemory};
 
 /// The room that a line's text begins with, in bytes. Most lines need no more.
@@ -30,13 +30,13 @@ impl Session {
     /// question's tick. Another question, or a reply that doesn't suit it, changes nothing, and neither does
     /// `NoMemory`.
     pub fn answer(&mut self, ask: Ask, reply: Reply) -> Result<bool, NoMemory>
-        ensures nothing { IfOk result (λ told. (r : Record) (v : Live) (due : Bool) → StandsSession self.old r
+        ensures nothing { IfOk result (λ told. (r : Record) (v : LiveSlot) (due : Bool) → StandsSession self.old r
             → question_of r ≡ Some (record { live = v; due = due }) → ask ≡ record { slot = ref_of v; due = due }
             → reply ≡ reply_is.Nothing → (told ≡ false) × StandsSession self.new (passed_over r)) }
-        ensures waiting { IfOk result (λ told. (r : Record) (v : Live) → StandsSession self.old r
+        ensures waiting { IfOk result (λ told. (r : Record) (v : LiveSlot) → StandsSession self.old r
             → question_of r ≡ Some (record { live = v; due = false }) → ask ≡ record { slot = ref_of v; due = false }
             → reply ≡ reply_is.Waiting → (told ≡ false) × StandsSession self.new (waited r v)) }
-        ensures taken { IfOk result (λ told. (r : Record) (v : Live) (t : Cut) → StandsSession self.old r
+        ensures taken { IfOk result (λ told. (r : Record) (v : LiveSlot) (t : Cut) → StandsSession self.old r
             → question_of r ≡ Some (record { live = v; due = true }) → ask ≡ record { slot = ref_of v; due = true }
             → reply ≡ reply_is.Taken t → Suits v.slot.plan.mode t → IsLight v.wanted.places t
             → (told ≡ is_some (what_of r.session.board.lines v t)) × StandsSession self.new (answered r v t)) }
@@ -61,7 +61,7 @@ impl Session {
             → (told ≡ false) × PassesOver self.old.asking self.old self.new) }
         ensures waiting { IfOk result (λ told. (tick : ℕ) → reply ≡ reply_is.Waiting → asked.due ≡ due_is.At tick
             → (told ≡ false) × PassesOver (waiting tick self.old.asking) self.old self.new) }
-        ensures taken { IfOk result (λ told. (r : Record) (v : Live) (t : Cut) → StandsSession self.old r
+        ensures taken { IfOk result (λ told. (r : Record) (v : LiveSlot) (t : Cut) → StandsSession self.old r
             → question_of r ≡ Some (record { live = v; due = true }) → asked.slot ≡ ref_of v → asked.due ≡ due_is.Now
             → reply ≡ reply_is.Taken t → Suits v.slot.plan.mode t → IsLight v.wanted.places t
             → (told ≡ is_some (what_of r.session.board.lines v t)) × StandsSession self.new (answered r v t)) }
@@ -100,7 +100,7 @@ impl Session {
     /// no such line, and the slot is asked again.
     fn tell(&mut self, slot: SlotRef, taken: Taken) -> Result<bool, NoMemory>
         requires { has_slot slot.sub slot.place self.old.asking.turns ≡ true }
-        ensures told { IfOk result (λ told. (r : Record) (v : Live) → StandsSession self.old r
+        ensures told { IfOk result (λ told. (r : Record) (v : LiveSlot) → StandsSession self.old r
             → question_of r ≡ Some (record { live = v; due = true }) → slot ≡ ref_of v
             → Suits v.slot.plan.mode taken → IsLight v.wanted.places taken
             → (told ≡ is_some (what_of r.session.board.lines v taken)) × StandsSession self.new (answered r v taken)) }
@@ -116,16 +116,16 @@ impl Session {
             .subs
             .accept(&slot, taken, self.asking.tick(), &mut text)?;
         match told {
-            Told::Nothing => {
+            CutLine::Nothing => {
                 self.asking.again();
                 Ok(false)
             }
-            Told::Update => {
+            CutLine::Update => {
                 self.spend(&text);
                 self.note(text, &slot);
                 Ok(true)
             }
-            Told::Other => {
+            CutLine::Other => {
                 self.note(text, &slot);
                 Ok(true)
             }

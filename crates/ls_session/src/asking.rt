@@ -1,10 +1,10 @@
 //! The round of a session's slots at a tick, and how far it was asked (this project's profile).
 ghost use Rattle.std.specs.Prelude.{◌≡◌, ◌≤◌, ◌+◌, ◌++◌, ℕ, [], length, true, None, Some, IfOk, OnOk, OnErr, IfSome};
 ghost use Rattle.std.specs.Vec.{vec_len, vec_capacity};
-ghost use Rattle.ls_turns.specs.Round.{node_of_place, slot_of_place, slots_of, has_slot, left, gave, cleared};
-ghost use Rattle.ls_session.specs.Asking.{begun, resumed, questioned, waiting, unasked, Passes, with_turns};
+ghost use Rattle.ls_turns.specs.Round.{node_of_place, slot_of_place, slots_of, has_slot, left, gave};
+ghost use Rattle.ls_session.specs.Asking.{asked_anew, resumed, questioned, waiting, unasked, Passes, with_turns};
 ghost use Rattle.ls_session.specs.Session.{refs_from, refs_of};
-ghost use Rattle.ls_world.specs.declared.TheConstants.{MOST_GROUP_ITEMS};
+ghost use Rattle.ls_record.specs.declared.TheConstants.{MOST_GROUP_ITEMS};
 
 use crate::walks::{append_of, append_slots, join_slots};
 use ls_budget::Due;
@@ -23,8 +23,8 @@ pub struct Asked {
 }
 
 /// The round of a session's slots, the tick at which it is asked, the node of the slot that is asked or is asked next,
-/// the question that stands, and the least tick at which one of those that wait is due. When slots leave they are put
-/// into `leaving`, which has room for all of them.
+/// the question that stands, and the least tick at which one of those that wait is due. When the session ends its slots
+/// are put into `leaving`, which has room for all of them, and `empty` takes the place of their round.
 #[derive(Drop)]
 pub struct Asking {
     turns: Turns,
@@ -33,11 +33,13 @@ pub struct Asking {
     question: Option<Asked>,
     wait: Option<u64>,
     leaving: Vec<SlotRef>,
+    empty: Option<Turns>,
 }
 
 impl Model for Asking {
     ghost use Rattle.std.specs.Prelude.{◌≡◌, []};
     ghost use Rattle.std.specs.Vec.{vec_capacity};
+    ghost use Rattle.std.specs.Option.{ForSome};
     ghost use Rattle.ls_session.specs.Asking.{Asking as Kept, Holds};
 
     ghost Value = { Kept };
@@ -52,21 +54,25 @@ impl Model for Asking {
     } };
 
     ghost invariant = { λ a.
-        Holds a.turns a.next a.question (vec_capacity a.leaving) × (a.leaving.items ≡ []) };
+        Holds a.turns a.next a.question (vec_capacity a.leaving) × (a.leaving.items ≡ [])
+        × ForSome a.empty (λ turns. turns.seats ≡ []) };
 }
 
 impl Asking {
     /// No slot, at a tick.
     pub(crate) fn new(alloc: Global, now: u64) -> Result<Asking, NoMemory>
-        ensures { IfOk result (λ a. (a.turns.seats ≡ []) × (a ≡ begun now a)) }
+        ensures { IfOk result (λ a. (a.turns.seats ≡ []) × (a ≡ asked_anew now a)) }
     {
+        let turns = Turns::new(alloc)?;
+        let empty = Turns::new(alloc)?;
         Ok(Asking {
-            turns: Turns::new(alloc)?,
+            turns,
             tick: now,
             next: None,
             question: None,
             wait: None,
             leaving: Vec::new(alloc),
+            empty: Some(empty),
         })
     }
 
@@ -106,7 +112,7 @@ impl Asking {
 
     /// No question stands, and the round begins anew at a tick.
     pub(crate) fn begin(&mut self, now: u64)
-        ensures { self.new ≡ begun now self.old }
+        ensures { self.new ≡ asked_anew now self.old }
     {
         self.tick = now;
         self.next = self.turns.first();
@@ -220,14 +226,18 @@ impl Asking {
         self.wait = None;
     }
 
-    /// All slots leave, and are handed back in their order. No memory is taken.
+    /// All slots leave, and are handed back in their order; the memory of their round is given back. No memory is taken.
     pub(crate) fn finish(&mut self, alloc: Global) -> Vec<SlotRef>
         ensures slots { result.items ≡ slots_of self.old.turns }
-        ensures rest { self.new ≡ record (with_turns (cleared self.old.turns) self.old) { room = self.new.room } }
+        ensures none { self.new.turns.seats ≡ [] }
+        ensures rest { self.new ≡ record (with_turns self.new.turns self.old) { room = self.new.room } }
     {
         let mut leaving = replace(&mut self.leaving, Vec::new(alloc));
         append_slots(&mut leaving, &self.turns);
-        self.turns.clear();
+        match self.empty.take() {
+            Some(turns) => self.turns = turns,
+            None => self.turns.clear(),
+        }
         self.next = None;
         self.question = None;
         self.wait = None;

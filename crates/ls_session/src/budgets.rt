@@ -2,8 +2,8 @@
 ghost use Rattle.std.specs.Prelude.{◌≡◌, ◌≤◌, ◌+◌, ℕ, max, Some, slice_get, length};
 ghost use Rattle.ls_budget.specs.Due.{due_at};
 ghost use Rattle.ls_value.specs.declared.limits.TheConstants.{GREATEST_TICK};
-ghost use Rattle.ls_world.specs.World.{Live};
-ghost use Rattle.ls_world.specs.World.{due_at as due_tick_of};
+ghost use Rattle.ls_record.specs.Records.{LiveSlot};
+ghost use Rattle.ls_record.specs.Records.{due_at as due_tick_of};
 ghost use Rattle.ls_subs.specs.Standing.{ref_of};
 ghost use Rattle.ls_session.specs.Asking.{is_now};
 ghost use Rattle.ls_session.specs.Record.{Record};
@@ -16,7 +16,7 @@ use ls_subs::SlotRef;
 impl Session {
     /// When the next slot may give a line: at the later tick of those of its frequency and of the session's credit.
     pub(crate) fn due(&self, slot: &SlotRef, now: u64) -> Due
-        ensures { (r : Record) (v : Live) → StandsSession self.now r
+        ensures { (r : Record) (v : LiveSlot) → StandsSession self.now r
             → slice_get r.session.board.round r.asked ≡ Some v → slot.now ≡ ref_of v
             → r.tick ≡ now → result ≡ due_at (due_tick_of now r.session v) now }
     {

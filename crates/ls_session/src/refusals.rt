@@ -1,19 +1,20 @@
 //! Why requests on a session are refused (this project's profile).
 ghost use Rattle.std.specs.Prelude.{◌≡◌, ◌≤◌, ◌+◌, ◌||◌, ◌∷◌, [], not, false, None, nat_le, nat_lt};
 ghost use Rattle.ls_value.specs.declared.limits.TheConstants.{GREATEST_NUMBER};
-ghost use Rattle.ls_world.specs.declared.TheConstants.{MOST_SUBSCRIPTIONS};
-ghost use Rattle.ls_world.specs.Cases.{first_code};
-ghost use Rattle.ls_world.specs.World.{is_used};
-ghost use Rattle.ls_world.specs.Acting.{subscriptions, are_too_many, are_spent};
+ghost use Rattle.ls_record.specs.declared.TheConstants.{MOST_SUBSCRIPTIONS};
+ghost use Rattle.ls_record.specs.Cases.{first_code};
+ghost use Rattle.ls_record.specs.Records.{is_used};
+ghost use Rattle.ls_record.specs.Acting.{subscriptions, are_too_many, are_spent, bind_code};
 ghost use Rattle.ls_subs.specs.Kept.{has_sub};
-ghost use Rattle.ls_session.specs.Record.{Record, binding_code, changing_code, constraining_code, numbering_code};
+ghost use Rattle.ls_session.specs.Record.{Record, unless_ended, binding_code, changing_code, constraining_code};
+ghost use Rattle.ls_session.specs.Record.{numbering_code};
 ghost use Rattle.ls_session.specs.Session.{StandsSession};
 ghost use Rattle.ls_stream.specs.Standing.{MayBind, last_line};
 
 use crate::session::Session;
+use ls_record::{MOST_SUBSCRIPTIONS, MOST_UNSENT};
 use ls_request::Bind;
 use ls_value::GREATEST_NUMBER;
-use ls_world::{MOST_SUBSCRIPTIONS, MOST_UNSENT};
 
 impl Session {
     /// Why a subscription of this number can't begin: one is live, or too many lines wait.
@@ -65,10 +66,24 @@ impl Session {
         }
     }
 
-    /// Why a session can't have a new stream: it has ended, the client can't go on behind its count, or no epoch is
-    /// left.
+    /// Why a session can't have a new stream: the bind names another session, it has ended, the client can't go on
+    /// after its count, or no epoch is left.
     pub(crate) fn code_of_bind(&self, bind: &Bind) -> Option<u16>
-        ensures code { (r : Record) → StandsSession self.now r → result ≡ binding_code r.session bind.now }
+        ensures code { (r : Record) → StandsSession self.now r → result ≡ binding_code r.number r.session bind.now }
+        ensures may { result ≡ None → MayBind self.now.lines bind.now }
+        ensures named { result ≡ None → bind.now.session ≡ self.now.number }
+    {
+        if self.number == bind.session {
+            self.code_of_stream(bind)
+        } else {
+            Some(20)
+        }
+    }
+
+    /// Why a session can't have a new stream, where the bind names it.
+    fn code_of_stream(&self, bind: &Bind) -> Option<u16>
+        ensures code { (r : Record) → StandsSession self.now r
+            → result ≡ unless_ended r.session (bind_code r.session bind.now) }
         ensures may { result ≡ None → MayBind self.now.lines bind.now }
     {
         if self.is_alive() {

@@ -8,18 +8,21 @@ ghost use Rattle.ls_event.specs.declared.item.ItemDef.{ItemDef};
 ghost use Rattle.ls_line.specs.Lines.{text_of_line};
 ghost use Rattle.ls_request.specs.declared.request.Add.{Add as Adding};
 ghost use Rattle.ls_request.specs.Ranges.{AddFits};
-ghost use Rattle.ls_world.specs.Cases.{first_code};
-ghost use Rattle.ls_world.specs.Lawful.{Each};
-ghost use Rattle.ls_world.specs.World.{Live, numbered, removed, reconfigured, constrained, frequency_in, is_filtered};
-ghost use Rattle.ls_world.specs.declared.TheConstants.{MOST_SUBSCRIPTIONS};
-ghost use Rattle.ls_world.specs.Acting.{add_refusals, subscriptions, are_spent};
+ghost use Rattle.ls_record.specs.Cases.{first_code};
+ghost use Rattle.ls_value.specs.Each.{Each};
+ghost use Rattle.ls_record.specs.Records.{LiveSlot, numbered, removed, reconfigured, constrained, frequency_in};
+ghost use Rattle.ls_record.specs.Records.{is_filtered, with_outcome};
+ghost use Rattle.ls_record.specs.Lines.{MessageOutcome, outcome_line};
+ghost use Rattle.ls_record.specs.declared.TheConstants.{MOST_SUBSCRIPTIONS};
+ghost use Rattle.ls_record.specs.Acting.{add_refusals, subscriptions, are_spent};
 ghost use Rattle.ls_subs.specs.Plans.{IsPlan, JoinAll, MayJoin};
 ghost use Rattle.ls_subs.specs.Standing.{ref_of};
 ghost use Rattle.ls_subs.specs.declared.plan.Refusal.TheVariants as Refusal;
-ghost use Rattle.ls_session.specs.Record.{Record, begun_anew, with_plan, adding_code, changing_code, constraining_code};
-ghost use Rattle.ls_session.specs.Record.{numbering_code, slots_of};
+ghost use Rattle.ls_session.specs.Record.{Record, begun_again, begun_anew, with_plan, adding_code, changing_code};
+ghost use Rattle.ls_session.specs.Record.{constraining_code, numbering_code, slots_of};
 ghost use Rattle.ls_session.specs.Session.{StandsSession, IsReady, configured};
-ghost use Rattle.ls_stream.specs.Standing.{IsReadyFor, NumbersLine, last_line};
+ghost use Rattle.ls_session.specs.Asking.{asked_anew};
+ghost use Rattle.ls_stream.specs.Standing.{IsReadyFor, IsShort, NumbersLine, last_line};
 
 use crate::session::Session;
 use crate::telling::{conf_text, unsub_text};
@@ -106,9 +109,9 @@ impl Session {
     pub fn finish_add(&mut self, plan: AddPlan, slots: &[u32])
         requires ready { IsReady self.old plan }
         requires slots { length slots.now ≡ length plan.items.items }
-        ensures { (r : Record) (defs : List ItemDef) (a : Adding) (vs : List Live) → StandsSession self.old r
+        ensures { (r : Record) (defs : List ItemDef) (a : Adding) (vs : List LiveSlot) → StandsSession self.old r
             → IsPlan defs a plan → JoinAll plan.items.items slots.now vs
-            → StandsSession self.new (begun_anew r.tick (numbered (with_plan defs a vs) r.session)) }
+            → StandsSession self.new (begun_again (numbered (with_plan defs a vs) r.session) r) }
     {
         let AddPlan {
             sub,
@@ -143,15 +146,23 @@ impl Session {
     }
 
     /// The line of this text is numbered, and waits to be given. Its number is answered. The text is that of a
-    /// [`Session::prepare_line`], and nothing was numbered since: of several texts that were prepared one may be. No
-    /// memory is taken.
+    /// [`Session::prepare_line`], and nothing was numbered since: of several texts that were prepared one may be. A
+    /// question that stands is dropped, and the round begins anew at its tick. Where the session has ended since, the
+    /// line is numbered and not kept. No memory is taken.
     pub fn finish_line(&mut self, text: Bytes) -> u64
         requires { IsReadyFor 1 self.old.lines }
         ensures number { result ≡ last_line self.old.lines + 1 }
+        ensures numbered { (r : Record) → StandsSession self.old r → result ≡ length r.session.board.lines + 1 }
+        ensures stands { (r : Record) (outcome : MessageOutcome) → StandsSession self.old r
+            → text ≡ text_of_line (outcome_line outcome) → IsShort text
+            → StandsSession self.new (begun_again (numbered (with_outcome outcome) r.session) r) }
         ensures line { NumbersLine self.old.lines text self.new.lines }
-        ensures rest { self.new ≡ record self.old { lines = self.new.lines } }
+        ensures round { self.new.asking ≡ asked_anew self.old.asking.tick self.old.asking }
+        ensures rest { self.new ≡ record self.old { lines = self.new.lines; asking = self.new.asking } }
     {
         self.lines.number(text);
+        let same_tick = self.asking.tick();
+        self.asking.begin(same_tick);
         self.lines.last()
     }
 
@@ -162,7 +173,7 @@ impl Session {
         ensures accepted { IfOk result (λ slots. (r : Record) → StandsSession self.old r
             → (changing_code r.session sub ≡ None)
             × (slots.items ≡ map ref_of (slots_of sub r.session.board.round))
-            × StandsSession self.new (begun_anew r.tick (numbered (removed sub) r.session))) }
+            × StandsSession self.new (begun_again (numbered (removed sub) r.session) r)) }
         ensures refused { (code : ℕ) → IsErrOf result (Refusal.Code code) → (r : Record) → StandsSession self.old r
             → changing_code r.session sub ≡ Some code }
         ensures err { OnErr result ((r : Record) → StandsSession self.old r → StandsSession self.new r) }
@@ -179,7 +190,7 @@ impl Session {
         requires { last_line self.old.lines + 1 ≤ GREATEST_NUMBER }
         ensures ok { IfOk result (λ slots. (r : Record) → StandsSession self.old r
             → (slots.items ≡ map ref_of (slots_of sub r.session.board.round))
-            × StandsSession self.new (begun_anew r.tick (numbered (removed sub) r.session))) }
+            × StandsSession self.new (begun_again (numbered (removed sub) r.session) r)) }
         ensures err { OnErr result ((r : Record) → StandsSession self.old r → StandsSession self.new r) }
     {
         let line = unsub_text(self.alloc, sub)?;
@@ -198,7 +209,7 @@ impl Session {
         requires { ForSome frequency (λ f. 0 < f) }
         ensures accepted { OnOk result ((r : Record) → StandsSession self.old r
             → (changing_code r.session sub ≡ None)
-            × StandsSession self.new (begun_anew r.tick (numbered (reconfigured sub frequency) r.session))) }
+            × StandsSession self.new (begun_again (numbered (reconfigured sub frequency) r.session) r)) }
         ensures refused { (code : ℕ) → IsErrOf result (Refusal.Code code) → (r : Record) → StandsSession self.old r
             → changing_code r.session sub ≡ Some code }
         ensures err { OnErr result ((r : Record) → StandsSession self.old r → StandsSession self.new r) }
@@ -221,7 +232,7 @@ impl Session {
         requires left { last_line self.old.lines + 1 ≤ GREATEST_NUMBER }
         requires some { ForSome frequency (λ f. 0 < f) }
         ensures ok { OnOk result ((r : Record) → StandsSession self.old r
-            → StandsSession self.new (begun_anew r.tick (numbered (configured sub frequency filtered) r.session))) }
+            → StandsSession self.new (begun_again (numbered (configured sub frequency filtered) r.session) r)) }
         ensures err { OnErr result ((r : Record) → StandsSession self.old r → StandsSession self.new r) }
     {
         let line = conf_text(self.alloc, sub, frequency, filtered)?;
@@ -234,15 +245,15 @@ impl Session {
     }
 
     /// The session has another bandwidth, in thousandths of a kbit per second, `None` for none, from a tick on, in ms,
-    /// of at most [`GREATEST_TICK`](ls_value::GREATEST_TICK) and not below that of an earlier call: CONS is owed to its
-    /// stream, and the credit begins anew. It is refused, in this order: 20 where the session has ended, 70 where too
+    /// of at most [`GREATEST_TICK`](ls_value::GREATEST_TICK) and not below the floor: CONS is owed to its stream, and the
+    /// credit begins anew. It is refused, in this order: 20 where the session has ended, 70 where too
     /// many lines are owed. A refusal changes nothing.
     pub fn constrain(&mut self, bandwidth: Option<u64>, now: u64) -> Result<(), Refusal>
         requires { ForSome bandwidth (λ limit. 0 < limit) }
         ensures accepted { OnOk result ((r : Record) → StandsSession self.old r
             → (constraining_code r.session ≡ None)
-            × (r.tick ≤ now → now ≤ GREATEST_TICK
-            → StandsSession self.new (begun_anew now (constrained bandwidth r.session)))) }
+            × (r.floor ≤ now → now ≤ GREATEST_TICK
+            → StandsSession self.new (begun_anew now (constrained bandwidth r.session) r))) }
         ensures refused { (code : ℕ) → IsErrOf result (Refusal.Code code) → (r : Record) → StandsSession self.old r
             → constraining_code r.session ≡ Some code }
         ensures err { OnErr result ((r : Record) → StandsSession self.old r → StandsSession self.new r) }

@@ -3,12 +3,12 @@ ghost use Rattle.std.specs.Prelude.{◌≡◌, ◌≤◌, ◌<◌, ◌⊎◌, �
 ghost use Rattle.std.specs.Prelude.{nat_lt, nat_le, IfOk, IfSome, option_map};
 ghost use Rattle.std.specs.Option.{ForSome};
 ghost use Rattle.ls_value.specs.declared.limits.TheConstants.{GREATEST_TICK};
-ghost use Rattle.ls_world.specs.Lines.{text_at};
-ghost use Rattle.ls_world.specs.World.{live_at, opened, ended, is_alive, timed_out};
-ghost use Rattle.ls_world.specs.Acting.{destroyed};
+ghost use Rattle.ls_record.specs.Lines.{text_at};
+ghost use Rattle.ls_record.specs.Records.{live_at, opened, ended, is_alive, timed_out};
+ghost use Rattle.ls_record.specs.Acting.{destroyed};
 ghost use Rattle.ls_line.specs.declared.limits.TheConstants.{LONGEST_TEXT};
 ghost use Rattle.ls_subs.specs.Standing.{ref_of};
-ghost use Rattle.ls_session.specs.Record.{Record, begun_anew, ended_by};
+ghost use Rattle.ls_session.specs.Record.{Record, begun_again, created, ended_by};
 ghost use Rattle.ls_session.specs.Session.{StandsSession, current_of};
 
 use crate::asking::Asking;
@@ -84,12 +84,15 @@ pub enum Lost {
     NotBound,
 }
 
-/// A session: the lines of its streams, its subscriptions, the round of their slots, and its bandwidth. It keeps the
-/// allocator that its constructor took. The ticks that its calls take are in ms, at most
-/// [`GREATEST_TICK`](ls_value::GREATEST_TICK), and never fall.
+/// A session: its number, the lines of its streams, its subscriptions, the round of their slots, and its bandwidth. It
+/// keeps the allocator that its constructor took. The ticks that its calls take are in ms, at most
+/// [`GREATEST_TICK`](ls_value::GREATEST_TICK), and none is below the session's floor: the tick of its creation, or of
+/// the last line that was numbered or given at a tick, the last bandwidth, or the last loss of a stream. A turn that
+/// gives nothing and a new stream raise no floor.
 #[derive(Drop)]
 pub struct Session {
     pub(crate) alloc: Global,
+    pub(crate) number: u64,
     pub(crate) lines: Lines,
     pub(crate) subs: Subs,
     pub(crate) asking: Asking,
@@ -102,13 +105,14 @@ impl Session {
     pub fn new(alloc: Global, id: u64, create: &Create, now: u64) -> Result<Session, NoMemory>
         requires { ForSome create.now.bandwidth (λ limit. 0 < limit) }
         ensures { IfOk result (λ k. now ≤ GREATEST_TICK
-            → StandsSession k (begun_anew now
+            → StandsSession k (created id now
             (opened id create.now.keepalive create.now.bandwidth create.now.length))) }
     {
         let lines = Lines::new(alloc, id, create)?;
         let asking = Asking::new(alloc, now)?;
         Ok(Session {
             alloc,
+            number: id,
             lines,
             subs: Subs::new(alloc),
             asking,
@@ -116,7 +120,7 @@ impl Session {
         })
     }
 
-    /// The line that the last turn gave, without CR LF.
+    /// The line that the last turn gave, without CR LF, until the session ends or changes otherwise.
     pub fn current(&self) -> &[u8]
         ensures line { result.now ≡ current_of self.now }
         ensures short { (r : Record) → StandsSession self.now r → length result.now ≤ LONGEST_TEXT }
@@ -125,13 +129,14 @@ impl Session {
     }
 
     /// The session ends for the cause of a code, [`DESTROYED`](ls_stream::DESTROYED) or
-    /// [`TIMED_OUT`](ls_stream::TIMED_OUT): its slots leave the round and are handed back. One that has ended stays as
-    /// it is, and hands back none. No memory is taken.
+    /// [`TIMED_OUT`](ls_stream::TIMED_OUT): its slots leave the round and are handed back, and the memory of its lines,
+    /// its subscriptions and its round is given back. One that has ended stays as it is, and hands back none. No memory
+    /// is taken.
     pub fn finish(&mut self, code: u16) -> Vec<SlotRef>
         requires { (code ≡ destroyed) ⊎ (code ≡ timed_out) }
         ensures alive { (r : Record) → StandsSession self.old r → is_alive r.session.life ≡ true
             → (result.items ≡ map ref_of r.session.board.round)
-            × StandsSession self.new (begun_anew r.tick (ended code r.session)) }
+            × StandsSession self.new (begun_again (ended code r.session) r) }
         ensures ended { (r : Record) → StandsSession self.old r → is_alive r.session.life ≡ false
             → (result.items ≡ []) × StandsSession self.new r }
     {
@@ -153,14 +158,23 @@ impl Session {
         self.subs.find(sub, place)
     }
 
-    /// The text of a numbered line that is kept: `None` exactly where the line was given up, or isn't numbered.
+    /// The text of a numbered line that is kept: `None` exactly where the line was given up, or isn't numbered, or the
+    /// session has ended.
     pub fn line(&self, n: u64) -> Option<&[u8]>
         ensures text { IfSome result (λ t. (r : Record) → StandsSession self.now r
             → t.now ≡ text_at r.session.board.lines n) }
         ensures kept { (r : Record) → StandsSession self.now r
-            → is_some result ≡ (nat_lt r.session.given_up n && nat_le n (length r.session.board.lines)) }
+            → is_some result
+            ≡ (is_alive r.session.life && (nat_lt r.session.given_up n && nat_le n (length r.session.board.lines))) }
     {
         self.lines.line(n)
+    }
+
+    /// The session's number, which CONOK names.
+    pub fn number(&self) -> u64
+        ensures { (r : Record) → StandsSession self.now r → result ≡ r.number }
+    {
+        self.number
     }
 
     /// How many lines were given.

@@ -1,6 +1,6 @@
 //! Texts of the lines that tell of a change of a subscription (TLCP 2.1, UNSUB and CONF).
 ghost use Rattle.std.specs.Prelude.{◌≡◌, ◌<◌, ◌^◌, [], Some, IfOk};
-ghost use Rattle.ls_world.specs.Lines.{Ends, Configures, line_text};
+ghost use Rattle.ls_record.specs.Lines.{Ends, Configures, line_text};
 ghost use Rattle.ls_stream.specs.Standing.{IsShort};
 
 use ls_line::{Line, into_text};

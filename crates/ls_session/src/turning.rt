@@ -1,7 +1,7 @@
 //! A session's turn (TLCP 2.1, notifications).
 ghost use Rattle.std.specs.Prelude.{◌≡◌, ◌≤◌, false, slice_get, option_map};
 ghost use Rattle.ls_value.specs.declared.limits.TheConstants.{GREATEST_TICK};
-ghost use Rattle.ls_session.specs.Asking.{begun};
+ghost use Rattle.ls_session.specs.Asking.{asked_anew};
 ghost use Rattle.ls_subs.specs.Standing.{ref_of};
 ghost use Rattle.ls_session.specs.Record.{Record, turned, round_turned, round_asked, passed_over};
 ghost use Rattle.ls_session.specs.Session.{StandsSession, AnswersTurn, turn_of, turn_of_wait};
@@ -14,14 +14,15 @@ use ls_subs::SlotRef;
 use ls_value::GREATEST_NUMBER;
 
 impl Session {
-    /// A turn at a tick, in ms, of at most [`GREATEST_TICK`](ls_value::GREATEST_TICK) and not below that of an earlier
-    /// call, for the stream of an epoch: an owed line, else LOOP where the stream is over, which leaves the session
-    /// without one, else the next numbered line that isn't given, else the question what the next slot of the round has
-    /// to tell, else nothing, before the least tick at which one of the slots that wait is due. The round begins anew
-    /// at another tick, and where a question wasn't answered. A session that has ended gives END once, and nothing
-    /// else. Nothing is given on an older stream, or where none is bound. No memory is taken.
+    /// A turn at a tick, in ms, of at most [`GREATEST_TICK`](ls_value::GREATEST_TICK) and not below the floor, for the
+    /// stream of an epoch: an owed line, else LOOP where the stream is over, which leaves the session without one, else
+    /// the next numbered line that isn't given, else the question what the next slot of the round has to tell, else
+    /// nothing, before the least tick at which one of the slots that wait is due. The round begins anew at another
+    /// tick, also at an earlier one, and where a question wasn't answered. A session that has ended gives END once, and
+    /// nothing else. Nothing is given on an older stream, or where none is bound. Only a line raises the floor. No
+    /// memory is taken.
     pub fn turn(&mut self, now: u64, epoch: u64) -> Turn
-        ensures { (r : Record) → StandsSession self.old r → r.tick ≤ now → now ≤ GREATEST_TICK
+        ensures { (r : Record) → StandsSession self.old r → r.floor ≤ now → now ≤ GREATEST_TICK
             → AnswersTurn (turned now epoch r).gives result self.new
             × StandsSession self.new (turned now epoch r).after }
     {
@@ -54,7 +55,7 @@ impl Session {
 
     /// The round goes on, or begins anew.
     fn turn_round(&mut self, now: u64) -> Turn
-        ensures { (r : Record) → StandsSession self.old r → r.tick ≤ now → now ≤ GREATEST_TICK
+        ensures { (r : Record) → StandsSession self.old r → r.floor ≤ now → now ≤ GREATEST_TICK
             → AnswersTurn (round_turned now r).gives result self.new
             × StandsSession self.new (round_turned now r).after }
     {
@@ -65,10 +66,10 @@ impl Session {
     /// The next slot of the round is asked.
     fn ask_next(&mut self, now: u64) -> Turn
         ensures { (r : Record) → StandsSession self.old r → r.tick ≡ now → r.asks ≡ false
-            → AnswersTurn (round_asked now r.wait r.session r.asked (slice_get r.session.board.round r.asked)).gives
+            → AnswersTurn (round_asked now r.wait r r.asked (slice_get r.session.board.round r.asked)).gives
             result self.new
             × StandsSession self.new
-            (round_asked now r.wait r.session r.asked (slice_get r.session.board.round r.asked)).after }
+            (round_asked now r.wait r r.asked (slice_get r.session.board.round r.asked)).after }
     {
         let Some(slot) = self.asking.slot() else {
             return self.wait(now);
@@ -89,7 +90,7 @@ impl Session {
     /// No slot is left to ask, and the round begins anew.
     fn wait(&mut self, now: u64) -> Turn
         ensures gives { result ≡ turn_of_wait self.old.asking.wait }
-        ensures anew { self.new ≡ record self.old { asking = begun now self.old.asking } }
+        ensures anew { self.new ≡ record self.old { asking = asked_anew now self.old.asking } }
     {
         let wait = self.asking.wait();
         self.asking.begin(now);

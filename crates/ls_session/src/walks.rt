@@ -4,7 +4,7 @@ ghost use Rattle.std.specs.List.{list_any};
 ghost use Rattle.std.specs.Vec.{vec_len, vec_capacity};
 ghost use Rattle.ls_turns.specs.Round.{is_of, slots_of};
 ghost use Rattle.ls_session.specs.Session.{refs_from, refs_of};
-ghost use Rattle.ls_world.specs.declared.TheConstants.{MOST_GROUP_ITEMS};
+ghost use Rattle.ls_record.specs.declared.TheConstants.{MOST_GROUP_ITEMS};
 
 use ls_subs::{PlanItem, SlotRef};
 use ls_turns::Turns;

@@ -11,7 +11,7 @@
 //! let number = shared.offer(rt, &mut pass, 1, event, &OpenGate)?;
 //! ```
 //!
-//! What belongs to one server carries one name `N`, by which contracts know its register and its items: so `new` is
+//! What belongs to one server carries one name `N`, by which contracts know its register, its adapter set and its items: so `new` is
 //! called in a function that is generic in `N`, and its caller passes `Brand`. `view` shows the register.
 //!
 //! All calls but `new` and `config` may wait for a lock. Nothing is promised of how long, nor of the order in which

@@ -5,6 +5,7 @@ ghost use Rattle.std.specs.Vec.{vec_capacity};
 ghost use mathlib.Core.List.{IsPrefix};
 ghost use Rattle.ls_event.specs.History.{HasFields};
 ghost use Rattle.ls_event.specs.Shapes.{IsShape, shape_of};
+ghost use Rattle.ls_event.specs.Textual.{Textual};
 ghost use Rattle.ls_event.specs.declared.limits.TheConstants.{MOST_ADAPTERS};
 ghost use Rattle.ls_config.specs.Items.{are_items};
 ghost use Rattle.ls_config.specs.declared.items.TheConstants.{MOST_ITEMS};
@@ -15,8 +16,8 @@ ghost use Rattle.ls_shared.specs.Offers.{HasOnce};
 use crossbeam_utils::CachePadded;
 use ls_chron::{Chron, Writer};
 use ls_config::Config;
-use ls_event::{Entry, Event, ItemDef, PublishRefused};
-use ls_live::{LiveItem, PubPass, copied_entry, publish_copied};
+use ls_event::{Event, ItemDef, PublishRefused};
+use ls_live::{CopiedEntry, LiveItem, PubPass, copied_entry, publish_copied};
 use ls_outside::{Gate, Point};
 use ls_register::{Blank, Book, House, Made, View, add_item, wait_for_good};
 use ls_value::NoMemory;
@@ -33,15 +34,17 @@ pub struct Shared<N: House> {
     book: Mutex<Book<N>>,
     items: Vec<CachePadded<Mutex<LiveItem<N>>>>,
     ghost named: { register ≡ N.deed.register },
+    ghost is_set: { config.set ≡ N.deed.set },
     ghost configured: { config.items ≡ N.deed.config },
     ghost counted: { vec_len items ≡ length config.items },
 }
 
 impl<N: House> Shared<N> {
     /// The items of a config with empty histories; they stand first in the register. `N` names the register of the
-    /// blank, and the config's items, which are those that a config may have.
+    /// blank, and the config's adapter set and items. The items are those that a config may have.
     pub fn new(alloc: Global, blank: Blank, config: Config) -> Result<Shared<N>, NoMemory>
         requires register { blank.register ≡ N.deed.register }
+        requires set { config.set ≡ N.deed.set }
         requires config { config.items ≡ N.deed.config }
         requires items { are_items config.items ≡ true }
     {
@@ -60,9 +63,9 @@ impl<N: House> Shared<N> {
         })
     }
 
-    /// An adapter's pass of an item, whose list is the item's history as it stands under the item's lock: the register
-    /// shows that item at the pass's place. The item is one of the config's, by its number from 0; the adapter is 1 to
-    /// 64. It takes no memory, and may wait.
+    /// An adapter's pass of an item, whose list is the item's history as it stands under the item's lock, with texts in
+    /// UTF-8: the register shows that item at the pass's place. The item is one of the config's, by its number from 0;
+    /// the adapter is 1 to 64. It takes no memory, and may wait.
     pub fn pass<R: Wait>(&self, rt: &R, item: u32, adapter: u8) -> PubPass<N>
         requires item { item < length N.deed.config }
         requires some { 1 ≤ adapter }
@@ -70,6 +73,7 @@ impl<N: House> Shared<N> {
         ensures adapter { result.adapter ≡ adapter }
         ensures of { IsPassFor N.deed.config item result }
         ensures shape { IfSome (slice_get N.deed.config item) (λ d. result.shape ≡ shape_of d) }
+        ensures textual { Textual result.list }
     {
         let lock: &Mutex<LiveItem<N>> = &self.items[item as usize];
         let mut live = lock.lock(rt);
@@ -78,7 +82,8 @@ impl<N: House> Shared<N> {
 
     /// The config with which it was made. It takes no lock and no memory.
     pub fn config(&self) -> &Config
-        ensures { result.now.items ≡ N.deed.config }
+        ensures set { result.now.set ≡ N.deed.set }
+        ensures items { result.now.items ≡ N.deed.config }
     {
         &self.config
     }
@@ -93,7 +98,7 @@ impl<N: House> Shared<N> {
 
     /// Adds an event to the history of the pass's item, under the item's lock, and answers its number, from 1. An
     /// update has a cell for each of the item's fields. The pass stays one of that item. It then has the history as it
-    /// stood when the lock was let go, and of that list the answer is true:
+    /// stood when the lock was let go, whose texts are UTF-8, and of that list the answer is true:
     /// - a number: the event stands there at it, and no other one of this adapter has this seq;
     /// - a refusal: it is the first cause that stands against the event behind that list, in the order of
     ///   [`PublishRefused`]. `NoMemory` may come where there is none. `Backlog` never comes.
@@ -115,6 +120,7 @@ impl<N: House> Shared<N> {
         ensures done { IfOk result (λ no. HasOnce pass.new.list no pass.old.adapter seq event) }
         ensures refused { IfErr result
             (IsCause (cause_in pass.old.shape pass.new.list (entry_of pass.old.adapter seq event))) }
+        ensures textual { Textual pass.new.list }
     {
         let copied = copied_entry(self.alloc, pass.adapter(), seq, &event);
         let item = pass.item();
@@ -214,6 +220,7 @@ fn pass_of<N: House, R: Wait>(
     ensures adapter { result.adapter ≡ adapter }
     ensures of { IsPassFor N.deed.config item result }
     ensures shape { IfSome (slice_get N.deed.config item) (λ d. result.shape ≡ shape_of d) }
+    ensures textual { Textual result.list }
 {
     if !live.has_item(item) {
         wait_for_good(rt);
@@ -229,7 +236,7 @@ fn offer_to<N: House, R: Wait>(
     pass: &mut PubPass<N>,
     seq: u64,
     event: Event,
-    copied: &Result<Entry, NoMemory>,
+    copied: &Result<CopiedEntry, NoMemory>,
 ) -> Result<u64, PublishRefused>
     requires register { register.now ≡ N.deed.register }
     requires fields { HasFields pass.old.shape.fields event }
@@ -241,6 +248,7 @@ fn offer_to<N: House, R: Wait>(
     ensures done { IfOk result (λ no. HasOnce pass.new.list no pass.old.adapter seq event) }
     ensures refused { IfErr result
         (IsCause (cause_in pass.old.shape pass.new.list (entry_of pass.old.adapter seq event))) }
+    ensures textual { Textual pass.new.list }
 {
     if !live.is_of(register, pass) {
         wait_for_good(rt);

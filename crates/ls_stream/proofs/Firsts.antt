@@ -1,7 +1,9 @@
 -- What is given first is what the world's turn gives first.
 use Rattle.std.proofs.Common.{◌≡◌, ℕ, Bool, List, [], ◌∷◌, length, true, false, refl, cond, nat_lt, unwrap_or, None, Some}
-use Rattle.ls_world.specs.Steps.{SessionTurn, Gave, Superseded, session_turn, turn_bound, turn_owing, round_turn, next_given, gives_unbound, loop_text}
-use Rattle.ls_world.specs.World.{Item, Life, Alive, Ending, Ended, Session, is_to_loop, is_unsent, is_bound, unbound_at}
+use Rattle.ls_record.specs.Turning.{SessionTurn, Send, Superseded, session_turn, turn_bound, turn_owing, round_turn}
+use Rattle.ls_record.specs.Turning.{next_given, gives_unbound, loop_text}
+use Rattle.ls_record.specs.Records.{Item, Life, Alive, Ending, Closed, Session, is_to_loop, is_unsent, is_bound}
+use Rattle.ls_record.specs.Records.{unbound_at}
 use Rattle.ls_stream.specs.Giving.{given_first, bound_first, owed_first}
 
 owing_is : (now : ℕ) (items : List Item) (s : Session) (owed : List (List ℕ))
@@ -10,8 +12,8 @@ owing_is now items s (text ∷ owed) = refl
 owing_is now items s [] = by_tests (is_to_loop s.streams) (is_unsent s) (round_turn now items s)
   where
     by_tests : (over more : Bool) (rest : SessionTurn)
-        → cond over (record { session = unbound_at now s; gives = Gave loop_text }) (cond more (next_given s) rest)
-        ≡ unwrap_or (cond over (Some (record { session = unbound_at now s; gives = Gave loop_text })) (cond more (Some (next_given s)) None)) rest
+        → cond over (record { session = unbound_at now s; gives = Send loop_text }) (cond more (next_given s) rest)
+        ≡ unwrap_or (cond over (Some (record { session = unbound_at now s; gives = Send loop_text })) (cond more (Some (next_given s)) None)) rest
     by_tests true more rest = refl
     by_tests false true rest = refl
     by_tests false false rest = refl
@@ -19,7 +21,7 @@ owing_is now items s [] = by_tests (is_to_loop s.streams) (is_unsent s) (round_t
 bound_is : (now : ℕ) (items : List Item) (s : Session) (l : Life) → turn_bound now items s l ≡ unwrap_or (bound_first now s l) (round_turn now items s)
 bound_is now items s Alive = owing_is now items s s.owed
 bound_is now items s (Ending code) = refl
-bound_is now items s (Ended code) = refl
+bound_is now items s (Closed code) = refl
 
 pub turn_is : (now epoch : ℕ) (items : List Item) (s : Session)
     → session_turn now items epoch s ≡ unwrap_or (given_first now epoch s) (round_turn now items s)

@@ -6,9 +6,9 @@ use Rattle.std.proofs.lemmas.Fmt.{length-decimal-le}
 use Rattle.ls_form.specs.Decimals.{milli_text, part_text}
 use Rattle.ls_line.specs.declared.line.Line.TheVariants as line
 use Rattle.ls_line.specs.Lines.{text_of_line, then_texts}
-use Rattle.ls_world.specs.Acting.{message_of}
-use Rattle.ls_world.specs.Lines.{limit_text}
-use Rattle.ls_world.specs.Steps.{end_text, loop_text}
+use Rattle.ls_record.specs.Acting.{message_of}
+use Rattle.ls_record.specs.Lines.{limit_text}
+use Rattle.ls_record.specs.Turning.{end_text, loop_text}
 use Rattle.ls_stream.specs.Standing.{IsShort}
 
 -- a decimal, and one of thousandths

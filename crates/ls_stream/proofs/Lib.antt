@@ -5,3 +5,4 @@ pub mod Turns
 pub mod Queues
 pub mod Moving
 pub mod Firsts
+pub mod GivingBack

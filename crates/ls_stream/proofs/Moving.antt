@@ -1,35 +1,47 @@
 -- What is kept of lines stands for another session.
-use Rattle.std.proofs.Common.{◌≡◌, ℕ, List, [], ◌∷◌, ◌++◌, Option, sym, ◌∙◌, ap, subst}
+use Rattle.std.proofs.Common.{◌≡◌, ℕ, List, [], ◌∷◌, ◌++◌, length, Option, true, false, sym, ◌∙◌, ap, subst, arith}
 use Rattle.ls_keep.specs.Keeping.{Numbered, given_up_after, trimmed}
 use Rattle.ls_keep.specs.Kept.{StandsKeep}
 use Rattle.ls_keep.proofs.Trimming.{trimmed_twice}
-use Rattle.ls_world.specs.Lawful.{Each}
-use Rattle.ls_world.specs.Lines.{Line, line_text, texts_behind}
-use Rattle.ls_world.specs.World.{Live, Board, Session, numbered, constrained, bandwidth_text}
-use Rattle.ls_world.proofs.Texts.{texts_step}
-use Rattle.ls_stream.specs.Standing.{StandsLines, NumbersLine, IsRoomier, AreShort, IsShort, numbered_of}
+use Rattle.ls_value.specs.Each.{Each}
+use Rattle.ls_record.specs.Lines.{Line, line_text, texts_behind}
+use Rattle.ls_record.specs.Records.{LiveSlot, Board, Session, numbered, constrained, bandwidth_text, is_alive}
+use Rattle.ls_record.proofs.Texts.{texts_step}
+use Rattle.ls_stream.specs.Standing.{StandsLines, KeepsNone, NumbersLine, IsRoomier, AreShort, IsShort, numbered_of}
 use Rattle.ls_stream.specs.declared.lines.Lines.{Lines as Kept}
 
 -- whatever the round is
-pub lines_round : (k : Kept) (s : Session) (round : List Live) → StandsLines k s
+pub lines_round : (k : Kept) (s : Session) (round : List LiveSlot) → StandsLines k s
     → StandsLines k (record s { board = record { lines = s.board.lines; round = round } })
 lines_round k s round st =
-    record { owed = st.owed; keep = st.keep; stream = st.stream; unbound = st.unbound; life = st.life; end = st.end; short = st.short }
+    record { alive = λ a. record { owed = (st.alive a).owed; keep = (st.alive a).keep }; over = λ d. none_alike d; stream = st.stream; unbound = st.unbound; life = st.life; end = st.end; short = st.short }
+  where
+    none_alike : is_alive s.life ≡ false → KeepsNone k (record s { board = record { lines = s.board.lines; round = round } })
+    none_alike d =
+        let n : KeepsNone k s = st.over d in
+        record { owed = n.owed; texts = n.texts; last = n.last; sent = n.sent; numbered = n.numbered }
 
 -- more room alone
 pub lines_roomier : (k k' : Kept) (s : Session) → StandsLines k s → IsRoomier k k' → StandsLines k' s
 lines_roomier k k' s st is =
     subst (λ (x : Kept). StandsLines x s) (sym is)
     (record {
-      owed = st.owed;
-      keep = record {
-        texts = st.keep.texts;
-        sent = st.keep.sent;
-        given_up = st.keep.given_up;
-        given = st.keep.given;
-        numbered = st.keep.numbered;
-        most = st.keep.most;
-      };
+      alive = λ a.
+          let keep : StandsKeep k.keep (numbered_of s) = (st.alive a).keep in
+          record {
+            owed = (st.alive a).owed;
+            keep = record {
+              texts = keep.texts;
+              sent = keep.sent;
+              given_up = keep.given_up;
+              given = keep.given;
+              numbered = keep.numbered;
+              most = keep.most;
+            };
+          };
+      over = λ d.
+          let none : KeepsNone k s = st.over d in
+          record { owed = none.owed; texts = none.texts; last = none.last; sent = none.sent; numbered = none.numbered };
       stream = st.stream;
       unbound = st.unbound;
       life = st.life;
@@ -46,19 +58,32 @@ lines_roomier k k' s st is =
     })
 
 -- a line is numbered
-abbrev pub with_next : Line → List Live → Board → Board
+abbrev pub with_next : Line → List LiveSlot → Board → Board
 with_next l round b = record { lines = l ∷ b.lines; round = round }
 
-pub lines_numbered : (k k' : Kept) (s : Session) (l : Line) (round : List Live) (text : List ℕ) → StandsLines k s → NumbersLine k text k'
+pub lines_numbered : (k k' : Kept) (s : Session) (l : Line) (round : List LiveSlot) (text : List ℕ) → StandsLines k s → NumbersLine k text k'
     → text ≡ line_text s.board.lines l → IsShort text → StandsLines k' (numbered (with_next l round) s)
 lines_numbered k k' s l round text st n is few =
     let all : texts_behind 0 s.board.lines ++ text ∷ [] ≡ texts_behind 0 (l ∷ s.board.lines) =
     ap (λ (t : List ℕ). texts_behind 0 s.board.lines ++ t ∷ []) is ∙ sym (texts_step l s.board.lines) in
     subst (λ (x : Kept). StandsLines x (numbered (with_next l round) s)) (sym n.rest)
     (record {
-      owed = st.owed;
-      keep = subst (λ (ts : List (List ℕ)). StandsKeep k'.keep (trimmed (record { texts = ts; sent = s.sent; given_up = s.given_up }))) all
-          (n.keep (numbered_of s) st.keep);
+      alive = λ a.
+          record {
+            owed = (st.alive a).owed;
+            keep = subst (λ (ts : List (List ℕ)). StandsKeep k'.keep (trimmed (record { texts = ts; sent = s.sent; given_up = s.given_up }))) all
+                (n.keep (ap is_alive st.life ∙ a) (numbered_of s) (st.alive a).keep);
+          };
+      over = λ d.
+          let before : KeepsNone k s = st.over d in
+          let none : k'.keep.texts ≡ [] = n.none (ap is_alive st.life ∙ d) in
+          record {
+            owed = before.owed;
+            texts = none;
+            last = omega (arith, n.last, ap {B = ℕ} length none, ap {B = ℕ} length before.texts, before.last);
+            sent = before.sent;
+            numbered = omega (arith, before.numbered);
+          };
       stream = st.stream;
       unbound = st.unbound;
       life = st.life;
@@ -67,7 +92,7 @@ lines_numbered k k' s l round text st n is few =
     })
 
 -- two lines are
-pub lines_twice : (k : Kept) (s : Session) (first second : Line) (middle round : List Live)
+pub lines_twice : (k : Kept) (s : Session) (first second : Line) (middle round : List LiveSlot)
     → StandsLines k (numbered (with_next second round) (numbered (with_next first middle) s))
     → StandsLines k (numbered (λ b. record { lines = second ∷ first ∷ b.lines; round = round }) s)
 lines_twice k s first second middle round st =
@@ -95,13 +120,17 @@ each_behind P x [] each is = (is, tt)
 each_behind P x (y ∷ xs) each is = (each.0, each_behind P x xs each.1 is)
 
 -- the session has another bandwidth, and its line is owed
-pub lines_owed : (k k' : Kept) (s : Session) (limit : Option ℕ) (text : List ℕ) → StandsLines k s → k'.owed.items ≡ k.owed.items ++ text ∷ []
+pub lines_owed : (k k' : Kept) (s : Session) (limit : Option ℕ) (text : List ℕ) → StandsLines k s → is_alive s.life ≡ true → k'.owed.items ≡ k.owed.items ++ text ∷ []
     → k' ≡ record k { owed = k'.owed } → text ≡ bandwidth_text limit → IsShort text → StandsLines k' (constrained limit s)
-lines_owed k k' s limit text st owed rest is few =
+lines_owed k k' s limit text st alive owed rest is few =
     subst (λ (x : Kept). StandsLines x (constrained limit s)) (sym rest)
     (record {
-      owed = owed ∙ ap (λ xs. xs ++ text ∷ []) st.owed ∙ ap (λ t. s.owed ++ t ∷ []) is;
-      keep = st.keep;
+      alive = λ a.
+          record {
+            owed = owed ∙ ap (λ xs. xs ++ text ∷ []) (st.alive a).owed ∙ ap (λ t. s.owed ++ t ∷ []) is;
+            keep = (st.alive a).keep;
+          };
+      over = λ d. absurd (let x : true ≡ false = sym alive ∙ d in cc);
       stream = st.stream;
       unbound = st.unbound;
       life = st.life;

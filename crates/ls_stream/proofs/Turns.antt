@@ -3,13 +3,14 @@ use Rattle.std.proofs.Common.{◌≡◌, ◌≤◌, ◌<◌, ℕ, ◌+◌, ◌-�
 use Rattle.std.proofs.Common.{refl, sym, ◌∙◌, ap, subst, arith, cond, option_map}
 use Rattle.std.proofs.lemmas.Bool.{lt-ltb, le-ltb}
 use Rattle.ls_keep.specs.Kept.{given_of}
-use Rattle.ls_world.specs.Lines.{text_at}
-use Rattle.ls_world.specs.World.{Session, Stream, change, with_line, is_unsent, is_to_loop, unbound_at, trimmed, on_stream}
-use Rattle.ls_world.specs.Steps.{SessionTurn, Gave, loop_text, next_given}
-use Rattle.ls_world.specs.Lawful.{Each}
-use Rattle.ls_world.proofs.Texts.{text_at_is}
+use Rattle.ls_record.specs.Lines.{text_at}
+use Rattle.ls_record.specs.Records.{Session, Stream, change, with_line, is_unsent, is_to_loop, unbound_at, trimmed}
+use Rattle.ls_record.specs.Records.{on_stream, is_alive}
+use Rattle.ls_record.specs.Turning.{SessionTurn, Send, loop_text, next_given}
+use Rattle.ls_value.specs.Each.{Each}
+use Rattle.ls_record.proofs.Texts.{text_at_is}
 use Rattle.ls_stream.specs.Giving.{owed_first}
-use Rattle.ls_stream.specs.Standing.{StandsLines, StandsStream, GivesFirst, GivesNumbered, AreShort, IsShort, after_line, numbered_of, current_text, last_line}
+use Rattle.ls_stream.specs.Standing.{StandsLines, KeepsLines, KeepsNone, StandsStream, GivesFirst, GivesNumbered, AreShort, IsShort, after_line, numbered_of, current_text, last_line}
 use Rattle.ls_stream.specs.declared.lines.Lines.{Lines as Kept}
 use Rattle.ls_stream.specs.declared.lines.StreamTurn.TheVariants as turn
 use Rattle.ls_stream.specs.declared.stream.Stream.{Stream as KeptStream}
@@ -38,26 +39,27 @@ abbrev next_of : Session → Session
 next_of s = trimmed (on_stream (with_line (s.sent + 1) (text_at s.board.lines (s.sent + 1))) (record s { sent = s.sent + 1 }))
 
 next_is : (s : Session) (now : ℕ) → s.owed ≡ [] → is_to_loop s.streams ≡ false → is_unsent s ≡ true
-    → owed_first now s s.owed ≡ Some (record { session = next_of s; gives = Gave (text_at s.board.lines (s.sent + 1)) })
+    → owed_first now s s.owed ≡ Some (record { session = next_of s; gives = Send (text_at s.board.lines (s.sent + 1)) })
 next_is s now none goes more =
     ap (owed_first now s) none
-    ∙ ap (λ (b : Bool). cond b (Some (record { session = unbound_at now s; gives = Gave loop_text })) (cond (is_unsent s) (Some (next_given s)) None)) goes
+    ∙ ap (λ (b : Bool). cond b (Some (record { session = unbound_at now s; gives = Send loop_text })) (cond (is_unsent s) (Some (next_given s)) None)) goes
     ∙ ap (λ (b : Bool). cond {A = Option SessionTurn} b
-    (Some (record { session = cond b (next_of s) s; gives = Gave (text_at s.board.lines (s.sent + 1)) })) None) more
+    (Some (record { session = cond b (next_of s) s; gives = Send (text_at s.board.lines (s.sent + 1)) })) None) more
 
-pub numbered_given : (k k' : Kept) (s : Session) (now : ℕ) → StandsLines k s → k.owed.items ≡ [] → is_to_loop s.streams ≡ false
+pub numbered_given : (k k' : Kept) (s : Session) (now : ℕ) → StandsLines k s → is_alive s.life ≡ true → k.owed.items ≡ [] → is_to_loop s.streams ≡ false
     → k.keep.sent < last_line k → GivesNumbered k k' → GivesFirst (owed_first now s s.owed) s turn.Line k'
-numbered_given k k' s now st none goes more gives =
-    let low : s.sent < length s.board.lines = omega (arith, more, st.keep.sent, lines_last k s st) in
+numbered_given k k' s now st alive none goes more gives =
+    let kept : KeepsLines k s = st.alive alive in
+    let low : s.sent < length s.board.lines = omega (arith, more, kept.keep.sent, lines_last k s st) in
     let text : given_of k'.keep ≡ text_at s.board.lines (s.sent + 1) =
-    gives.text (numbered_of s) st.keep ∙ sym (text_at_is s.board.lines (s.sent + 1) (omega arith) (omega (arith, low))) in
+    gives.text (numbered_of s) kept.keep ∙ sym (text_at_is s.board.lines (s.sent + 1) (omega arith) (omega (arith, low))) in
     subst (λ (o : Option SessionTurn). GivesFirst o s turn.Line k')
-    (sym (next_is s now (sym st.owed ∙ none) goes (lt-ltb s.sent (length s.board.lines) low))) (
+    (sym (next_is s now (sym kept.owed ∙ none) goes (lt-ltb s.sent (length s.board.lines) low))) (
       (refl, ap current_text gives.rest ∙ text),
       subst (λ (x : Kept). StandsLines x (next_of s)) (sym gives.rest)
           (record {
-            owed = st.owed;
-            keep = gives.keep (numbered_of s) st.keep;
+            alive = λ a. record { owed = kept.owed; keep = gives.keep (numbered_of s) kept.keep };
+            over = λ d. absurd (let x : true ≡ false = sym alive ∙ d in cc);
             stream = line_counted k.stream s.streams (s.sent + 1) (length (given_of k'.keep)) (text_at s.board.lines (s.sent + 1)) st.stream (ap length text);
             unbound = st.unbound;
             life = st.life;
@@ -67,13 +69,14 @@ numbered_given k k' s now st none goes more gives =
     )
 
 -- where nothing is owed, or over, or unsent, nothing is given
-pub nothing_given : (k : Kept) (s : Session) (now : ℕ) → StandsLines k s → k.owed.items ≡ [] → is_to_loop s.streams ≡ false
+pub nothing_given : (k : Kept) (s : Session) (now : ℕ) → StandsLines k s → is_alive s.life ≡ true → k.owed.items ≡ [] → is_to_loop s.streams ≡ false
     → last_line k ≤ k.keep.sent → GivesFirst (owed_first now s s.owed) s turn.Nothing k
-nothing_given k s now st none goes less =
-    let high : length s.board.lines ≤ s.sent = omega (arith, less, st.keep.sent, lines_last k s st) in
+nothing_given k s now st alive none goes less =
+    let kept : KeepsLines k s = st.alive alive in
+    let high : length s.board.lines ≤ s.sent = omega (arith, less, kept.keep.sent, lines_last k s st) in
     subst (λ (o : Option SessionTurn). GivesFirst o s turn.Nothing k)
-    (sym (ap (owed_first now s) (sym st.owed ∙ none)
-    ∙ ap (λ (b : Bool). cond b (Some (record { session = unbound_at now s; gives = Gave loop_text })) (cond (is_unsent s) (Some (next_given s)) None)) goes
+    (sym (ap (owed_first now s) (sym kept.owed ∙ none)
+    ∙ ap (λ (b : Bool). cond b (Some (record { session = unbound_at now s; gives = Send loop_text })) (cond (is_unsent s) (Some (next_given s)) None)) goes
     ∙ ap (λ (b : Bool). cond {A = Option SessionTurn} b (Some (next_given s)) None) (le-ltb s.sent (length s.board.lines) high)))
     (refl, st)
 
@@ -82,8 +85,10 @@ pub owed_alike : (k k₁ : Kept) (s : Session) → StandsLines k s → k₁.owed
 owed_alike k k₁ s st same is =
     subst (λ (x : Kept). StandsLines x s) (sym is)
     (record {
-      owed = same ∙ st.owed;
-      keep = st.keep;
+      alive = λ a. record { owed = same ∙ (st.alive a).owed; keep = (st.alive a).keep };
+      over = λ d.
+          let none : KeepsNone k s = st.over d in
+          record { owed = same ∙ none.owed; texts = none.texts; last = none.last; sent = none.sent; numbered = none.numbered };
       stream = st.stream;
       unbound = st.unbound;
       life = st.life;

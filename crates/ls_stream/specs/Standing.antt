@@ -1,15 +1,16 @@
 -- What is kept of a session's lines and streams, and the session that it stands for, whatever its slots are.
 use Rattle.std.specs.Prelude.{◌≡◌, ◌≤◌, ℕ, ◌+◌, ◌-◌, List, [], ◌∷◌, length, Option, None, Some, option_map, unwrap_or}
+use Rattle.std.specs.Prelude.{true, false}
 use Rattle.ls_value.specs.declared.limits.TheConstants.{GREATEST_NUMBER}
 use Rattle.ls_keep.specs.Keeping.{Numbered, pushed, marked, resumed}
-use Rattle.ls_keep.specs.Kept.{Kept as KeptNumbered, StandsKeep, last_of, given_of, text_of}
+use Rattle.ls_keep.specs.Kept.{KeptLines as KeptNumbered, StandsKeep, last_of, given_of, text_of}
 use Rattle.ls_request.specs.declared.request.Bind.{Bind}
-use Rattle.ls_world.specs.Lines.{texts_behind}
-use Rattle.ls_world.specs.World.{Life, Alive, Ending, Ended, Session, Stream, timed_out}
-use Rattle.ls_world.specs.Acting.{destroyed}
-use Rattle.ls_world.specs.Lawful.{Each}
-use Rattle.ls_world.specs.Steps.{SessionTurn, TurnGives, Gave, Idle, NotDue, Spent, Superseded, Unbound, Over}
-use Rattle.ls_world.specs.Steps.{loop_text, end_text}
+use Rattle.ls_record.specs.Lines.{texts_behind}
+use Rattle.ls_record.specs.Records.{Life, Alive, Ending, Closed, Session, Stream, timed_out, is_alive}
+use Rattle.ls_record.specs.Acting.{destroyed}
+use Rattle.ls_value.specs.Each.{Each}
+use Rattle.ls_record.specs.Turning.{SessionTurn, TurnGives, Send, Idle, NotDue, Spent, Superseded, Unbound, Ended}
+use Rattle.ls_record.specs.Turning.{loop_text, end_text}
 use Rattle.ls_line.specs.declared.limits.TheConstants.{LONGEST_TEXT}
 use Rattle.ls_stream.specs.declared.lines.Current.{Current}
 use Rattle.ls_stream.specs.declared.lines.Current.TheVariants as current
@@ -24,7 +25,7 @@ use Rattle.ls_stream.specs.declared.stream.Stream.{Stream as KeptStream}
 abbrev pub life_of : KeptLife → Life
 life_of life.Alive = Alive
 life_of (life.Ending code) = Ending code
-life_of (life.Ended code) = Ended code
+life_of (life.Ended code) = Closed code
 
 -- the line that was given last: one that isn't numbered, the numbered one that was given last, or LOOP
 abbrev pub text_by : Kept → Current → List ℕ
@@ -40,7 +41,7 @@ abbrev pub KeepsEnd : List ℕ → List ℕ → List ℕ → Life → Type 0
 KeepsEnd for_destroyed for_timed_out end Alive =
     (for_destroyed ≡ end_text destroyed) × (for_timed_out ≡ end_text timed_out)
 KeepsEnd for_destroyed for_timed_out end (Ending code) = end ≡ end_text code
-KeepsEnd for_destroyed for_timed_out end (Ended code) = Unit {0}
+KeepsEnd for_destroyed for_timed_out end (Closed code) = Unit {0}
 
 -- the numbered lines of a session, as texts
 abbrev pub numbered_of : Session → Numbered
@@ -71,11 +72,24 @@ pub record AreShort (k : Kept) : Type 0 where
   pub timed_out : IsShort k.timed_out
   pub end : IsShort k.end
 
--- the lines that are kept stand for a session: what is owed, the numbered lines behind the given-up number, its newest
--- stream, the tick since which none is bound, and whether it has ended
-pub record StandsLines (k : Kept) (s : Session) : Type 0 where
+-- what is kept of a session that hasn't ended: what is owed, and the numbered lines after the given-up number
+pub record KeepsLines (k : Kept) (s : Session) : Type 0 where
   pub owed : k.owed.items ≡ s.owed
   pub keep : StandsKeep k.keep (numbered_of s)
+
+-- of one that has ended none of these is kept: only how many lines there are, and how many were given
+pub record KeepsNone (k : Kept) (s : Session) : Type 0 where
+  pub owed : k.owed.items ≡ []
+  pub texts : k.keep.texts ≡ []
+  pub last : k.keep.given_up ≡ length s.board.lines
+  pub sent : k.sent ≡ s.sent
+  pub numbered : s.sent ≤ length s.board.lines
+
+-- what is kept stands for a session: its lines, its newest stream, the tick since which none is bound, and whether it
+-- has ended
+pub record StandsLines (k : Kept) (s : Session) : Type 0 where
+  pub alive : is_alive s.life ≡ true → KeepsLines k s
+  pub over : is_alive s.life ≡ false → KeepsNone k s
   pub stream : StandsStream k.stream s.streams
   pub unbound : k.unbound ≡ s.unbound
   pub life : life_of k.life ≡ s.life
@@ -98,9 +112,28 @@ pub record IsReadyFor (lines : ℕ) (k : Kept) : Type 0 where
 abbrev pub IsRoomier : Kept → Kept → Type 0
 IsRoomier old new = new ≡ record old { keep = record old.keep { spare = room_of new } }
 
--- a line is numbered, and waits to be given; all else stays
-pub record NumbersLine (old : Kept) (text : List ℕ) (new : Kept) : Type 0 where
+-- a line is numbered and kept; all else stays
+pub record PushesLine (old : Kept) (text : List ℕ) (new : Kept) : Type 0 where
   pub keep : (n : Numbered) → StandsKeep old.keep n → StandsKeep new.keep (pushed text n)
+  pub last : last_line new ≡ last_line old + 1
+  pub room : room_of old ≤ room_of new + 1
+  pub short : AreShort old → IsShort text → AreShort new
+  pub rest : new ≡ record old { keep = new.keep }
+
+-- where the session has ended, no line is kept any more, and their number stays; all else does
+pub record ClearsEnded (old new : Kept) : Type 0 where
+  pub alive : is_alive (life_of old.life) ≡ true → new ≡ old
+  pub over : is_alive (life_of old.life) ≡ false → new.keep.texts ≡ []
+  pub last : last_line new ≡ last_line old
+  pub room : room_of old ≤ room_of new
+  pub short : AreShort old → AreShort new
+  pub rest : new ≡ record old { keep = new.keep }
+
+-- a line is numbered, and waits to be given; where the session has ended, no line is kept; all else stays
+pub record NumbersLine (old : Kept) (text : List ℕ) (new : Kept) : Type 0 where
+  pub keep : is_alive (life_of old.life) ≡ true → (n : Numbered) → StandsKeep old.keep n
+      → StandsKeep new.keep (pushed text n)
+  pub none : is_alive (life_of old.life) ≡ false → new.keep.texts ≡ []
   pub last : last_line new ≡ last_line old + 1
   pub room : room_of old ≤ room_of new + 1
   pub short : AreShort old → IsShort text → AreShort new
@@ -119,13 +152,13 @@ pub record GivesNumbered (old new : Kept) : Type 0 where
 
 -- what is answered to a turn that gives this
 abbrev pub AnswersGives : TurnGives → StreamTurn → Kept → Type 0
-AnswersGives (Gave text) t k = (t ≡ turn.Line) × (current_text k ≡ text)
+AnswersGives (Send text) t k = (t ≡ turn.Line) × (current_text k ≡ text)
 AnswersGives Idle t k = ⊥
 AnswersGives (NotDue tick) t k = ⊥
 AnswersGives Spent t k = ⊥
 AnswersGives (Superseded epoch) t k = t ≡ turn.Superseded epoch
 AnswersGives Unbound t k = t ≡ turn.Unbound
-AnswersGives (Over code) t k = t ≡ turn.Ended code
+AnswersGives (Ended code) t k = t ≡ turn.Ended code
 
 -- what is answered to a turn by what it gives before the round is asked, and what is kept then: where that is nothing,
 -- it stands for the same session

@@ -3,8 +3,8 @@ ghost use Rattle.std.specs.Prelude.{◌≡◌, ◌+◌, ℕ, true, None, length,
 ghost use Rattle.ls_request.specs.Ranges.{BindFits};
 ghost use Rattle.ls_keep.specs.Keeping.{Numbered, resumed};
 ghost use Rattle.ls_keep.specs.Kept.{StandsKeep, last_of};
-ghost use Rattle.ls_world.specs.Acting.{bind_code, may_resume};
-ghost use Rattle.ls_world.specs.World.{Session, rebound, forced, unbound_at};
+ghost use Rattle.ls_record.specs.Acting.{bind_code, may_resume};
+ghost use Rattle.ls_record.specs.Records.{Session, rebound, forced, unbound_at, is_alive};
 ghost use Rattle.ls_stream.specs.Standing.{StandsLines, MayBind, MayResume, ResumesAt};
 
 use crate::lines::Lines;
@@ -16,10 +16,11 @@ use ls_value::{GREATEST_NUMBER, NoMemory};
 use std::collections::VecDeque;
 
 impl Lines {
-    /// Why a new stream is refused: 4 where the line behind the count that the client tells isn't kept, or the count is
-    /// beyond the last line; 74 where no epoch is left.
+    /// Why a new stream of a session that hasn't ended is refused: 4 where the line after the count that the client tells
+    /// isn't kept, or the count is beyond the last line; 74 where no epoch is left.
     pub fn code_of_bind(&self, bind: &Bind) -> Option<u16>
-        ensures code { (s : Session) → StandsLines self.now s → result ≡ bind_code s bind.now }
+        ensures code { (s : Session) → StandsLines self.now s → is_alive s.life ≡ true
+            → result ≡ bind_code s bind.now }
         ensures may { result ≡ None → MayBind self.now bind.now }
     {
         if self.may_resume(bind.recover) {
@@ -35,7 +36,8 @@ impl Lines {
 
     /// Whether the next line behind a count is kept, or is yet to be numbered; without a count it is.
     fn may_resume(&self, recover: Option<u64>) -> bool
-        ensures stands { (s : Session) → StandsLines self.now s → result ≡ may_resume s recover }
+        ensures stands { (s : Session) → StandsLines self.now s → is_alive s.life ≡ true
+            → result ≡ may_resume s recover }
         ensures may { result ≡ true → MayResume self.now.keep recover }
     {
         match recover {
@@ -44,12 +46,13 @@ impl Lines {
         }
     }
 
-    /// A new stream: the next numbered line that is given is the one behind the count that the client tells, and else
-    /// the one behind the line given last. Its own first lines alone are owed to it, with the session's bandwidth in
-    /// thousandths of a kbit per second. Its epoch is answered.
+    /// A new stream of a session that hasn't ended: the next numbered line that is given is the one after the count that
+    /// the client tells, and else the one after the line given last. Its own first lines alone are owed to it, with the
+    /// session's bandwidth in thousandths of a kbit per second. Its epoch is answered.
     pub fn bind(&mut self, bind: &Bind, limit: Option<u64>) -> Result<u64, NoMemory>
         requires may { MayBind self.old bind.now }
-        ensures ok { IfOk result (λ epoch. (s : Session) → StandsLines self.old s → limit ≡ s.rate.limit
+        ensures ok { IfOk result (λ epoch. (s : Session) → StandsLines self.old s → is_alive s.life ≡ true
+            → limit ≡ s.rate.limit
             → (epoch ≡ length s.streams + 1) × StandsLines self.new (rebound bind.now.session bind.now s)) }
         ensures err { OnErr result (self.new ≡ self.old) }
     {

@@ -1,7 +1,7 @@
 //! The laws of what is given on a stream. Each function's contract is a law; its body is empty.
 ghost use Rattle.std.specs.Prelude.{◌≡◌, ℕ, List, unwrap_or};
-ghost use Rattle.ls_world.specs.Steps.{session_turn, round_turn};
-ghost use Rattle.ls_world.specs.World.{Item, Session};
+ghost use Rattle.ls_record.specs.Turning.{session_turn, round_turn};
+ghost use Rattle.ls_record.specs.Records.{Item, Session};
 ghost use Rattle.ls_stream.specs.Giving.{given_first};
 
 /// A session's turn in the world is what is given first, and else what its round gives.

@@ -1,14 +1,15 @@
 //! The lines of a session's streams that are kept, and whether the session has ended (TLCP 2.1, streams).
-ghost use Rattle.std.specs.Prelude.{◌≡◌, ◌≤◌, ◌+◌, ◌++◌, ◌∷◌, ◌&&◌, ◌⊎◌, ℕ, [], true, is_some, nat_lt, nat_le, length};
+ghost use Rattle.std.specs.Prelude.{◌≡◌, ◌≤◌, ◌+◌, ◌++◌, ◌∷◌, ◌&&◌, ◌⊎◌, ℕ, [], true, false, is_some, nat_lt, nat_le};
+ghost use Rattle.std.specs.Prelude.{length};
 ghost use Rattle.std.specs.Prelude.{IfOk, OnOk, OnErr, IfSome};
-ghost use Rattle.ls_world.specs.Acting.{destroyed, unsent};
-ghost use Rattle.ls_world.specs.Lines.{text_at};
-ghost use Rattle.ls_world.specs.World.{Session, opened, ended, is_alive, timed_out};
+ghost use Rattle.ls_record.specs.Acting.{destroyed, unsent};
+ghost use Rattle.ls_record.specs.Lines.{text_at};
+ghost use Rattle.ls_record.specs.Records.{Session, opened, ended, is_alive, timed_out};
 ghost use Rattle.ls_line.specs.declared.limits.TheConstants.{LONGEST_TEXT};
-ghost use Rattle.ls_stream.specs.Standing.{StandsLines, NumbersLine, IsReadyFor, current_text, life_of, last_line};
-ghost use Rattle.ls_stream.specs.Standing.{room_of, IsRoomier};
+ghost use Rattle.ls_stream.specs.Standing.{StandsLines, NumbersLine, IsReadyFor, PushesLine, current_text, life_of};
+ghost use Rattle.ls_stream.specs.Standing.{last_line, room_of, IsRoomier, AreShort, ClearsEnded};
 
-use crate::ending::{destroyed_text, timed_out_text};
+use crate::ending::end_text;
 use crate::opening::opening;
 use crate::stream::Stream;
 use ls_keep::Keep;
@@ -66,13 +67,15 @@ pub enum StreamTurn {
 
 /// The lines that are owed to a session's newest stream, the numbered lines that are kept, what is kept of that stream,
 /// the tick since which none is bound, the line given last where it isn't numbered, which line that was, whether the
-/// session has ended, and the texts of END: for each cause while it is alive, and then for the one that ended it. It
-/// keeps the allocator that its constructor took.
+/// session has ended, and the texts of END: for each cause while it is alive, and then for the one that ended it. Of a
+/// session that has ended no owed or numbered line is kept, and `sent` tells how many were given. It keeps the allocator
+/// that its constructor took.
 #[derive(Drop)]
 pub struct Lines {
     pub(crate) alloc: Global,
     pub(crate) owed: VecDeque<Bytes>,
     pub(crate) keep: Keep,
+    pub(crate) sent: u64,
     pub(crate) stream: Stream,
     pub(crate) unbound: Option<u64>,
     pub(crate) given: Bytes,
@@ -91,13 +94,14 @@ impl Lines {
             (opened id create.now.keepalive create.now.bandwidth create.now.length)) }
     {
         let owed = VecDeque::from_vec(opening(alloc, id, create.keepalive, create.bandwidth)?);
-        let destroyed = destroyed_text(alloc)?;
-        let timed_out = timed_out_text(alloc)?;
+        let destroyed = end_text(alloc, DESTROYED)?;
+        let timed_out = end_text(alloc, TIMED_OUT)?;
         let keep = Keep::new(alloc)?;
         Ok(Lines {
             alloc,
             owed,
             keep,
+            sent: 0,
             stream: Stream::new(1, create.length),
             unbound: None,
             given: Bytes::from_vec(Vec::new(alloc)),
@@ -118,12 +122,32 @@ impl Lines {
         Ok(())
     }
 
-    /// A line is numbered, and waits to be given. No memory is taken.
+    /// A line is numbered, and waits to be given. In a session that has ended it isn't kept. No memory is taken.
     pub fn number(&mut self, text: Bytes)
         requires { IsReadyFor 1 self.old }
         ensures { NumbersLine self.old text self.new }
     {
+        self.push(text);
+        self.clear_ended();
+    }
+
+    /// A line is numbered.
+    fn push(&mut self, text: Bytes)
+        requires { IsReadyFor 1 self.old }
+        ensures { PushesLine self.old text self.new }
+    {
         self.keep.push(text);
+    }
+
+    /// No line is kept of a session that has ended.
+    fn clear_ended(&mut self)
+        ensures { ClearsEnded self.old self.new }
+    {
+        match self.life {
+            Life::Alive => {}
+            Life::Ending(_) => self.keep.clear(),
+            Life::Ended(_) => self.keep.clear(),
+        }
     }
 
     /// A line that isn't numbered is owed to the stream, behind the others. After `NoMemory` the lines are as before.
@@ -137,19 +161,38 @@ impl Lines {
         Ok(())
     }
 
-    /// The session ends for the cause of a code, [`DESTROYED`] or [`TIMED_OUT`]: END is the next line that is given. No
-    /// memory is taken.
+    /// The session ends for the cause of a code, [`DESTROYED`] or [`TIMED_OUT`]: END is the next line that is given, and
+    /// the memory of all other lines is given back. No memory is taken.
     pub fn end(&mut self, code: u16)
         requires { (code ≡ destroyed) ⊎ (code ≡ timed_out) }
         ensures { (s : Session) → StandsLines self.old s → is_alive s.life ≡ true
             → StandsLines self.new (ended code s) }
     {
+        self.give_back();
         self.life = Life::Ending(code);
         if code == DESTROYED {
             swap(&mut self.end, &mut self.destroyed);
         } else {
             swap(&mut self.end, &mut self.timed_out);
         }
+    }
+
+    /// The memory of the owed and the numbered lines is given back. No memory is taken.
+    fn give_back(&mut self)
+        ensures owed { self.new.owed.items ≡ [] }
+        ensures texts { self.new.keep.texts ≡ [] }
+        ensures last { self.new.keep.given_up ≡ last_line self.old }
+        ensures freed { self.new.keep.freed ≡ [] }
+        ensures sent { self.new.sent ≡ self.old.keep.sent }
+        ensures rest { self.new ≡ record self.old {
+          owed = self.new.owed;
+          keep = self.new.keep;
+          sent = self.new.sent;
+        } }
+    {
+        self.sent = self.keep.sent();
+        self.keep.close(self.alloc);
+        self.owed = VecDeque::new(self.alloc);
     }
 
     /// The line that the last turn gave, without CR LF.
@@ -164,11 +207,12 @@ impl Lines {
         }
     }
 
-    /// The text of a numbered line that is kept: `None` exactly where the line was given up, or isn't numbered.
+    /// The text of a numbered line that is kept: `None` exactly where the line was given up, or isn't numbered, or the
+    /// session has ended.
     pub fn line(&self, n: u64) -> Option<&[u8]>
         ensures text { IfSome result (λ t. (s : Session) → StandsLines self.now s → t.now ≡ text_at s.board.lines n) }
         ensures kept { (s : Session) → StandsLines self.now s
-            → is_some result ≡ (nat_lt s.given_up n && nat_le n (length s.board.lines)) }
+            → is_some result ≡ (is_alive s.life && (nat_lt s.given_up n && nat_le n (length s.board.lines))) }
     {
         self.keep.get(n)
     }
@@ -177,7 +221,11 @@ impl Lines {
     pub fn sent(&self) -> u64
         ensures { (s : Session) → StandsLines self.now s → result ≡ s.sent }
     {
-        self.keep.sent()
+        match self.life {
+            Life::Alive => self.keep.sent(),
+            Life::Ending(_) => self.sent,
+            Life::Ended(_) => self.sent,
+        }
     }
 
     /// How many lines were numbered.
@@ -192,12 +240,12 @@ impl Lines {
     pub fn unsent(&self) -> u64
         ensures { (s : Session) → StandsLines self.now s → result ≡ unsent s }
     {
-        self.keep.last().saturating_sub(self.keep.sent())
+        self.keep.last().saturating_sub(self.sent())
     }
 
-    /// How many lines are owed to the stream that aren't numbered.
+    /// How many lines are owed to the stream that aren't numbered, where the session hasn't ended.
     pub fn owed(&self) -> usize
-        ensures { (s : Session) → StandsLines self.now s → result ≡ length s.owed }
+        ensures { (s : Session) → StandsLines self.now s → is_alive s.life ≡ true → result ≡ length s.owed }
     {
         self.owed.len()
     }

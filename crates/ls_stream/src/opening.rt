@@ -4,9 +4,9 @@ ghost use Rattle.std.specs.Fmt.{decimal};
 ghost use Rattle.ls_form.specs.Decimals.{milli_text};
 ghost use Rattle.ls_line.specs.declared.line.Line.TheVariants as line;
 ghost use Rattle.ls_line.specs.Lines.{text_of_line};
-ghost use Rattle.ls_world.specs.Lawful.{Each};
-ghost use Rattle.ls_world.specs.Lines.{limit_text};
-ghost use Rattle.ls_world.specs.World.{opening_lines, bandwidth_text, count_lines};
+ghost use Rattle.ls_value.specs.Each.{Each};
+ghost use Rattle.ls_record.specs.Lines.{limit_text};
+ghost use Rattle.ls_record.specs.Records.{opening_lines, bandwidth_text, count_lines};
 ghost use Rattle.ls_stream.specs.Standing.{IsShort};
 
 use ls_form::print_milli;

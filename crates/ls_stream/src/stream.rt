@@ -1,7 +1,7 @@
 //! What is kept of a session's newest stream.
 ghost use Rattle.std.specs.Prelude.{◌≡◌, ◌+◌, ◌-◌, List, false, option_map};
-ghost use Rattle.ls_world.specs.World.{is_to_loop};
-ghost use Rattle.ls_world.specs.World.{Stream as WorldStream};
+ghost use Rattle.ls_record.specs.Records.{is_to_loop};
+ghost use Rattle.ls_record.specs.Records.{Stream as WorldStream};
 ghost use Rattle.ls_stream.specs.Standing.{StandsStream};
 
 /// A stream: its epoch, how many bytes may still be given on it before its content length is reached, if it has one,

@@ -1,8 +1,8 @@
 //! Which line is given next on a stream (TLCP 2.1, streams).
 ghost use Rattle.std.specs.Prelude.{◌≡◌, ◌<◌, length};
 ghost use Rattle.ls_keep.specs.Kept.{last_of};
-ghost use Rattle.ls_world.specs.Steps.{gives_unbound};
-ghost use Rattle.ls_world.specs.World.{Session};
+ghost use Rattle.ls_record.specs.Turning.{gives_unbound};
+ghost use Rattle.ls_record.specs.Records.{Session, Alive};
 ghost use Rattle.ls_stream.specs.Giving.{given_first, bound_first, owed_first};
 ghost use Rattle.ls_stream.specs.Standing.{StandsLines, GivesFirst, GivesNumbered, AnswersGives, after_line};
 ghost use Rattle.ls_stream.specs.declared.lines.Life.TheVariants as life;
@@ -58,7 +58,8 @@ impl Lines {
 
     /// What is given on the stream of a session that hasn't ended.
     fn turn_alive(&mut self, now: u64) -> StreamTurn
-        ensures { (s : Session) → StandsLines self.old s → GivesFirst (owed_first now s s.owed) s result self.new }
+        ensures { (s : Session) → StandsLines self.old s → s.life ≡ Alive
+            → GivesFirst (owed_first now s s.owed) s result self.new }
     {
         if let Some(text) = self.owed.pop_front() {
             self.give(text);

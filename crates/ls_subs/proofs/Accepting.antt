@@ -9,15 +9,15 @@ use Rattle.ls_budget.specs.Kept.{StandsFrequency}
 use Rattle.ls_value.specs.declared.limits.TheConstants.{GREATEST_TICK}
 use Rattle.ls_event.specs.declared.event.Taken.{Taken}
 use Rattle.ls_mirror.specs.Client.{What}
-use Rattle.ls_world.specs.Came.{Came, came_by}
-use Rattle.ls_world.specs.Lines.{Line, came, last_row, is_update, updated}
-use Rattle.ls_world.specs.World.{Live, change, is_at, live_at}
+use Rattle.ls_record.specs.Came.{Came, came_by}
+use Rattle.ls_record.specs.Lines.{Line, came, last_row, is_update, updated}
+use Rattle.ls_record.specs.Records.{LiveSlot, change, is_at, live_at}
 use Rattle.ls_subs.specs.declared.plan.PlanItem.{PlanItem}
 use Rattle.ls_subs.specs.declared.subs.Subs.{Subs}
 use Rattle.ls_turns.specs.declared.slot_ref.SlotRef.{SlotRef}
 use Rattle.ls_subs.specs.Kept.{items_of, item_at, kept_at, has_sub, count_of, heard, heard_at, spent_by, line_of, AreAlike}
 use Rattle.ls_subs.specs.Subscription.{StandsSubscribed, what_comes, after_what, after_line, line_if, item_line, Appended, Appends}
-use Rattle.ls_subs.specs.declared.told.Told.TheVariants as tells
+use Rattle.ls_subs.specs.declared.cut_line.CutLine.TheVariants as tells
 use Rattle.ls_subs.specs.Standing.{ref_of, StandsKept, StandsKeptAt, StandsSubs, Suits, AskedSlot, IsAsked, what_of, passed_live, passed_at, passed_back}
 use Rattle.ls_subs.specs.Standing.{told_of, AcceptedAs}
 use Rattle.ls_subs.proofs.Subscriptions.{comes_is, plan_stays, allowed_stays, stands_silent, stands_line}
@@ -90,19 +90,19 @@ heard_has k k' sub place now t h q = ap is_some (h.items q) ∙ by_test (sub == 
     by_test true o = is_some_map (heard_at place now t) o
     by_test false o = refl
 
-is_at_same : (q rank : ℕ) (v : Live) → ((v.sub == q) && (v.rank == rank)) ≡ is_at q rank v
+is_at_same : (q rank : ℕ) (v : LiveSlot) → ((v.sub == q) && (v.rank == rank)) ≡ is_at q rank v
 is_at_same q rank v = ap (λ b. b && (v.rank == rank)) (eqb_swap v.sub q) ∙ ap (λ b. (q == v.sub) && b) (eqb_swap v.rank rank)
 
 -- it stands for the round in which its slot was moved, by lines that bring others what they had
-moved_stands : (k k' : Subs) (lines lines' : List Line) (round round' : List Live) (v w : Live) (now : ℕ) (t : Taken) (p : PlanItem)
+moved_stands : (k k' : Subs) (lines lines' : List Line) (round round' : List LiveSlot) (v w : LiveSlot) (now : ℕ) (t : Taken) (p : PlanItem)
     → Heard k k' v.sub v.rank now t → Moved round round' v w → StandsSubs k lines round → kept_at k v.sub v.rank ≡ Some p → StandsKept (heard now t p) lines' w
-    → ((u : Live) → is_at u.sub u.rank v ≡ false → BringAlike lines lines' u) → StandsSubs k' lines' round'
+    → ((u : LiveSlot) → is_at u.sub u.rank v ≡ false → BringAlike lines lines' u) → StandsSubs k' lines' round'
 moved_stands k k' lines lines' round round' v w now t p h moved s is stands others =
     record {
       apart = moved.apart;
       at = λ q rank.
           subst (λ (o : Option PlanItem). StandsKeptAt o lines' (live_at q rank round')) (sym (kept_heard k k' v.sub v.rank now t h q rank))
-          (subst (λ (x : Option Live). StandsKeptAt
+          (subst (λ (x : Option LiveSlot). StandsKeptAt
           (cond ((v.sub == q) && (v.rank == rank)) (option_map (heard now t) (kept_at k q rank)) (kept_at k q rank)) lines' x)
           (sym (moved.at q rank))
           (subst (λ b. StandsKeptAt (cond b (option_map (heard now t) (kept_at k q rank)) (kept_at k q rank)) lines'
@@ -124,10 +124,10 @@ moved_stands k k' lines lines' round round' v w now t p h moved s is stands othe
         others u (subst (λ n. is_at n u.rank v ≡ false) is_u.0 (subst (λ n. is_at q n v ≡ false) is_u.1 other))) (s.at q rank)
 
 -- what is kept of the slot of a place of the round
-kept_of : (k : Subs) (lines : List Line) (round : List Live) (place : ℕ) (v : Live) → StandsSubs k lines round → slice_get round place ≡ Some v
+kept_of : (k : Subs) (lines : List Line) (round : List LiveSlot) (place : ℕ) (v : LiveSlot) → StandsSubs k lines round → slice_get round place ≡ Some v
     → (p : PlanItem) × ((kept_at k v.sub v.rank ≡ Some p) × StandsKept p lines v)
 kept_of k lines round place v s found = by_kept (kept_at k v.sub v.rank) refl
-    (subst (λ (x : Option Live). StandsKeptAt (kept_at k v.sub v.rank) lines x) (found_live place round v s.apart found) (s.at v.sub v.rank))
+    (subst (λ (x : Option LiveSlot). StandsKeptAt (kept_at k v.sub v.rank) lines x) (found_live place round v s.apart found) (s.at v.sub v.rank))
   where
     by_kept : (o : Option PlanItem) → kept_at k v.sub v.rank ≡ o → StandsKeptAt o lines (Some v)
         → (p : PlanItem) × ((kept_at k v.sub v.rank ≡ Some p) × StandsKept p lines v)
@@ -135,7 +135,7 @@ kept_of k lines round place v s found = by_kept (kept_at k v.sub v.rank) refl
     by_kept (Some p) is st = (p, (is, st))
 
 -- and of the one of a name
-pub kept_of_ref : (k : Subs) (lines : List Line) (round : List Live) (place : ℕ) (v : Live) (slot : SlotRef) → StandsSubs k lines round
+pub kept_of_ref : (k : Subs) (lines : List Line) (round : List LiveSlot) (place : ℕ) (v : LiveSlot) (slot : SlotRef) → StandsSubs k lines round
     → slice_get round place ≡ Some v → ref_of v ≡ slot → (p : PlanItem) × ((kept_at k slot.sub slot.place ≡ Some p) × StandsKept p lines v)
 kept_of_ref k lines round place v slot s found named =
     subst (λ (r : SlotRef). (p : PlanItem) × ((kept_at k r.sub r.place ≡ Some p) × StandsKept p lines v)) named (kept_of k lines round place v s found)

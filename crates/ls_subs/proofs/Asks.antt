@@ -17,13 +17,15 @@ use Rattle.ls_event.specs.declared.event.Mode.TheVariants as mode
 use Rattle.ls_event.specs.Shapes.{shape_of}
 use Rattle.ls_mirror.specs.declared.command.KeyPlaces.{KeyPlaces}
 use Rattle.ls_request.specs.declared.request.Add.{Add}
-use Rattle.ls_world.specs.Acting.{are_among, places_among, are_names, names_of, is_group, group_of, is_schema, shows_keys, ask_of, asks_of}
-use Rattle.ls_world.specs.Cutting.{Ask}
-use Rattle.ls_world.specs.Lines.{Begins, Configures, line_text}
-use Rattle.ls_world.specs.Lawful.{Each}
-use Rattle.ls_world.specs.Tables.{place_of_field, keys_shown_at}
+use Rattle.ls_record.specs.Acting.{are_among, places_among, are_names, names_of, is_group, group_of, is_schema}
+use Rattle.ls_record.specs.Acting.{shows_keys, ask_of, asks_of}
+use Rattle.ls_record.specs.Cutting.{Ask}
+use Rattle.ls_record.specs.Lines.{Begins, Configures, line_text}
+use Rattle.ls_value.specs.Each.{Each}
+use Rattle.ls_record.specs.Tables.{place_of_field, keys_shown_at}
 use Rattle.std.specs.Option.{ForSome}
-use Rattle.ls_world.specs.World.{shape_in, fields_in, keys_in, is_filtered, are_filtered, frequency_in, frequency_of}
+use Rattle.ls_record.specs.Records.{shape_in, fields_in, keys_in, is_filtered, are_filtered, frequency_in}
+use Rattle.ls_record.specs.Records.{frequency_of}
 use Rattle.ls_subs.specs.declared.plan.PlanItem.{PlanItem}
 use Rattle.ls_subs.specs.Subscribed.{Subscribed}
 use Rattle.ls_subs.specs.Plans.{followed_of, IsPlanItem, ArePlanItems, first_keys, keys_of_asks}

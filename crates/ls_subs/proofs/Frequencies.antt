@@ -3,7 +3,7 @@ use Rattle.std.proofs.Common.{◌≡◌, ◌≤◌, ℕ, refl, subst, cond, Bool
 use Rattle.ls_budget.specs.Kept.{KeptFrequency, StandsFrequency}
 use Rattle.ls_value.specs.declared.limits.TheConstants.{GREATEST_TICK}
 use Rattle.ls_mirror.specs.Client.{What}
-use Rattle.ls_world.specs.Lines.{is_update}
+use Rattle.ls_record.specs.Lines.{is_update}
 use Rattle.ls_subs.specs.Kept.{spent_by}
 
 -- another greatest frequency

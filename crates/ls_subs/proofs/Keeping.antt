@@ -4,11 +4,11 @@ use Rattle.std.proofs.Common.{◌||◌, Option, Some, None, is_some, if◌then�
 use Rattle.std.specs.Prelude.{option_and_then}
 use Rattle.std.proofs.lemmas.Bool.{eqb-true, eq-eqb, ne_eqb}
 use Rattle.ls_mirror.specs.declared.command.KeyPlaces.{KeyPlaces}
-use Rattle.ls_world.specs.Came.{Came}
+use Rattle.ls_record.specs.Came.{Came}
 use Rattle.ls_budget.specs.Kept.{StandsFrequency}
-use Rattle.ls_world.specs.Lines.{Line, Begins, Ends, Configures, came, updated}
-use Rattle.ls_world.specs.World.{Live, is_at, is_used, live_at, without}
-use Rattle.ls_world.specs.Acting.{subscriptions}
+use Rattle.ls_record.specs.Lines.{Line, Begins, Ends, Configures, Answers, MessageOutcome, came, updated}
+use Rattle.ls_record.specs.Records.{LiveSlot, is_at, is_used, live_at, without}
+use Rattle.ls_record.specs.Acting.{subscriptions}
 use Rattle.ls_subs.specs.declared.plan.PlanItem.{PlanItem}
 use Rattle.ls_subs.specs.declared.subs.Subs.{Subs}
 use Rattle.ls_subs.specs.Kept.{items_of, item_at, kept_at, has_sub, count_of, with_slots, AreAlike}
@@ -69,12 +69,12 @@ pub changed_here : (k k' : Subs) (sub q : ℕ) (o : Option (List PlanItem)) → 
 changed_here k k' sub q o changed same = changed q ∙ ap (λ b. cond b o (items_of k q)) same
 
 -- other lines bring a slot as much, and its last update is at the same tick
-abbrev pub BringAlike : List Line → List Line → Live → Type 0
+abbrev pub BringAlike : List Line → List Line → LiveSlot → Type 0
 BringAlike lines lines' v = (came v.sub v.rank lines' ≡ came v.sub v.rank lines) × (updated v.sub v.rank lines' ≡ updated v.sub v.rank lines)
 
 -- an item stands for its slot by them
-pub stands_lines : (o : Option PlanItem) (lines lines' : List Line) (w : Option Live)
-    → ((v : Live) → w ≡ Some v → BringAlike lines lines' v) → StandsKeptAt o lines w → StandsKeptAt o lines' w
+pub stands_lines : (o : Option PlanItem) (lines lines' : List Line) (w : Option LiveSlot)
+    → ((v : LiveSlot) → w ≡ Some v → BringAlike lines lines' v) → StandsKeptAt o lines w → StandsKeptAt o lines' w
 stands_lines None lines lines' None same s = tt
 stands_lines None lines lines' (Some v) same s = s
 stands_lines (Some p) lines lines' None same s = s
@@ -92,14 +92,14 @@ stands_lines (Some p) lines lines' (Some v) same s =
     }
 
 -- whether there is a slot
-pub stands_some : (o : Option PlanItem) (lines : List Line) (w : Option Live) → StandsKeptAt o lines w → is_some o ≡ is_some w
+pub stands_some : (o : Option PlanItem) (lines : List Line) (w : Option LiveSlot) → StandsKeptAt o lines w → is_some o ≡ is_some w
 stands_some None lines None s = refl
 stands_some None lines (Some v) s = absurd s
 stands_some (Some p) lines None s = absurd s
 stands_some (Some p) lines (Some v) s = refl
 
 -- what is kept of others that are alike
-pub alike_stands : (k k' : Subs) → AreAlike k k' → (lines : List Line) (round : List Live) → StandsSubs k lines round → StandsSubs k' lines round
+pub alike_stands : (k k' : Subs) → AreAlike k k' → (lines : List Line) (round : List LiveSlot) → StandsSubs k lines round → StandsSubs k' lines round
 alike_stands k k' alike lines round s =
     record {
       apart = s.apart;
@@ -107,6 +107,17 @@ alike_stands k k' alike lines round s =
           (sym (alike.0 q)) (s.at q rank);
       used = λ q. ap is_some (alike.0 q) ∙ s.used q;
       count = alike.1 ∙ s.count;
+    }
+
+-- what became of a client's message is of no subscription
+pub answered_stands : (k : Subs) (outcome : MessageOutcome) (lines : List Line) (round : List LiveSlot) → StandsSubs k lines round
+    → StandsSubs k (Answers outcome ∷ lines) round
+answered_stands k outcome lines round s =
+    record {
+      apart = s.apart;
+      at = λ q rank. stands_lines (kept_at k q rank) lines (Answers outcome ∷ lines) (live_at q rank round) (λ v is. (refl, refl)) (s.at q rank);
+      used = s.used;
+      count = s.count;
     }
 
 -- a live subscription has a first item
@@ -121,8 +132,8 @@ some_value : {A : Type 0} (o : Option A) → is_some o ≡ true → (x : A) × (
 some_value None h = absurd (let x : false ≡ true = h in cc)
 some_value (Some x) h = (x, refl)
 
-pub first_slot : (k : Subs) (lines : List Line) (round : List Live) (sub : ℕ) → StandsSubs k lines round → is_used sub round ≡ true
-    → (v : Live) × (live_at sub 1 round ≡ Some v)
+pub first_slot : (k : Subs) (lines : List Line) (round : List LiveSlot) (sub : ℕ) → StandsSubs k lines round → is_used sub round ≡ true
+    → (v : LiveSlot) × (live_at sub 1 round ≡ Some v)
 first_slot k lines round sub s used =
     let some = used_rank sub round used in
     let kept : is_some (kept_at k sub some.0) ≡ true = stands_some (kept_at k sub some.0) lines (live_at sub some.0 round) (s.at sub some.0)
@@ -131,14 +142,14 @@ first_slot k lines round sub s used =
     some_value (live_at sub 1 round) (sym (stands_some (kept_at k sub 1) lines (live_at sub 1 round) (s.at sub 1)) ∙ first)
 
 -- lines with which another subscription begins or ends
-others_alike : (sub : ℕ) (lines : List Line) (v : Live) → (sub == v.sub) ≡ false
+others_alike : (sub : ℕ) (lines : List Line) (v : LiveSlot) → (sub == v.sub) ≡ false
     → (cond (sub == v.sub) [] (came v.sub v.rank lines) ≡ came v.sub v.rank lines)
     × (cond (sub == v.sub) None (updated v.sub v.rank lines) ≡ updated v.sub v.rank lines)
 others_alike sub lines v other =
     (ap (λ b. cond b [] (came v.sub v.rank lines)) other, ap (λ b. cond b None (updated v.sub v.rank lines)) other)
 
 -- a subscription is removed
-removed_at : (k k' : Subs) (sub : ℕ) (lines : List Line) (round : List Live) → Changed k k' sub None → StandsSubs k lines round → (q rank : ℕ)
+removed_at : (k k' : Subs) (sub : ℕ) (lines : List Line) (round : List LiveSlot) → Changed k k' sub None → StandsSubs k lines round → (q rank : ℕ)
     → StandsKeptAt (kept_at k' q rank) (Ends sub ∷ lines) (live_at q rank (without sub round))
 removed_at k k' sub lines round changed s q rank = by_test (sub == q) refl
   where
@@ -146,15 +157,15 @@ removed_at k k' sub lines round changed s q rank = by_test (sub == q) refl
     by_test true same =
         subst (λ (o : Option PlanItem). StandsKeptAt o (Ends sub ∷ lines) (live_at q rank (without sub round)))
         (sym (ap (option_and_then (λ items. item_at items rank)) (changed_here k k' sub q None changed same)))
-        (subst (λ (w : Option Live). StandsKeptAt None (Ends sub ∷ lines) w) (sym (without_gone sub q rank round same)) tt)
+        (subst (λ (w : Option LiveSlot). StandsKeptAt None (Ends sub ∷ lines) w) (sym (without_gone sub q rank round same)) tt)
     by_test false other =
         subst (λ (o : Option PlanItem). StandsKeptAt o (Ends sub ∷ lines) (live_at q rank (without sub round)))
         (sym (ap (option_and_then (λ items. item_at items rank)) (changed_other k k' sub q None changed other)))
-        (subst (λ (w : Option Live). StandsKeptAt (kept_at k q rank) (Ends sub ∷ lines) w) (sym (without_other sub q rank round other))
+        (subst (λ (w : Option LiveSlot). StandsKeptAt (kept_at k q rank) (Ends sub ∷ lines) w) (sym (without_other sub q rank round other))
         (stands_lines (kept_at k q rank) lines (Ends sub ∷ lines) (live_at q rank round)
         (λ v e. others_alike sub lines v (subst (λ n. (sub == n) ≡ false) (found_is q rank round v e).0 other)) (s.at q rank)))
 
-removed_count : (k k' : Subs) (sub : ℕ) (lines : List Line) (round : List Live) → count_of k' + (if has_sub k sub then 1 else 0) ≡ count_of k
+removed_count : (k k' : Subs) (sub : ℕ) (lines : List Line) (round : List LiveSlot) → count_of k' + (if has_sub k sub then 1 else 0) ≡ count_of k
     → StandsSubs k lines round → (b : Bool) → is_used sub round ≡ b → count_of k' ≡ subscriptions (without sub round)
 removed_count k k' sub lines round count s true used =
     let first = first_slot k lines round sub s used in
@@ -167,7 +178,7 @@ removed_count k k' sub lines round count s false used =
     omega (arith, none, less, s.count)
 
 pub removed_stands : (k k' : Subs) (sub : ℕ) → Changed k k' sub None → count_of k' + (if has_sub k sub then 1 else 0) ≡ count_of k
-    → (lines : List Line) (round : List Live) → StandsSubs k lines round → StandsSubs k' (Ends sub ∷ lines) (without sub round)
+    → (lines : List Line) (round : List LiveSlot) → StandsSubs k lines round → StandsSubs k' (Ends sub ∷ lines) (without sub round)
 removed_stands k k' sub changed count lines round s =
     record {
       apart = apart_without sub round s.apart;
@@ -181,7 +192,7 @@ removed_stands k k' sub changed count lines round s =
     is_some_cond false o = refl
 
 -- a subscription begins: its slots are those of its items
-joined_slots : (sub rank : ℕ) (items : List PlanItem) (slots : List ℕ) (vs : List Live) → AreRanked sub rank items → JoinAll items slots vs
+joined_slots : (sub rank : ℕ) (items : List PlanItem) (slots : List ℕ) (vs : List LiveSlot) → AreRanked sub rank items → JoinAll items slots vs
     → AreSlots sub rank vs
 joined_slots sub rank [] [] [] ranked join = tt
 joined_slots sub rank [] [] (v ∷ vs) ranked join = absurd join
@@ -196,7 +207,7 @@ abbrev pub BringNothing : ℕ → List Line → Type 0
 BringNothing sub lines = (r : ℕ) → (came sub r lines ≡ []) × (updated sub r lines ≡ None)
 
 -- each item stands for its slot by them
-joined_at : (sub rank : ℕ) (items : List PlanItem) (slots : List ℕ) (vs : List Live) (lines : List Line) → AreRanked sub rank items → JoinAll items slots vs
+joined_at : (sub rank : ℕ) (items : List PlanItem) (slots : List ℕ) (vs : List LiveSlot) (lines : List Line) → AreRanked sub rank items → JoinAll items slots vs
     → BringNothing sub lines → (i : ℕ) → StandsKeptAt (slice_get (with_slots items slots) i) lines (live_at sub (rank + i) vs)
 joined_at sub rank [] [] [] lines ranked join nothing i = tt
 joined_at sub rank [] [] (v ∷ vs) lines ranked join nothing i = absurd join
@@ -230,10 +241,10 @@ joined_at sub rank (p ∷ items) (n ∷ slots) (v ∷ vs) lines ranked join noth
     (joined_at sub (rank + 1) items slots vs lines ranked.2 join.1 nothing i))
 
 -- the first is of rank 1
-joined_place : (sub : ℕ) (items : List PlanItem) (slots : List ℕ) (vs : List Live) (lines : List Line) → AreRanked sub 1 items → JoinAll items slots vs
+joined_place : (sub : ℕ) (items : List PlanItem) (slots : List ℕ) (vs : List LiveSlot) (lines : List Line) → AreRanked sub 1 items → JoinAll items slots vs
     → BringNothing sub lines → (rank : ℕ) → StandsKeptAt (item_at (with_slots items slots) rank) lines (live_at sub rank vs)
 joined_place sub items slots vs lines ranked join nothing zero =
-    subst (λ (w : Option Live). StandsKeptAt None lines w)
+    subst (λ (w : Option LiveSlot). StandsKeptAt None lines w)
     (sym (slots_below sub sub 0 1 vs (joined_slots sub 1 items slots vs ranked join) (omega arith))) tt
 joined_place sub items slots vs lines ranked join nothing (suc i) =
     let next : 1 + i ≡ suc i = omega arith in
@@ -241,11 +252,11 @@ joined_place sub items slots vs lines ranked join nothing (suc i) =
     (joined_at sub 1 items slots vs lines ranked join nothing i)
 
 -- a subscription that isn't live has no slot
-unused_here : (k : Subs) (sub q : ℕ) (lines : List Line) (round : List Live) → StandsSubs k lines round → has_sub k sub ≡ false → (sub == q) ≡ true
+unused_here : (k : Subs) (sub q : ℕ) (lines : List Line) (round : List LiveSlot) → StandsSubs k lines round → has_sub k sub ≡ false → (sub == q) ≡ true
     → is_used q round ≡ false
 unused_here k sub q lines round s new same = subst (λ n. is_used n round ≡ false) (eqb-true sub q same) (sym (s.used sub) ∙ new)
 
-finished_at : (k k' : Subs) (sub : ℕ) (items : List PlanItem) (slots : List ℕ) (lines : List Line) (round vs : List Live) (filtered : Bool)
+finished_at : (k k' : Subs) (sub : ℕ) (items : List PlanItem) (slots : List ℕ) (lines : List Line) (round vs : List LiveSlot) (filtered : Bool)
     (most fields : ℕ) (keys : Option KeyPlaces) (frequency : Option ℕ) → Changed k k' sub (Some (with_slots items slots)) → has_sub k sub ≡ false
     → AreRanked sub 1 items → StandsSubs k lines round → JoinAll items slots vs
     → (q rank : ℕ) → StandsKeptAt (kept_at k' q rank) (Configures sub frequency filtered ∷ Begins sub most fields keys ∷ lines) (live_at q rank (round ++ vs))
@@ -259,7 +270,7 @@ finished_at k k' sub items slots lines round vs filtered most fields keys freque
         let here : q ≡ sub = sym (eqb-true sub q same) in
         subst (λ (o : Option PlanItem). StandsKeptAt o all (live_at q rank (round ++ vs)))
         (sym (ap (option_and_then (λ xs. item_at xs rank)) (changed_here k k' sub q (Some (with_slots items slots)) changed same)))
-        (subst (λ (w : Option Live). StandsKeptAt (item_at (with_slots items slots) rank) all w)
+        (subst (λ (w : Option LiveSlot). StandsKeptAt (item_at (with_slots items slots) rank) all w)
         (sym (behind_none q rank round vs (unused_none q rank round (unused_here k sub q lines round s new same))))
         (subst (λ n. StandsKeptAt (item_at (with_slots items slots) rank) all (live_at n rank vs)) (sym here)
         (joined_place sub items slots vs all ranked join
@@ -267,12 +278,12 @@ finished_at k k' sub items slots lines round vs filtered most fields keys freque
     by_test false other =
         subst (λ (o : Option PlanItem). StandsKeptAt o all (live_at q rank (round ++ vs)))
         (sym (ap (option_and_then (λ xs. item_at xs rank)) (changed_other k k' sub q (Some (with_slots items slots)) changed other)))
-        (subst (λ (w : Option Live). StandsKeptAt (kept_at k q rank) all w)
+        (subst (λ (w : Option LiveSlot). StandsKeptAt (kept_at k q rank) all w)
         (sym (before_none q rank round vs (unused_none q rank vs (slots_unused sub q 1 vs (joined_slots sub 1 items slots vs ranked join) other))))
         (stands_lines (kept_at k q rank) lines all (live_at q rank round)
         (λ v e. others_alike sub lines v (subst (λ n. (sub == n) ≡ false) (found_is q rank round v e).0 other)) (s.at q rank)))
 
-finished_used : (sub q : ℕ) (items : List PlanItem) (slots : List ℕ) (round vs : List Live) (o : Option (List PlanItem)) → 1 ≤ length items
+finished_used : (sub q : ℕ) (items : List PlanItem) (slots : List ℕ) (round vs : List LiveSlot) (o : Option (List PlanItem)) → 1 ≤ length items
     → AreRanked sub 1 items → JoinAll items slots vs → is_some o ≡ is_used q round → (b : Bool) → (sub == q) ≡ b
     → is_some (cond b (Some (with_slots items slots)) o) ≡ is_used q (round ++ vs)
 finished_used sub q items slots round vs o some ranked join is true same =
@@ -282,7 +293,7 @@ finished_used sub q items slots round vs o some ranked join is true same =
     or_true true = refl
     or_true false = refl
 
-    used_first : (items : List PlanItem) (slots : List ℕ) (vs : List Live) → 1 ≤ length items → AreRanked sub 1 items → JoinAll items slots vs
+    used_first : (items : List PlanItem) (slots : List ℕ) (vs : List LiveSlot) → 1 ≤ length items → AreRanked sub 1 items → JoinAll items slots vs
         → is_used q vs ≡ true
     used_first [] slots vs l r j = absurd (omega (arith, l))
     used_first (p ∷ items) [] vs l r j = absurd j
@@ -297,7 +308,7 @@ finished_used sub q items slots round vs o some ranked join is false other =
     or_none true = refl
     or_none false = refl
 
-joined_one : (sub : ℕ) (items : List PlanItem) (slots : List ℕ) (vs : List Live) → 1 ≤ length items → AreRanked sub 1 items → JoinAll items slots vs
+joined_one : (sub : ℕ) (items : List PlanItem) (slots : List ℕ) (vs : List LiveSlot) → 1 ≤ length items → AreRanked sub 1 items → JoinAll items slots vs
     → subscriptions vs ≡ 1
 joined_one sub [] slots vs some ranked join = absurd (omega (arith, some))
 joined_one sub (p ∷ items) [] vs some ranked join = absurd join
@@ -306,7 +317,7 @@ joined_one sub (p ∷ items) (n ∷ slots) (v ∷ vs) some ranked join = slots_o
 
 pub finished_stands : (k k' : Subs) (sub : ℕ) (items : List PlanItem) (slots : List ℕ) → Changed k k' sub (Some (with_slots items slots))
     → count_of k' ≡ count_of k + 1 → has_sub k sub ≡ false → IsReady sub items
-    → (lines : List Line) (round vs : List Live) (filtered : Bool) (most fields : ℕ) (keys : Option KeyPlaces) (frequency : Option ℕ) → StandsSubs k lines round
+    → (lines : List Line) (round vs : List LiveSlot) (filtered : Bool) (most fields : ℕ) (keys : Option KeyPlaces) (frequency : Option ℕ) → StandsSubs k lines round
     → JoinAll items slots vs → StandsSubs k' (Configures sub frequency filtered ∷ Begins sub most fields keys ∷ lines) (round ++ vs)
 finished_stands k k' sub items slots changed count new ready lines round vs filtered most fields keys frequency s join =
     let slots_are : AreSlots sub 1 vs = joined_slots sub 1 items slots vs ready.ranked join in

@@ -10,7 +10,7 @@ use Rattle.ls_value.specs.Values.{text_eq, value_at}
 use Rattle.ls_mirror.specs.Client.{What, Row, Lost, Cleared, End}
 use Rattle.ls_mirror.specs.Keys.{KeyTable}
 use Rattle.ls_mirror.proofs.KeyRows.{get_inserted, get_removed}
-use Rattle.ls_world.specs.Tables.{text_or_empty, kept_of}
+use Rattle.ls_record.specs.Tables.{text_or_empty, kept_of}
 use Rattle.ls_subs.specs.Subscription.{table_set, keyed_with, HoldsKeys}
 
 get_set : (table : KeyTable) (a : List ℕ) (o : Option (List Value)) (k : List ℕ) → finite.get (table_set table a o) k

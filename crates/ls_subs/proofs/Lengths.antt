@@ -10,7 +10,7 @@ use Rattle.ls_value.proofs.Rows.{applied_length, projected_length}
 use Rattle.ls_event.specs.declared.event.Taken.{Taken}
 use Rattle.ls_event.specs.declared.event.Taken.TheVariants as taken
 use Rattle.ls_mirror.specs.Client.{What, Row, Lost, Cleared, End, row_or}
-use Rattle.ls_world.specs.Tables.{what_of_key, projected_row}
+use Rattle.ls_record.specs.Tables.{what_of_key, projected_row}
 use Rattle.ls_subs.specs.Subscribed.{Subscribed}
 use Rattle.ls_subs.specs.Subscription.{row_or_nulls, what_by_key, what_comes}
 

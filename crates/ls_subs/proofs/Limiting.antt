@@ -4,8 +4,8 @@ use Rattle.std.proofs.Common.{is_some, option_map}
 use Rattle.std.specs.Prelude.{option_and_then}
 use Rattle.std.proofs.lemmas.Bool.{eqb-true}
 use Rattle.std.proofs.lemmas.Option.{slice_get-map}
-use Rattle.ls_world.specs.Lines.{Line, Configures}
-use Rattle.ls_world.specs.World.{Live, is_of, live_at, with_frequency}
+use Rattle.ls_record.specs.Lines.{Line, Configures}
+use Rattle.ls_record.specs.Records.{LiveSlot, is_of, live_at, with_frequency}
 use Rattle.ls_subs.specs.declared.plan.PlanItem.{PlanItem}
 use Rattle.ls_subs.specs.declared.subs.Subs.{Subs}
 use Rattle.ls_subs.specs.Kept.{items_of, item_at, kept_at, has_sub, count_of, limited}
@@ -50,7 +50,7 @@ limited_has k k' sub f l q = ap is_some (l.items q) ∙ by_test (sub == q) (item
     by_test false o = refl
 
 -- a slot keeps its name
-named : (sub : ℕ) (f : Option ℕ) (v : Live) → SameName v (with_frequency sub f v)
+named : (sub : ℕ) (f : Option ℕ) (v : LiveSlot) → SameName v (with_frequency sub f v)
 named sub f v = by_test (is_of sub v)
   where
     by_test : (b : Bool) → SameName v (cond b (record v { frequency = f }) v)
@@ -58,8 +58,8 @@ named sub f v = by_test (is_of sub v)
     by_test false = record { sub = refl; rank = refl }
 
 -- what is kept of it stands for it, by lines that bring it what they brought
-kept_stands : (sub q : ℕ) (f told : Option ℕ) (filtered : Bool) (lines : List Line) (o : Option PlanItem) (w : Option Live)
-    → ((v : Live) → w ≡ Some v → q ≡ v.sub) → StandsKeptAt o lines w
+kept_stands : (sub q : ℕ) (f told : Option ℕ) (filtered : Bool) (lines : List Line) (o : Option PlanItem) (w : Option LiveSlot)
+    → ((v : LiveSlot) → w ≡ Some v → q ≡ v.sub) → StandsKeptAt o lines w
     → StandsKeptAt (cond (sub == q) (option_map (limited f) o) o) (Configures sub told filtered ∷ lines) (option_map (with_frequency sub f) w)
 kept_stands sub q f told filtered lines None None is s = by_test (sub == q)
   where
@@ -99,7 +99,7 @@ kept_stands sub q f told filtered lines (Some p) (Some v) is s =
           client = s.client;
         }
 
-pub limited_subs : (k k' : Subs) (sub : ℕ) (f : Option ℕ) → Limited k k' sub f → (lines : List Line) (round : List Live) (told : Option ℕ) (filtered : Bool)
+pub limited_subs : (k k' : Subs) (sub : ℕ) (f : Option ℕ) → Limited k k' sub f → (lines : List Line) (round : List LiveSlot) (told : Option ℕ) (filtered : Bool)
     → StandsSubs k lines round → StandsSubs k' (Configures sub told filtered ∷ lines) (map (with_frequency sub f) round)
 limited_subs k k' sub f l lines round told filtered s =
     mapped_stands (with_frequency sub f) (named sub f) k k' lines (Configures sub told filtered ∷ lines) round (limited_has k k' sub f l) l.count

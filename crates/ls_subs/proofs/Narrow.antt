@@ -6,9 +6,9 @@ use Rattle.std.specs.List.{list_any}
 use Rattle.std.proofs.lemmas.List.{length-map}
 use Rattle.ls_value.specs.Values.{text_eq, place_of, are_distinct}
 use Rattle.ls_value.proofs.Distinct.{text_eq_turned}
-use Rattle.ls_world.specs.Acting.{are_among, places_among}
-use Rattle.ls_world.specs.Light.{AreOnce, IsNarrow}
-use Rattle.ls_world.proofs.Naming.{name_differs}
+use Rattle.ls_record.specs.Acting.{are_among, places_among}
+use Rattle.ls_record.specs.Light.{AreOnce, IsNarrow}
+use Rattle.ls_record.proofs.Naming.{name_differs}
 use Rattle.ls_subs.proofs.Rounds.{and_true}
 
 -- the name of another is none of these

@@ -1,7 +1,7 @@
 -- The item at a place, as it takes a cut.
 use Rattle.std.proofs.Common.{◌≡◌, ℕ, zero, suc, ◌-◌, ◌≤◌, List, [], ◌∷◌, length, refl, sym, ◌∙◌, ap, arith, subst, Some, slice_get, slice_set}
 use Rattle.ls_event.specs.declared.event.Taken.{Taken}
-use Rattle.ls_world.specs.World.{change}
+use Rattle.ls_record.specs.Records.{change}
 use Rattle.ls_subs.specs.declared.plan.PlanItem.{PlanItem}
 use Rattle.ls_subs.specs.Kept.{item_at, heard, heard_at}
 

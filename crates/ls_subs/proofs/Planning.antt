@@ -9,11 +9,11 @@ use Rattle.ls_request.specs.declared.request.Add.{Add}
 use Rattle.ls_request.specs.Ranges.{AddFits, IsOrdinal}
 use Rattle.std.specs.List.{list_all}
 use Rattle.ls_value.specs.Values.{are_distinct}
-use Rattle.ls_world.specs.Acting.{are_among, is_group, group_of, is_allowed, is_schema, asks_of}
-use Rattle.ls_world.specs.Cases.{first_code}
-use Rattle.ls_world.specs.Lawful.{Each}
-use Rattle.ls_world.specs.Light.{IsNarrow}
-use Rattle.ls_world.specs.World.{shape_in, fields_in}
+use Rattle.ls_record.specs.Acting.{are_among, is_group, group_of, is_allowed, is_schema, asks_of}
+use Rattle.ls_record.specs.Cases.{first_code}
+use Rattle.ls_value.specs.Each.{Each}
+use Rattle.ls_record.specs.Light.{IsNarrow}
+use Rattle.ls_record.specs.Records.{shape_in, fields_in}
 use Rattle.ls_subs.specs.declared.plan.PlanItem.{PlanItem}
 use Rattle.ls_subs.specs.Plans.{form_code, ArePlanItems, AreRanked, IsReady, MayJoin}
 use Rattle.ls_subs.proofs.Rounds.{and_true}

@@ -12,13 +12,13 @@ use Rattle.ls_event.specs.declared.event.Taken.TheVariants as taken
 use Rattle.ls_event.specs.Joining.{is_mode_of}
 use Rattle.ls_event.specs.Slots.{Plan, Slot, passed}
 use Rattle.ls_update.specs.Reading.{HasFields}
-use Rattle.ls_world.proofs.Short.{row_is_wide}
+use Rattle.ls_record.proofs.Short.{row_is_wide}
 use Rattle.ls_mirror.specs.Client.{What, Row, Lost, Cleared, End, row_or}
-use Rattle.ls_world.specs.Came.{Came, came_by, whats}
-use Rattle.ls_world.specs.Lines.{last_row}
-use Rattle.ls_world.specs.Tables.{what_of_key, table_at, projected_row}
-use Rattle.ls_world.specs.Cutting.{Wanted, client_row, what_of_change, schema_of, what_of_cut}
-use Rattle.ls_world.specs.World.{keys_in}
+use Rattle.ls_record.specs.Came.{Came, came_by, whats}
+use Rattle.ls_record.specs.Lines.{last_row}
+use Rattle.ls_record.specs.Tables.{what_of_key, table_at, projected_row}
+use Rattle.ls_record.specs.Cutting.{Wanted, client_row, what_of_change, schema_of, what_of_cut}
+use Rattle.ls_record.specs.Records.{keys_in}
 use Rattle.ls_subs.specs.Subscribed.{Subscribed}
 use Rattle.ls_subs.specs.Subscription.{row_of, what_by_key, what_comes, after_what, HoldsKeys, HasStarted, StandsSubscribed}
 use Rattle.ls_subs.specs.Standing.{Suits}

@@ -6,8 +6,8 @@ use Rattle.indexmap.specs.IndexMap.{get, spare, index_map_len}
 use Rattle.ls_event.specs.declared.event.Taken.{Taken}
 use Rattle.ls_budget.specs.Kept.{KeptFrequency}
 use Rattle.ls_mirror.specs.Client.{What}
-use Rattle.ls_world.specs.Lines.{is_update}
-use Rattle.ls_world.specs.World.{change}
+use Rattle.ls_record.specs.Lines.{is_update}
+use Rattle.ls_record.specs.Records.{change}
 use Rattle.ls_subs.specs.Subscription.{what_comes, after_line, line_if, ItemLine}
 use Rattle.ls_subs.specs.declared.plan.PlanItem.{PlanItem}
 use Rattle.ls_turns.specs.declared.slot_ref.SlotRef.{SlotRef}

@@ -9,13 +9,13 @@ use Rattle.ls_event.specs.Joining.{rows_asked, is_mode_of}
 use Rattle.ls_event.specs.declared.limits.TheConstants.{MOST_BUFFER_SIZE}
 use Rattle.ls_mirror.specs.declared.command.KeyPlaces.{KeyPlaces}
 use Rattle.ls_request.specs.declared.request.Add.{Add}
-use Rattle.ls_world.specs.Cases.{first_code}
-use Rattle.ls_world.specs.Cutting.{Ask}
-use Rattle.ls_world.specs.Light.{IsNarrow}
-use Rattle.ls_world.specs.Lines.{Begins, Configures, line_text}
-use Rattle.ls_world.specs.Tables.{keys_shown_at}
-use Rattle.ls_world.specs.World.{Live, shape_in, first_of, keys_in, are_filtered, frequency_of}
-use Rattle.ls_world.specs.Acting.{is_group, group_of, is_allowed, is_schema, asks_of}
+use Rattle.ls_record.specs.Cases.{first_code}
+use Rattle.ls_record.specs.Cutting.{Ask}
+use Rattle.ls_record.specs.Light.{IsNarrow}
+use Rattle.ls_record.specs.Lines.{Begins, Configures, line_text}
+use Rattle.ls_record.specs.Tables.{keys_shown_at}
+use Rattle.ls_record.specs.Records.{LiveSlot, shape_in, first_of, keys_in, are_filtered, frequency_of}
+use Rattle.ls_record.specs.Acting.{is_group, group_of, is_allowed, is_schema, asks_of}
 use Rattle.ls_subs.specs.declared.plan.AddPlan.{AddPlan}
 use Rattle.ls_subs.specs.declared.plan.PlanItem.{PlanItem}
 use Rattle.ls_subs.specs.declared.subs.Subs.{Subs}
@@ -110,7 +110,7 @@ pub record IsReady (sub : ℕ) (items : List PlanItem) : Type 0 where
 
 -- a slot joined as an item of a plan asks, with a number; the mode is allowed on the item, and the schema shows a field
 -- once
-pub record JoinsAs (p : PlanItem) (n : ℕ) (v : Live) : Type 0 where
+pub record JoinsAs (p : PlanItem) (n : ℕ) (v : LiveSlot) : Type 0 where
   pub sub : v.sub ≡ p.followed.sub
   pub rank : v.rank ≡ p.followed.rank
   pub item : v.item ≡ p.item
@@ -122,7 +122,7 @@ pub record JoinsAs (p : PlanItem) (n : ℕ) (v : Live) : Type 0 where
   pub client : StandsSubscribed p.followed v.wanted v.slot []
 
 -- each item's slot did
-abbrev pub JoinAll : List PlanItem → List ℕ → List Live → Type 0
+abbrev pub JoinAll : List PlanItem → List ℕ → List LiveSlot → Type 0
 JoinAll [] [] [] = Unit {0}
 JoinAll [] [] (v ∷ vs) = ⊥
 JoinAll [] (n ∷ ns) vs = ⊥

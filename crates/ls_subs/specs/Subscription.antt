@@ -13,17 +13,17 @@ use Rattle.ls_event.specs.Slots.{Slot}
 use Rattle.ls_mirror.specs.Client.{What, Row, Lost, Cleared, End, row_or}
 use Rattle.ls_mirror.specs.Keys.{KeyTable}
 use Rattle.ls_update.specs.Reading.{HasFields}
-use Rattle.ls_world.specs.Came.{Came, whats}
-use Rattle.ls_world.specs.Lines.{is_update, last_row, tells_text}
-use Rattle.ls_world.specs.Tables.{text_or_empty, kept_of, what_of_key, table_at, projected_row}
-use Rattle.ls_world.specs.Cutting.{Wanted, schema_of, what_of_change}
-use Rattle.ls_world.specs.World.{keys_in}
+use Rattle.ls_record.specs.Came.{Came, whats}
+use Rattle.ls_record.specs.Lines.{is_update, last_row, tells_text}
+use Rattle.ls_record.specs.Tables.{text_or_empty, kept_of, what_of_key, table_at, projected_row}
+use Rattle.ls_record.specs.Cutting.{Wanted, schema_of, what_of_change}
+use Rattle.ls_record.specs.Records.{keys_in}
 use Rattle.ls_mirror.specs.declared.command.KeyPlaces.{KeyPlaces}
 pub use Rattle.ls_subs.specs.Subscribed.{Subscribed}
 use Rattle.ls_subs.specs.declared.followed.LineKind.{LineKind}
 use Rattle.ls_subs.specs.declared.followed.LineKind.TheVariants as kind
-use Rattle.ls_subs.specs.declared.told.Told.{Told}
-use Rattle.ls_subs.specs.declared.told.Told.TheVariants as tells
+use Rattle.ls_subs.specs.declared.cut_line.CutLine.{CutLine}
+use Rattle.ls_subs.specs.declared.cut_line.CutLine.TheVariants as tells
 
 -- what a line of a kind tells, where this is its row
 abbrev pub what_in : List Value → LineKind → What
@@ -86,12 +86,12 @@ abbrev pub after_line : Subscribed → Option What → Subscribed
 after_line u what = option_map_or (after_what u) what u
 
 -- which line tells what came
-abbrev pub told_by : What → Told
+abbrev pub told_by : What → CutLine
 told_by what = if is_update what then tells.Update else tells.Other
 
 -- a line of an item: which one it is, and its text
 pub record ItemLine : Type 0 where
-  pub told : Told
+  pub told : CutLine
   pub text : List ℕ
 
 -- the line that tells what came, where the last row was this one
@@ -103,7 +103,7 @@ line_if u what = option_map (item_line u.row u.sub u.rank) what
 
 -- a text to which a line was appended, or none
 pub record Appended : Type 0 where
-  pub told : Told
+  pub told : CutLine
   pub before : List ℕ
   pub after : List ℕ
 

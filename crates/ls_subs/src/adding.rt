@@ -7,12 +7,13 @@ ghost use Rattle.ls_value.specs.Values.{place_of};
 ghost use Rattle.ls_event.specs.Joining.{buffer_size, size_or, is_mode_of, rows_asked};
 ghost use Rattle.ls_event.specs.Shapes.{shape_of};
 ghost use Rattle.ls_event.specs.declared.item.ItemDef.{ItemDef as Def};
-ghost use Rattle.ls_world.specs.Acting.{is_group, group_of, is_allowed, is_schema, are_among, places_among, are_names};
-ghost use Rattle.ls_world.specs.Acting.{shows_keys};
-ghost use Rattle.ls_world.specs.Acting.{names_of, snapshot_asked, ask_of, asks_of};
-ghost use Rattle.ls_world.specs.Lawful.{Each};
-ghost use Rattle.ls_world.specs.Tables.{place_of_field, keys_shown_at};
-ghost use Rattle.ls_world.specs.World.{shape_in, fields_in, keys_in, is_filtered, frequency_in};
+ghost use Rattle.ls_record.specs.Acting.{is_group, group_of, is_allowed, is_schema, are_among, places_among};
+ghost use Rattle.ls_record.specs.Acting.{are_names};
+ghost use Rattle.ls_record.specs.Acting.{shows_keys};
+ghost use Rattle.ls_record.specs.Acting.{names_of, snapshot_asked, ask_of, asks_of};
+ghost use Rattle.ls_value.specs.Each.{Each};
+ghost use Rattle.ls_record.specs.Tables.{place_of_field, keys_shown_at};
+ghost use Rattle.ls_record.specs.Records.{shape_in, fields_in, keys_in, is_filtered, frequency_in};
 ghost use Rattle.ls_subs.specs.Plans.{form_code, IsPlan, IsPlanItem, ArePlanItems, first_keys};
 
 use crate::followed::Followed;
@@ -22,9 +23,9 @@ use ls_budget::Frequency;
 use ls_config::Config;
 use ls_event::{ItemDef, Kind, MOST_BUFFER_SIZE, MOST_FIELDS, Mode, Snap};
 use ls_mirror::KeyPlaces;
+use ls_record::MOST_GROUP_ITEMS;
 use ls_request::Add;
 use ls_value::{Names, NoMemory, Places, Text};
-use ls_world::MOST_GROUP_ITEMS;
 use std::alloc::Global;
 
 /// What an add asks for. It is refused, in this order: 21 where its group isn't one of declared items, 24 where its

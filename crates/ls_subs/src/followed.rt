@@ -6,15 +6,15 @@ ghost use Rattle.std.specs.FinMap as finite;
 ghost use Rattle.ls_value.specs.Values.{applied, projected_cells};
 ghost use Rattle.ls_value.specs.declared.row.Value.{Value};
 ghost use Rattle.ls_mirror.specs.Client.{Row as RowWhat, row_or};
-ghost use Rattle.ls_world.specs.Lines.{tells_text};
-ghost use Rattle.ls_world.specs.Tables.{what_of_key, projected_row};
-ghost use Rattle.ls_world.specs.Cutting.{what_of_change};
+ghost use Rattle.ls_record.specs.Lines.{tells_text};
+ghost use Rattle.ls_record.specs.Tables.{what_of_key, projected_row};
+ghost use Rattle.ls_record.specs.Cutting.{what_of_change};
 ghost use Rattle.ls_subs.specs.Subscription.{row_or_nulls, what_in, what_comes_by, what_comes, line_if, after_line};
 ghost use Rattle.ls_subs.specs.Subscription.{table_with, keyed_with, told_by, Appends};
 
+use crate::cut_line::CutLine;
 use crate::lines::append_row;
 use crate::schema::{kept_row, row_of_delete, row_with_word, text_at};
-use crate::told::Told;
 use ls_event::{Order, Taken};
 use ls_line::{Line, append};
 use ls_mirror::{KeyPlaces, Keyed};
@@ -38,12 +38,12 @@ pub enum LineKind {
 
 impl LineKind {
     /// Which line tells it.
-    fn told(self) -> Told
+    fn told(self) -> CutLine
         ensures { (row : List Value) → result ≡ told_by (what_in row self) }
     {
         match self {
-            LineKind::Row => Told::Update,
-            LineKind::Lost(_) | LineKind::Cleared | LineKind::End => Told::Other,
+            LineKind::Row => CutLine::Update,
+            LineKind::Lost(_) | LineKind::Cleared | LineKind::End => CutLine::Other,
         }
     }
 }
@@ -140,7 +140,7 @@ impl Followed {
 
     /// Appends the line that a cut makes, and answers which one: none where the client has that already.
     /// Then the client has it. After `NoMemory` what it has is as before, and a part of the line may be there.
-    pub(crate) fn accept(&mut self, taken: Taken, text: &mut Vec<u8>) -> Result<Told, NoMemory>
+    pub(crate) fn accept(&mut self, taken: Taken, text: &mut Vec<u8>) -> Result<CutLine, NoMemory>
         ensures line { IfOk result (λ told. Appends
             (record { told = told; before = text.old.items; after = text.new.items })
             (line_if self.old (what_comes self.old taken))) }
@@ -151,7 +151,7 @@ impl Followed {
             .client
             .next_line(self.alloc, &self.places, self.keys, taken)?;
         let Some(kind) = made else {
-            return Ok(Told::Nothing);
+            return Ok(CutLine::Nothing);
         };
         self.client.append(text, self.sub, self.rank, kind)?;
         self.client.hear(self.alloc, self.keys, kind)?;

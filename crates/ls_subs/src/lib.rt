@@ -4,7 +4,7 @@
 //! `Subs` keeps the items of each subscription by its number. `prepare` says what a request for a new one asks of the
 //! items of its group (an `AddPlan`), or why it is refused; once slots joined them, `finish` makes it live. `find`
 //! names the slot of an item, a `SlotRef`. `accept` takes a cut of a slot (ls_event's `Taken`) and appends the line
-//! that it makes, if it makes one (`Told` says which); then the client has what the line tells. `due` says when a slot
+//! that it makes, if it makes one (`CutLine` says which); then the client has what the line tells. `due` says when a slot
 //! may give an update by its subscription's greatest frequency, and `set_frequency` sets another one.
 //!
 //! ```text
@@ -17,17 +17,17 @@
 #![tactic(auto)]
 
 mod adding;
+mod cut_line;
 mod followed;
 mod lines;
 mod plan;
 mod schema;
 mod subs;
-mod told;
 
 pub use adding::{frequency_in, is_filtered};
+pub use cut_line::CutLine;
 pub use followed::Followed;
 pub use lines::{begin_text, configure_text};
 pub use ls_turns::SlotRef;
 pub use plan::{AddPlan, PlanItem, Refusal};
 pub use subs::Subs;
-pub use told::Told;

@@ -4,7 +4,7 @@ ghost use Rattle.ls_event.specs.declared.limits.TheConstants.{MOST_FIELDS};
 ghost use Rattle.ls_form.specs.Decimals.{milli_text};
 ghost use Rattle.ls_line.specs.declared.line.Line.TheVariants as line;
 ghost use Rattle.ls_line.specs.Lines.{text_of_line};
-ghost use Rattle.ls_world.specs.Lines.{Begins, Configures, limit_text, line_text};
+ghost use Rattle.ls_record.specs.Lines.{Begins, Configures, limit_text, line_text};
 ghost use Rattle.ls_update.specs.Fields.{spelled};
 ghost use Rattle.ls_update.specs.Writing.{row_behind};
 

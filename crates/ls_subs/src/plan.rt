@@ -4,8 +4,8 @@ ghost use Rattle.std.specs.Prelude.{◌≡◌, IfOk, OnOk, OnErr};
 ghost use Rattle.ls_subs.specs.Kept.{heard};
 ghost use Rattle.ls_subs.specs.Subscription.{what_comes, line_if, Appends};
 
+use crate::cut_line::CutLine;
 use crate::followed::Followed;
-use crate::told::Told;
 use ls_budget::Frequency;
 use ls_event::{Mode, Snap, Taken};
 use ls_value::{Bytes, NoMemory};
@@ -58,7 +58,7 @@ impl PlanItem {
         taken: Taken,
         now: u64,
         text: &mut Vec<u8>,
-    ) -> Result<Told, NoMemory>
+    ) -> Result<CutLine, NoMemory>
         ensures line { IfOk result (λ told. Appends
             (record { told = told; before = text.old.items; after = text.new.items })
             (line_if self.old.followed (what_comes self.old.followed taken))) }
@@ -67,8 +67,8 @@ impl PlanItem {
     {
         let told = self.followed.accept(taken, text)?;
         match told {
-            Told::Update => self.frequency.spend(now),
-            Told::Nothing | Told::Other => {}
+            CutLine::Update => self.frequency.spend(now),
+            CutLine::Nothing | CutLine::Other => {}
         }
         Ok(told)
     }

@@ -3,7 +3,7 @@ ghost use Rattle.std.specs.Prelude.{◌≡◌, IfOk};
 ghost use Rattle.ls_event.specs.Orders.{word_of};
 ghost use Rattle.ls_value.specs.Values.{projected, value_at};
 ghost use Rattle.ls_value.specs.declared.row.Value.TheVariants as field_value;
-ghost use Rattle.ls_world.specs.Tables.{text_or_empty, kept_of, with_word, delete_row};
+ghost use Rattle.ls_record.specs.Tables.{text_or_empty, kept_of, with_word, delete_row};
 
 use ls_event::Order;
 use ls_mirror::KeyPlaces;

@@ -11,21 +11,21 @@ ghost use Rattle.ls_budget.specs.declared.due.Due.TheVariants as due;
 ghost use Rattle.ls_value.specs.declared.limits.TheConstants.{GREATEST_TICK};
 ghost use Rattle.ls_mirror.specs.declared.command.KeyPlaces.{KeyPlaces as Keys};
 ghost use Rattle.ls_event.specs.declared.event.Snap.{Snap};
-ghost use Rattle.ls_world.specs.Lines.{Line, Begins, Ends, Configures, updated};
-ghost use Rattle.ls_world.specs.World.{Live, live_at, is_used, with_frequency, without};
-ghost use Rattle.ls_world.specs.Acting.{subscriptions};
+ghost use Rattle.ls_record.specs.Lines.{Line, Begins, Ends, Configures, updated};
+ghost use Rattle.ls_record.specs.Records.{LiveSlot, live_at, is_used, with_frequency, without};
+ghost use Rattle.ls_record.specs.Acting.{subscriptions};
 ghost use Rattle.ls_request.specs.Ranges.{AddFits};
-ghost use Rattle.ls_world.specs.Lawful.{Each};
+ghost use Rattle.ls_value.specs.Each.{Each};
 ghost use Rattle.ls_subs.specs.Kept.{item_at, kept_at, has_sub, room_of, named, with_slots, line_of, heard_at, limited};
 ghost use Rattle.ls_subs.specs.Kept.{AreAlike};
 ghost use Rattle.ls_subs.specs.Plans.{refusal_of, IsPlan, MayJoin, IsReady, JoinAll};
 ghost use Rattle.ls_subs.specs.Subscription.{Appends};
 ghost use Rattle.ls_subs.specs.Standing.{ref_of, StandsSubs, Suits, AskedSlot, IsAsked, what_of, AcceptedAs};
-ghost use Rattle.ls_subs.specs.declared.told.Told.TheVariants as tells;
+ghost use Rattle.ls_subs.specs.declared.cut_line.CutLine.TheVariants as tells;
 
 use crate::adding::plan_of;
+use crate::cut_line::CutLine;
 use crate::plan::{AddPlan, PlanItem, Refusal};
-use crate::told::Told;
 use indexmap::IndexMap;
 use ls_budget::Due;
 use ls_config::Config;
@@ -57,7 +57,7 @@ impl Subs {
     /// Whether a subscription of this number is live.
     pub fn has(&self, sub: u32) -> bool
         ensures own { result ≡ has_sub self.now sub }
-        ensures used { (lines : List Line) (round : List Live) → StandsSubs self.now lines round
+        ensures used { (lines : List Line) (round : List LiveSlot) → StandsSubs self.now lines round
             → result ≡ is_used sub round }
     {
         self.items.contains_key(&(sub as u64))
@@ -65,7 +65,7 @@ impl Subs {
 
     /// How many subscriptions are live.
     pub fn len(&self) -> usize
-        ensures { (lines : List Line) (round : List Live) → StandsSubs self.now lines round
+        ensures { (lines : List Line) (round : List LiveSlot) → StandsSubs self.now lines round
             → result ≡ subscriptions round }
     {
         self.items.len()
@@ -73,7 +73,7 @@ impl Subs {
 
     /// Whether none is live.
     pub fn is_empty(&self) -> bool
-        ensures { (lines : List Line) (round : List Live) → StandsSubs self.now lines round
+        ensures { (lines : List Line) (round : List LiveSlot) → StandsSubs self.now lines round
             → result ≡ (subscriptions round == 0) }
     {
         self.items.is_empty()
@@ -82,7 +82,7 @@ impl Subs {
     /// The slot of a place, from 1, of a subscription: `None` exactly where no such subscription is live, or it has no
     /// such place. No memory is taken.
     pub fn find(&self, sub: u64, place: u64) -> Option<SlotRef>
-        ensures { (lines : List Line) (round : List Live) → StandsSubs self.now lines round
+        ensures { (lines : List Line) (round : List LiveSlot) → StandsSubs self.now lines round
             → result ≡ option_map ref_of (live_at sub place round) }
     {
         let items = self.items.get(&sub)?;
@@ -92,7 +92,7 @@ impl Subs {
     /// Whether a slot may give an update at a tick, in ms, by its subscription's greatest frequency, and else at which
     /// tick first. It may where there is no such slot. No memory is taken.
     pub fn due(&self, slot: &SlotRef, now: u64) -> Due
-        ensures stands { (lines : List Line) (round : List Live) (place : ℕ) (v : Live)
+        ensures stands { (lines : List Line) (round : List LiveSlot) (place : ℕ) (v : LiveSlot)
             → StandsSubs self.now lines round → slice_get round place ≡ Some v → ref_of v ≡ slot.now
             → result ≡ due_at (frequency_tick v.frequency (updated v.sub v.rank lines)) now }
         ensures absent { kept_at self.now slot.now.sub slot.now.place ≡ None → result ≡ due.Now }
@@ -105,7 +105,7 @@ impl Subs {
 
     /// The mode of a subscription: `None` exactly where none of this number is live. No memory is taken.
     pub fn mode(&self, sub: u32) -> Option<Mode>
-        ensures { (lines : List Line) (round : List Live) → StandsSubs self.now lines round
+        ensures { (lines : List Line) (round : List LiveSlot) → StandsSubs self.now lines round
             → result ≡ option_map (λ v. v.slot.plan.mode) (live_at sub 1 round) }
     {
         let items = self.items.get(&(sub as u64))?;
@@ -116,7 +116,7 @@ impl Subs {
     /// unlimited. The ticks of their last updates stay, and so does what the client has. No memory is taken.
     pub fn set_frequency(&mut self, sub: u32, frequency: Option<u64>)
         requires { ForSome frequency (λ f. 0 < f) }
-        ensures stands { (lines : List Line) (round : List Live) (f : Option ℕ) (filtered : Bool)
+        ensures stands { (lines : List Line) (round : List LiveSlot) (f : Option ℕ) (filtered : Bool)
             → StandsSubs self.old lines round
             → StandsSubs self.new (Configures sub f filtered ∷ lines) (map (with_frequency sub frequency) round) }
         ensures kept { (q place : ℕ) → is_some (kept_at self.new q place) ≡ is_some (kept_at self.old q place) }
@@ -137,7 +137,7 @@ impl Subs {
         taken: Taken,
         now: u64,
         text: &mut Vec<u8>,
-    ) -> Result<Told, NoMemory>
+    ) -> Result<CutLine, NoMemory>
         ensures accepted { IfOk result (λ told. (q : AskedSlot) → IsAsked q → ref_of q.live ≡ slot.now
             → q.now ≡ now → now ≤ GREATEST_TICK → Suits q.live.slot.plan.mode taken
             → StandsSubs self.old q.lines q.round → AcceptedAs (what_of q.lines q.live taken) self.new q taken
@@ -145,13 +145,13 @@ impl Subs {
         ensures absent { kept_at self.old slot.now.sub slot.now.place ≡ None
             → (result ≡ Ok tells.Nothing) × AreAlike self.old self.new × (text.new.items ≡ text.old.items) }
         ensures err { OnErr result (AreAlike self.old self.new) }
-        ensures stands { OnErr result ((lines : List Line) (round : List Live) → StandsSubs self.old lines round
+        ensures stands { OnErr result ((lines : List Line) (round : List LiveSlot) → StandsSubs self.old lines round
             → StandsSubs self.new lines round) }
         ensures kept { (sub place : ℕ) → is_some (kept_at self.new sub place) ≡ is_some (kept_at self.old sub place) }
         ensures room { room_of self.new ≡ room_of self.old }
     {
         match self.items.get_mut(&(slot.sub as u64)) {
-            None => Ok(Told::Nothing),
+            None => Ok(CutLine::Nothing),
             Some(items) => accept_at(items, slot.place, taken, now, text),
         }
     }
@@ -169,7 +169,7 @@ impl Subs {
         ensures room { OnOk result (1 ≤ room_of self.new) }
         ensures refused { (code : ℕ) → IsErrOf result (Refusal.Code code)
             → refusal_of self.old config.now.items add.now ≡ Some code }
-        ensures same { (lines : List Line) (round : List Live) → StandsSubs self.old lines round
+        ensures same { (lines : List Line) (round : List LiveSlot) → StandsSubs self.old lines round
             → StandsSubs self.new lines round }
         ensures live { (sub : ℕ) → has_sub self.new sub ≡ has_sub self.old sub }
     {
@@ -197,7 +197,7 @@ impl Subs {
         requires new { has_sub self.old sub ≡ false }
         requires ready { IsReady sub items.items }
         requires slots { length slots.now ≡ length items.items }
-        ensures { (lines : List Line) (round vs : List Live) (filtered : Bool) (most fields : ℕ) (keys : Option Keys)
+        ensures { (lines : List Line) (round vs : List LiveSlot) (filtered : Bool) (most fields : ℕ) (keys : Option Keys)
             (frequency : Option ℕ) → StandsSubs self.old lines round → JoinAll items.items slots.now vs
             → StandsSubs self.new
             (Configures sub frequency filtered ∷ Begins sub most fields keys ∷ lines) (round ++ vs) }
@@ -208,19 +208,19 @@ impl Subs {
 
     /// A subscription is no longer live: `false` exactly where there is none of this number. Takes no memory.
     pub fn remove(&mut self, sub: u32) -> bool
-        ensures was { (lines : List Line) (round : List Live) → StandsSubs self.old lines round
+        ensures was { (lines : List Line) (round : List LiveSlot) → StandsSubs self.old lines round
             → result ≡ is_used sub round }
-        ensures stands { (lines : List Line) (round : List Live) → StandsSubs self.old lines round
+        ensures stands { (lines : List Line) (round : List LiveSlot) → StandsSubs self.old lines round
             → StandsSubs self.new (Ends sub ∷ lines) (without sub round) }
     {
         self.items.swap_remove(&(sub as u64)).is_some()
     }
 
-    /// None is live any more. Takes no memory.
+    /// None is live any more, and their memory is given back. No memory is taken.
     pub fn clear(&mut self)
         ensures { (lines : List Line) → StandsSubs self.new lines [] }
     {
-        self.items.clear();
+        self.items = IndexMap::new(self.alloc);
     }
 }
 
@@ -294,7 +294,7 @@ fn accept_at(
     taken: Taken,
     now: u64,
     text: &mut Vec<u8>,
-) -> Result<Told, NoMemory>
+) -> Result<CutLine, NoMemory>
     ensures line { IfOk result (λ told. Appends
         (record { told = told; before = text.old.items; after = text.new.items })
         (line_of (item_at items.old.items place) taken)) }
@@ -304,11 +304,11 @@ fn accept_at(
     ensures err { OnErr result (items.new.items ≡ items.old.items) }
 {
     if place == 0 {
-        return Ok(Told::Nothing);
+        return Ok(CutLine::Nothing);
     }
     let index = place as usize - 1;
     if index >= items.len() {
-        return Ok(Told::Nothing);
+        return Ok(CutLine::Nothing);
     }
     items[index].accept(taken, now, text)
 }

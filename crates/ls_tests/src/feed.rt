@@ -46,6 +46,7 @@ fn feed_over<N: House, R: Wait>(
     clock: &mut MemClock,
 ) -> Option<FeedEnd>
     requires register { blank.register ≡ N.deed.register }
+    requires set { config.set ≡ N.deed.set }
     requires config { config.items ≡ N.deed.config }
     requires items { are_items config.items ≡ true }
 {

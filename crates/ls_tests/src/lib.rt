@@ -29,6 +29,8 @@ mod keep;
 #[cfg(test)]
 mod line;
 #[cfg(test)]
+mod lines;
+#[cfg(test)]
 mod live;
 #[cfg(test)]
 mod made;

@@ -2,8 +2,9 @@
 //! writers.
 use ls_outside::{
     Call, Clock, Got, MemClock, MemPipe, MemSink, MemSource, Pipe, PlainPipe, PlainSink,
-    PlainSource, Put, Sink, Source, StdSink, StdSource, write_all,
+    PlainSource, Put, Sink, Source, write_all,
 };
+use ls_real::{StdSink, StdSource};
 use ls_value::NoMemory;
 use std::alloc::{AllocError, Global};
 use std::io::{Error, ErrorKind, Read, Result as IoResult, Write};

@@ -51,6 +51,7 @@ fn is_served<N: House, R: Wait>(
     config: Config,
 ) -> Result<bool, Fail>
     requires register { blank.register ≡ N.deed.register }
+    requires set { config.set ≡ N.deed.set }
     requires config { config.items ≡ N.deed.config }
     requires items { are_items config.items ≡ true }
 {
@@ -103,6 +104,7 @@ fn sorted<N: House + Send + Sync, R: Threads + Wait + Sync>(
     config: Config,
 ) -> Result<Vec<u64>, Fail>
     requires register { blank.register ≡ N.deed.register }
+    requires set { config.set ≡ N.deed.set }
     requires config { config.items ≡ N.deed.config }
     requires items { are_items config.items ≡ true }
 {
@@ -184,6 +186,7 @@ fn both_are_answered<N: House + Send + Sync, R: Threads + Wait + Sync>(
     config: Config,
 ) -> Result<bool, Fail>
     requires register { blank.register ≡ N.deed.register }
+    requires set { config.set ≡ N.deed.set }
     requires config { config.items ≡ N.deed.config }
     requires items { are_items config.items ≡ true }
 {

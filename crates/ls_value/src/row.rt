@@ -1,6 +1,8 @@
 //! Values of fields, rows of them, and cells: what an update says of each field.
 ghost use Rattle.std.specs.Prelude.{◌≡◌, ◌↔◌, ◌<◌, ◌≤◌, ◌^◌, ◌-◌, ℕ, List, IfOk, OnOk, OnErr};
 ghost use Rattle.std.specs.Prelude.{IsTrue, length, min, nat_eq, set};
+ghost use Rattle.ls_value.specs.Each.{Each};
+ghost use Rattle.ls_value.specs.Textual.{IsTextual};
 ghost use Rattle.ls_value.specs.Values.{applied, weight_of, kept_or_taken, value_at, nulls, value_eq, row_eq};
 
 use crate::text::{NoMemory, Text, same_bytes};
@@ -70,9 +72,10 @@ impl Value {
 }
 
 impl Cell {
-    /// An equal cell.
+    /// An equal cell. Its text, if it has one, is UTF-8.
     pub fn copy(&self, alloc: Global) -> Result<Cell, NoMemory>
-        ensures { IfOk result (λ v. v ≡ self.now) }
+        ensures equal { IfOk result (λ cell. cell ≡ self.now) }
+        ensures textual { IfOk result IsTextual }
     {
         match self {
             Cell::Same => Ok(Cell::Same),
@@ -136,9 +139,10 @@ impl Cells {
         Cells { cells }
     }
 
-    /// Equal cells. Only the texts among them are copied.
+    /// Equal cells, whose texts are UTF-8. Only these are copied.
     pub fn copy(&self, alloc: Global) -> Result<Cells, NoMemory>
-        ensures { IfOk result (λ cells. cells ≡ self.now) }
+        ensures equal { IfOk result (λ cells. cells ≡ self.now) }
+        ensures textual { IfOk result (Each IsTextual) }
     {
         let cells = copy_cells(alloc, &self.cells)?;
         Ok(Cells { cells })
@@ -188,9 +192,11 @@ pub fn copy_values(alloc: Global, values: &[Value]) -> Result<Vec<Value>, NoMemo
     Ok(copied)
 }
 
-/// Equal cells. Only the texts among them are copied.
+/// Equal cells, whose texts are UTF-8. Only these are copied.
+#[tactic(auto, using(crate::proofs::Each::each_append))]
 pub fn copy_cells(alloc: Global, cells: &[Cell]) -> Result<Vec<Cell>, NoMemory>
-    ensures { IfOk result (λ copied. copied.items ≡ cells.now) }
+    ensures equal { IfOk result (λ copied. copied.items ≡ cells.now) }
+    ensures textual { IfOk result (λ copied. Each IsTextual copied.items) }
 {
     let mut copied = Vec::with_capacity(alloc, cells.len())?;
     for cell in cells {

@@ -116,9 +116,10 @@ impl Text {
         self.inner
     }
 
-    /// An equal text.
+    /// An equal text. Its bytes are UTF-8.
     pub fn copy(&self, alloc: Global) -> Result<Text, NoMemory>
-        ensures { IfOk result (λ t. t ≡ self.now) }
+        ensures equal { IfOk result (λ t. t ≡ self.now) }
+        ensures textual { IfOk result IsUtf8 }
     {
         Text::from_str(alloc, self.as_str())
     }

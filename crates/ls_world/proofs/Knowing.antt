@@ -7,8 +7,10 @@ use Rattle.ls_request.specs.declared.request.LinkKind.TheVariants as link
 use Rattle.ls_step.specs.declared.step.Step.{Step}
 use Rattle.ls_step.specs.declared.step.Step.TheVariants as step
 use Rattle.ls_step.specs.Grammar.{Known, known_after}
-use Rattle.ls_world.specs.World.{World, Item, Connection, change}
-use Rattle.ls_world.specs.Steps.{grown, connects, does}
+use Rattle.ls_world.specs.World.{World, Connection}
+use Rattle.ls_record.specs.Records.{Item, change}
+use Rattle.ls_record.specs.Records.{grown}
+use Rattle.ls_world.specs.Steps.{connects, does}
 use Rattle.ls_world.specs.Script.{known_of}
 use Rattle.ls_world.proofs.Unmoved.{Unlinked, declared_by, does_unmoved}
 

@@ -1,15 +1,5 @@
-pub mod Parts
-pub mod Each
 pub mod Rules
 pub mod Unmoved
 pub mod Knowing
+pub mod Parts
 pub mod ScriptRanges
-pub mod Cuts
-pub mod Queues
-pub mod Turns
-pub mod Naming
-pub mod EachKey
-pub mod Short
-pub mod Weights
-pub mod Texts
-pub mod Milli

@@ -11,8 +11,9 @@ use Rattle.ls_step.specs.declared.step.Step.TheVariants as step
 use Rattle.ls_step.specs.Grammar.{Known}
 use Rattle.ls_step.specs.Ranges.{Fits}
 use Rattle.ls_config.proofs.Shapes.{shape_of_fields}
-use Rattle.ls_world.specs.Lawful.{Each}
-use Rattle.ls_world.specs.Ranges.{IsTextual, StepInRange, HasDistinctFields}
+use Rattle.ls_value.specs.Each.{Each}
+use Rattle.ls_value.specs.Textual.{IsTextual}
+use Rattle.ls_world.specs.Ranges.{StepInRange, HasDistinctFields}
 
 -- the cells of an update
 textual_cells : (cells : List Cell) → list_all is_textual cells ≡ true → Each IsTextual cells

@@ -17,15 +17,25 @@ use Rattle.ls_request.specs.Requests.{req_behind}
 use Rattle.ls_step.specs.declared.step.Step.{Step}
 use Rattle.ls_step.specs.declared.step.Step.TheVariants as step
 use Rattle.ls_step.specs.Adding.{add_pairs}
-use Rattle.ls_world.specs.World.{World, Session, history_of, change, live_at, enqueued_in, on_board, opened, ended, removed, is_alive}
-use Rattle.ls_world.specs.World.{reconfigured, constrained, numbered, forced, rebound, is_bound, unbound_at, unless_timed_out}
-use Rattle.ls_world.specs.Acting.{subscribed, add_code, change_code, constrain_code, create_code, bind_code, destroyed}
-use Rattle.ls_world.specs.Steps.{Stepped, Once, repeated, session_of, grown, is_whole, cause_to_refuse, publishes, with_link, creates, operated, operates}
+use Rattle.ls_world.specs.World.{World}
+use Rattle.ls_record.specs.Records.{Session, history_of, change, live_at, enqueued_in, on_board, opened, ended}
+use Rattle.ls_record.specs.Records.{removed, is_alive}
+use Rattle.ls_record.specs.Records.{reconfigured, constrained, numbered, forced, rebound, is_bound, unbound_at}
+use Rattle.ls_record.specs.Records.{unless_timed_out}
+use Rattle.ls_world.specs.Acting.{subscribed, add_code, create_code}
+use Rattle.ls_record.specs.Acting.{change_code, constrain_code, bind_code, destroyed}
+use Rattle.ls_world.specs.Steps.{Stepped, Once, repeated, session_of, cause_to_refuse, publishes, with_link, creates}
+use Rattle.ls_world.specs.Steps.{operated, operates}
+use Rattle.ls_record.specs.Records.{grown, is_whole}
 use Rattle.ls_world.specs.Steps.{session_named, refuses, binds, epoch_of, link_of, loses}
-use Rattle.ls_world.specs.Steps.{acts, is_opening, malformed, request_over, requests, connects, plain_create, enqueue_once, TurnGives, Gave, Idle, NotDue}
-use Rattle.ls_world.specs.Steps.{Spent, Superseded, Unbound, Over, SessionTurn}
-use Rattle.ls_world.specs.Steps.{session_turn, took, take_once, does}
-use Rattle.ls_world.proofs.Rules.{found_rule, session_rule, cond_rule, repeated_keeps}
+use Rattle.ls_world.specs.Steps.{acts, is_opening, malformed, requests, connects, plain_create, enqueue_once}
+use Rattle.ls_record.specs.Acting.{request_over}
+use Rattle.ls_record.specs.Turning.{TurnGives, Send, Idle, NotDue}
+use Rattle.ls_record.specs.Turning.{Spent, Superseded, Unbound, Ended, SessionTurn}
+use Rattle.ls_record.specs.Turning.{session_turn}
+use Rattle.ls_world.specs.Steps.{took, take_once, does}
+use Rattle.ls_record.proofs.Rules.{found_rule, cond_rule}
+use Rattle.ls_world.proofs.Rules.{session_rule, repeated_keeps}
 
 -- what is true of a world stays true, whatever becomes of its sessions and of its items' histories
 pub record Unmoved (P : World → Type 0) : Type 0 where
@@ -48,13 +58,13 @@ enqueues_unmoved P k connection sub rank times w p =
     (λ t. k.sessions v (change n (on_board (enqueued_in v.items sub rank)) v.sessions) q) (λ t. q)))) p
 
 took_unmoved : (P : World → Type 0) → Unmoved P → (w : World) (connection n : ℕ) (s : Session) (g : TurnGives) → P w → P (took w connection n s g).after
-took_unmoved P k w connection n s (Gave text) p = k.sessions w (change n (λ old. s) w.sessions) p
+took_unmoved P k w connection n s (Send text) p = k.sessions w (change n (λ old. s) w.sessions) p
 took_unmoved P k w connection n s Idle p = k.sessions w (change n (λ old. s) w.sessions) p
 took_unmoved P k w connection n s (NotDue tick) p = k.sessions w (change n (λ old. s) w.sessions) p
 took_unmoved P k w connection n s Spent p = p
 took_unmoved P k w connection n s (Superseded epoch) p = p
 took_unmoved P k w connection n s Unbound p = p
-took_unmoved P k w connection n s (Over code) p = p
+took_unmoved P k w connection n s (Ended code) p = p
 
 pub takes_unmoved : (P : World → Type 0) → Unmoved P → (connection times : ℕ) (w : World) → P w → P (repeated (take_once connection) times w).after
 takes_unmoved P k connection times w p =

@@ -1,27 +1,13 @@
 -- What a step keeps to, so that its lines can be written and read again (TLCP 2.1: the ranges of a line's parts; texts
 -- are UTF-8).
-use Rattle.std.specs.Prelude.{◌≡◌, ◌≤◌, ℕ, true}
-use Rattle.std.specs.Str.{IsUtf8}
-use Rattle.ls_value.specs.declared.row.Cell.{Cell}
-use Rattle.ls_value.specs.declared.row.Cell.TheVariants as cell
+use Rattle.std.specs.Prelude.{◌≡◌, true}
 use Rattle.ls_event.specs.Shapes.{shape_of, IsShape}
 use Rattle.ls_value.specs.Values.{are_distinct}
 use Rattle.ls_step.specs.declared.step.Step.{Step}
-use Rattle.ls_step.specs.declared.step.Step.TheVariants as step
 use Rattle.ls_step.specs.declared.step.Repeat.{Repeat}
-use Rattle.ls_world.specs.Lawful.{Each}
-use Rattle.ls_value.specs.declared.limits.TheConstants.{GREATEST_ORDINAL}
-
--- a cell whose text, if it has one, is UTF-8
-abbrev pub IsTextual : Cell → Type 0
-IsTextual cell.Same = Unit {0}
-IsTextual cell.Null = Unit {0}
-IsTextual (cell.Text t) = IsUtf8 t
-
--- a number of a subscription, an item or a field
-pub record IsOrdinal (n : ℕ) : Type 0 where
-  pub some : 1 ≤ n
-  pub most : n ≤ GREATEST_ORDINAL
+use Rattle.ls_value.specs.Each.{Each}
+use Rattle.ls_value.specs.Textual.{IsTextual}
+use Rattle.ls_step.specs.declared.step.Step.TheVariants as step
 
 -- a new item has as many fields as it may have, among them in kind COMMAND a key and a command apart; an update's texts
 -- are UTF-8

@@ -5,13 +5,13 @@ use Rattle.std.specs.List.{flat_map}
 use Rattle.ls_step.specs.declared.out.Out.{Out}
 use Rattle.ls_step.specs.Grammar.{Known, is_skipped, line_of}
 use Rattle.ls_step.specs.Notes.{text_of_out}
-use Rattle.ls_world.specs.Cases.{with_found}
+use Rattle.ls_record.specs.Cases.{with_found}
 use Rattle.ls_world.specs.World.{World}
 use Rattle.ls_world.specs.Steps.{Stepped, stays, does}
 
 -- one line more was read
-abbrev pub counted : World → World
-counted w = record w { line = w.line + 1 }
+abbrev pub with_line_read : World → World
+with_line_read w = record w { line = w.line + 1 }
 
 -- what is known of a world
 abbrev pub known_of : World → Known
@@ -21,8 +21,8 @@ known_of w =
 -- one line of a script; it is bad where it is outside the grammar, or names something that isn't declared
 abbrev pub step : World → List ℕ → Option Stepped
 step w line =
-    if is_skipped line then Some (stays (counted w) [])
-    else option_map (λ r. does (counted w) r.step r.times) (line_of (known_of w) line)
+    if is_skipped line then Some (stays (with_line_read w) [])
+    else option_map (λ r. does (with_line_read w) r.step r.times) (line_of (known_of w) line)
 
 -- the whole lines, where carry stands before the bytes
 abbrev pub whole_from : List ℕ → List ℕ → List (List ℕ)

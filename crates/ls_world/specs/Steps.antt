@@ -1,46 +1,44 @@
 -- One step of the world, and what it prints (this project's profile).
 use Rattle.std.specs.Prelude.{ℕ, zero, suc, ◌+◌, List, [], ◌∷◌, ◌++◌, length, Bool, true, false, Option, None, Some}
-use Rattle.std.specs.Prelude.{map, ◌&&◌, nat_lt, nat_le, nat_eq, codes, if◌then◌else◌, slice_get, option_and_then}
-use Rattle.std.specs.List.{list_any}
+use Rattle.std.specs.Prelude.{map, nat_lt, codes, if◌then◌else◌, slice_get, option_and_then}
 use Rattle.std.specs.Option.{option_map_or}
 use Rattle.ls_event.specs.declared.event.Entry.{Entry}
-use Rattle.ls_event.specs.declared.event.Event.{Event}
 use Rattle.ls_event.specs.declared.event.Event.TheVariants.{Update, Clear}
 use Rattle.ls_event.specs.declared.event.PublishRefused.{PublishRefused}
-use Rattle.ls_event.specs.declared.event.PublishRefused.TheVariants as refused
 use Rattle.ls_event.specs.Shapes.{shape_of}
 use Rattle.ls_event.specs.Publishes.{refusal}
 use Rattle.ls_form.specs.declared.form.Pair.{Pair}
 use Rattle.ls_form.specs.Forms.{form_of}
-use Rattle.ls_line.specs.declared.line.Line.TheVariants as line
 use Rattle.ls_line.specs.Lines.{text_of_line}
 use Rattle.ls_request.specs.declared.limits.TheConstants.{DEFAULT_KEEPALIVE}
 use Rattle.ls_request.specs.declared.request.LinkKind.{LinkKind}
-use Rattle.ls_request.specs.declared.request.LinkKind.TheVariants as link
 use Rattle.ls_request.specs.declared.request.Request.{Request}
-use Rattle.ls_request.specs.declared.request.Request.TheVariants as request
 use Rattle.ls_request.specs.declared.request.Bind.{Bind}
 use Rattle.ls_request.specs.declared.request.Create.{Create}
 use Rattle.ls_request.specs.declared.request.Op.{Op}
-use Rattle.ls_request.specs.declared.request.Op.TheVariants as op
 use Rattle.ls_request.specs.Values.{is_word}
-use Rattle.ls_request.specs.Requests.{request_of, req_behind}
+use Rattle.ls_request.specs.Requests.{req_behind}
 use Rattle.ls_step.specs.declared.out.Out.{Out}
-use Rattle.ls_step.specs.declared.out.Out.TheVariants as out
 use Rattle.ls_step.specs.declared.step.Step.{Step}
-use Rattle.ls_step.specs.declared.step.Step.TheVariants as step
 use Rattle.ls_step.specs.declared.step.Repeat.{Repeat}
 use Rattle.ls_step.specs.Adding.{add_pairs}
-use Rattle.ls_world.specs.Cases.{with_found}
-use Rattle.ls_world.specs.Lines.{text_at}
-use Rattle.ls_world.specs.World.{World, Item, Life, Alive, Ending, Ended, Session, history_of, change, live_at}
-use Rattle.ls_world.specs.World.{enqueued_in, least_far, round_of, taken_in, on_board, is_unsent, given_next, removed}
-use Rattle.ls_world.specs.World.{numbered, on_stream, with_text, is_to_loop, is_bound, unbound_at, rebound, forced}
-use Rattle.ls_world.specs.World.{reconfigured, constrained, is_due, least_wait, opened, ended, is_alive}
-use Rattle.ls_world.specs.World.{unless_timed_out}
-use Rattle.ls_world.specs.Acting.{message_of, subscribed, add_code, change_code, constrain_code, create_code, bind_code}
-use Rattle.ls_world.specs.Acting.{destroyed}
-use Rattle.ls_value.specs.declared.limits.TheConstants.{GREATEST_NUMBER}
+use Rattle.ls_record.specs.Cases.{with_found}
+use Rattle.ls_world.specs.World.{World}
+use Rattle.ls_record.specs.Records.{Item, Session, history_of, change, live_at, enqueued_in, least_far}
+use Rattle.ls_record.specs.Records.{on_board, removed, numbered, is_bound, unbound_at, rebound, forced, reconfigured}
+use Rattle.ls_record.specs.Records.{constrained, opened, ended, is_alive, unless_timed_out, grown, is_whole}
+pub use Rattle.ls_record.specs.Acting.{is_opening}
+use Rattle.ls_record.specs.Acting.{message_of, change_code, constrain_code, bind_code, destroyed, request_over}
+use Rattle.ls_world.specs.Acting.{subscribed, add_code, create_code}
+use Rattle.ls_record.specs.Turning.{Spent, TurnGives, Send, Idle, NotDue, Superseded, Unbound, Ended, SessionTurn}
+use Rattle.ls_record.specs.Turning.{session_turn}
+use Rattle.ls_event.specs.declared.event.PublishRefused.TheVariants as refused
+use Rattle.ls_line.specs.declared.line.Line.TheVariants as line
+use Rattle.ls_request.specs.declared.request.LinkKind.TheVariants as link
+use Rattle.ls_request.specs.declared.request.Request.TheVariants as request
+use Rattle.ls_request.specs.declared.request.Op.TheVariants as op
+use Rattle.ls_step.specs.declared.out.Out.TheVariants as out
+use Rattle.ls_step.specs.declared.step.Step.TheVariants as step
 
 -- the world after a step, and what is printed
 pub record Stepped : Type 0 where
@@ -94,10 +92,6 @@ link_of w connection = option_map_or (λ c. c.link) (slice_get w.connections con
 abbrev pub on : World → ℕ → List ℕ → List Out
 on w connection text = out.Line (name_of w connection) text ∷ []
 
--- an item whose history has this entry at its end
-abbrev pub grown : Entry → Item → Item
-grown e i = record i { history = i.history ++ e ∷ [] }
-
 -- why an entry of an item is refused, if it is
 abbrev pub cause_to_refuse : World → ℕ → Entry → Item → Option PublishRefused
 cause_to_refuse w item e i =
@@ -113,11 +107,6 @@ refused_out refused.TooManyKeys = out.TooManyKeys ∷ []
 refused_out (refused.Backlog slot) = out.Backlog slot ∷ []
 refused_out refused.Spent = out.Spent ∷ []
 refused_out refused.NoMemory = []
-
--- an update has a cell for each field, as a condition
-abbrev pub is_whole : ℕ → Event → Bool
-is_whole fields (Update cells) = nat_eq (length cells) fields
-is_whole fields Clear = true
 
 -- of an item that isn't there, or that has other fields, nothing is done; else the entry is refused by the first cause,
 -- or it is the item's next one
@@ -208,20 +197,12 @@ acts w connection (request.Control c) =
     (operates w connection c.req c.op)
 acts w connection request.Wsok = stays w (on w connection (text_of_line line.WsOk))
 
--- whether a name is that of a request for a session or a stream
-abbrev pub is_opening : List ℕ → Bool
-is_opening name = if is_word (codes "create_session") name then true else is_word (codes "bind_session") name
-
 -- a request that is malformed, by its name, and by its LS_reqId where that could be read
 abbrev pub malformed : World → ℕ → List ℕ → Option (List ℕ) → Stepped
 malformed w connection name req =
     if is_opening name then refuses_stream w connection 65
     else with_found req (stays w (on w connection (text_of_line (line.Error 65 (message_of 65)))))
     (λ r. refuses w connection r 65)
-
--- the request that pairs say, as it is read over a link
-abbrev pub request_over : LinkKind → List ℕ → Option (List Pair) → Option Request
-request_over l name ps = option_and_then (request_of l name) ps
 
 -- a request on a connection by its name and its pairs, which are none where its parameters are no form, as it is read
 -- over a link
@@ -257,86 +238,9 @@ enqueue_once connection sub rank w =
     (out.Moved (v.slot.last + 1))
     else ends w out.UpToDate))
 
--- what a session's turn gives: a line, nothing, nothing before a tick, no number for a line, that the session has a
--- newer stream, of this epoch, that no stream is bound, or that it has ended for the cause of a code
-pub data TurnGives : Type 0 where
-  Gave : List ℕ → TurnGives
-  Idle : TurnGives
-  NotDue : ℕ → TurnGives
-  Spent : TurnGives
-  Superseded : ℕ → TurnGives
-  Unbound : TurnGives
-  Over : ℕ → TurnGives
-
--- a session after its turn, and what the turn gives
-pub record SessionTurn : Type 0 where
-  pub session : Session
-  pub gives : TurnGives
-
--- the next unsent line
-abbrev pub next_given : Session → SessionTurn
-next_given s = record { session = given_next s; gives = Gave (text_at s.board.lines (s.sent + 1)) }
-
--- nothing, where no slot waits; else nothing before the least tick at which one that waits is due
-abbrev pub waits_until : Option ℕ → TurnGives
-waits_until None = Idle
-waits_until (Some tick) = NotDue tick
-
--- where nothing is owed and nothing is unsent: no number, where a slot is due and none is left; else the round's line,
--- which is then the next unsent one, or nothing
-abbrev pub round_turn : ℕ → List Item → Session → SessionTurn
-round_turn now items s =
-    if list_any (is_due now s) s.board.round && nat_le GREATEST_NUMBER (length s.board.lines)
-    then record { session = s; gives = Spent }
-    else with_found (round_of (is_due now s) items s.board.lines s.board.round).came
-    (record {
-      session = on_board (taken_in (is_due now s) now items) s;
-      gives = waits_until (least_wait now items s);
-    })
-    (λ t. next_given (numbered (taken_in (is_due now s) now items) s))
-
--- what tells a client that its stream is over, and that its session has ended (TLCP 2.1, LOOP and END)
-abbrev pub loop_text : List ℕ
-loop_text = text_of_line line.Loop
-
-abbrev pub end_text : ℕ → List ℕ
-end_text code = text_of_line (line.End code (message_of code))
-
--- a line was given that isn't numbered
-abbrev pub gives_text : List ℕ → Session → SessionTurn
-gives_text text s = record { session = on_stream (with_text text) s; gives = Gave text }
-
--- a session's turn, by what is owed: the first line that is owed; else LOOP, where the stream is over, and then none is
--- bound; else the next unsent line; else what its round gives
-abbrev pub turn_owing : ℕ → List Item → Session → List (List ℕ) → SessionTurn
-turn_owing now items s (text ∷ owed) = gives_text text (record s { owed = owed })
-turn_owing now items s [] =
-    if is_to_loop s.streams then record { session = unbound_at now s; gives = Gave loop_text }
-    else if is_unsent s then next_given s
-    else round_turn now items s
-
--- a session's turn on the stream that is bound: one that has ended gives END once, and nothing else
-abbrev pub turn_bound : ℕ → List Item → Session → Life → SessionTurn
-turn_bound now items s Alive = turn_owing now items s s.owed
-turn_bound now items s (Ending code) = gives_text (end_text code) (record s { life = Ended code })
-turn_bound now items s (Ended code) = record { session = s; gives = Over code }
-
--- what a turn gives where no stream is bound
-abbrev pub gives_unbound : Life → TurnGives
-gives_unbound Alive = Unbound
-gives_unbound (Ending code) = Over code
-gives_unbound (Ended code) = Over code
-
--- at a tick, for the stream of an epoch: nothing where the session has a newer one
-abbrev pub session_turn : ℕ → List Item → ℕ → Session → SessionTurn
-session_turn now items epoch s =
-    if nat_lt epoch (length s.streams) then record { session = s; gives = Superseded (length s.streams) }
-    else if is_bound s then turn_bound now items s s.life
-    else record { session = s; gives = gives_unbound s.life }
-
 -- a turn of the session of this place: the line is printed, or why there is none
 abbrev pub took : World → ℕ → ℕ → Session → TurnGives → Once
-took w connection n s (Gave text) =
+took w connection n s (Send text) =
     goes_on (record w { sessions = change n (λ old. s) w.sessions }) (out.Line (name_of w connection) text)
 took w connection n s Idle = ends (record w { sessions = change n (λ old. s) w.sessions }) out.Idle
 took w connection n s (NotDue tick) =
@@ -344,7 +248,7 @@ took w connection n s (NotDue tick) =
 took w connection n s Spent = ends w out.Spent
 took w connection n s (Superseded epoch) = ends w (out.Superseded epoch)
 took w connection n s Unbound = ends w out.Unbound
-took w connection n s (Over code) = ends w (out.Ended code)
+took w connection n s (Ended code) = ends w (out.Ended code)
 
 -- a turn of a connection's session
 abbrev pub take_once : ℕ → World → Once

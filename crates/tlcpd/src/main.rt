@@ -8,7 +8,8 @@
 ghost use Rattle.std.specs.Prelude.{◌≡◌, ◌∷◌, ◌↔◌, [], IsTrue, map};
 ghost use Rattle.std.specs.String.{string_bytes};
 
-use ls_outside::{Put, StdSink, StdSource, write_all};
+use ls_outside::{Put, write_all};
+use ls_real::{StdSink, StdSource};
 use ls_run::{Status, run};
 use std::env;
 use std::io::{self, ErrorKind};

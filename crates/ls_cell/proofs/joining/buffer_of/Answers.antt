@@ -1,7 +1,7 @@
 use Rattle.std.proofs.Common.{◌≡◌, subst, sym, true, IfOk, ℕ, Option}
 use Rattle.ls_event.specs.declared.event.Mode.TheVariants as mode
 use Rattle.ls_event.specs.Joining.{rows_asked, is_mode_of}
-use Rattle.ls_item.specs.States.{Kept}
+use Rattle.ls_item.specs.States.{KeptState}
 use Rattle.ls_cell.specs.Joins.{Join, Joins}
 use Rattle.ls_cell.proofs.Arrivals.{ok_with, merge_kind, distinct_kind, command_kind}
 use Rattle.ls_cell.proofs.joining.buffer_of.Goals as goal
@@ -29,7 +29,7 @@ returns-in-Raw c =
           rows_asked c.args.snapshot;
     } in
     subst (λ m. IfOk c.raw_buffer.result (Joins (record join { mode = m }))) (sym c.in-Raw.is)
-    (ok_with (λ b. (k : Kept) (n : ℕ) (asked : Option ℕ) → Joins
+    (ok_with (λ b. (k : KeptState) (n : ℕ) (asked : Option ℕ) → Joins
     (record { item = k; number = c.args.number; mode = mode.Raw; size = n; asked = asked }) b) (Joins join)
     c.raw_buffer.result
     (λ b joins. joins c.args.item.now c.args.n (rows_asked c.args.snapshot)) c.raw_buffer.ensures)

@@ -16,14 +16,14 @@ returns-in_default c = record {
   err = tt;
 }
 
-pub returns-in_err-tell-in-Ask-clause-err : goal.returns-in_err-tell-in-Ask-clause-err
-returns-in_err-tell-in-Ask-clause-err c = on_failed c.from_residual.result (λ items before behind r st early range cells.
+pub returns-in_err-reply-in-Ask-clause-err : goal.returns-in_err-reply-in-Ask-clause-err
+returns-in_err-reply-in-Ask-clause-err c = on_failed c.from_residual.result (λ items before behind r st early range cells.
     let g = c.loop.invariant items before behind r st early range cells in
     let h = turns_on c.args.now items c.args.epoch before behind r c.turn.result c.loop.session c.turn.new.self c.loop.cells g
     (c.turn.ensures g.asking g.session g.early range) in
     let a = asks_this c.args.now items c.args.epoch before behind r c.turn.result c.turn.new.self c.loop.cells h c.in-Ask.ask c.in-Ask.is in
-    ask_failed c.args.now items c.args.epoch before behind r c.turn.result c.turn.new.self c.loop.cells h c.in-Ask.ask a c.tell.new.session c.tell.new.cells
-    (c.in_err-tell-in-Ask.ensures.err c.args.now items c.args.epoch before behind h.asking a.question a.asked))
+    ask_failed c.args.now items c.args.epoch before behind r c.turn.result c.turn.new.self c.loop.cells h c.in-Ask.ask a c.reply.new.session c.reply.new.cells
+    (c.in_err-reply-in-Ask.ensures.err c.args.now items c.args.epoch before behind h.asking a.question a.asked))
 
 pub loop-preserved : goal.loop-preserved
 loop-preserved c = λ items before behind r st early range cells.
@@ -31,8 +31,8 @@ loop-preserved c = λ items before behind r st early range cells.
     let h = turns_on c.args.now items c.args.epoch before behind r c.turn.result c.loop.session c.turn.new.self c.loop.cells g
     (c.turn.ensures g.asking g.session g.early range) in
     let a = asks_this c.args.now items c.args.epoch before behind r c.turn.result c.turn.new.self c.loop.cells h c.in-Ask.ask c.in-Ask.is in
-    goes_then c.args.now items c.args.epoch before behind r c.turn.result c.turn.new.self c.loop.cells h c.in-Ask.ask a c.tell.new.session c.tell.new.cells
-    (c.in_ok-tell-in-Ask.ensures.ok c.args.now items c.args.epoch before behind h.asking a.question a.asked a.is)
+    goes_then c.args.now items c.args.epoch before behind r c.turn.result c.turn.new.self c.loop.cells h c.in-Ask.ask a c.reply.new.session c.reply.new.cells
+    (c.in_ok-reply-in-Ask.ensures.ok c.args.now items c.args.epoch before behind h.asking a.question a.asked a.is)
 
 pub returns-in-Ask-turn-clause-err : goal.returns-in-Ask-turn-clause-err
 returns-in-Ask-turn-clause-err c = λ items before behind r st early range cells.

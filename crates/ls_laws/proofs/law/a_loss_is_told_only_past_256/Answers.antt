@@ -1,4 +1,4 @@
-use Rattle.ls_laws.proofs.RawTruths.{slot_lost, slot_whole}
+use Rattle.ls_lawful.proofs.RawTruths.{slot_lost, slot_whole}
 use Rattle.ls_laws.proofs.law.a_loss_is_told_only_past_256.Goals as goal
 
 pub returns-clause-lost : goal.returns-clause-lost

@@ -1,4 +1,4 @@
-use Rattle.ls_laws.proofs.DistinctTruths.{slot_leaves_out}
+use Rattle.ls_lawful.proofs.DistinctTruths.{slot_leaves_out}
 use Rattle.ls_laws.proofs.law.only_old_rows_are_left_out.Goals as goal
 
 pub returns : goal.returns

@@ -1,4 +1,4 @@
-use Rattle.ls_laws.proofs.Settled.{settled, settled_row, settled_snapshot, settled_later}
+use Rattle.ls_lawful.proofs.Settled.{settled, settled_row, settled_snapshot, settled_later}
 use Rattle.ls_laws.proofs.law.settled_clients_have_the_items_state.Goals as goal
 
 pub returns-clause-came : goal.returns-clause-came

@@ -1,4 +1,5 @@
-use Rattle.ls_laws.proofs.Recovery.{steps_have_lines, script_has_lines, turn_gives}
+use Rattle.ls_laws.proofs.Spelled.{gives_line}
+use Rattle.ls_laws.proofs.Recovery.{steps_have_lines, script_has_lines}
 use Rattle.ls_laws.proofs.law.streams_have_their_lines_without_a_gap.Goals as goal
 
 pub returns-clause-steps : goal.returns-clause-steps
@@ -8,4 +9,4 @@ pub returns-clause-scripts : goal.returns-clause-scripts
 returns-clause-scripts c = script_has_lines
 
 pub returns-clause-turns : goal.returns-clause-turns
-returns-clause-turns c = turn_gives
+returns-clause-turns c = gives_line

@@ -2,7 +2,7 @@ use Rattle.std.proofs.Common.{◌≡◌, ◌++◌, ◌∷◌, [], List, sym, ◌
 use Rattle.ls_event.specs.declared.event.Entry.{Entry}
 use Rattle.ls_cell.specs.Cell.{Held}
 use Rattle.ls_live.specs.Live.{KeepsSlots, entry_of}
-use Rattle.ls_live.proofs.Keeping.{keeps_added}
+use Rattle.ls_live.proofs.Keeping.{keeps_added, textual_added}
 use Rattle.ls_live.proofs.live.add_copied.Goals as goal
 
 pub whole-requires : goal.whole-requires
@@ -44,6 +44,13 @@ returns-clause-slots c =
     ∙ (c.in-Ok-append.ensures.added.0 ∙ (λ k. (c.whole.ensures.writer k).list ++ c.in-Ok.ensures.copy k ∷ [])) in
     keeps_added c.args.cell.now h c.weigh_copied.new.cell c.add.new.self c.whole-2.new.w.list mine
     (c.weigh_copied.ensures.slots h) c.in-Ok-add.ensures.stands list
+
+pub returns-clause-textual : goal.returns-clause-textual
+returns-clause-textual c =
+    let added = c.in-Ok.entry.now in
+    textual_added c.args.writer.now.list added c.whole-2.new.w.list
+    (ap (λ t. t.list) c.whole-2.ensures.writer
+    ∙ (c.in-Ok-append.ensures.added.0 ∙ (λ k. (c.whole.ensures.writer k).list ++ added ∷ []))) c.in-Ok.ensures.textual
 
 pub returns-clause-table : goal.returns-clause-table
 returns-clause-table c =

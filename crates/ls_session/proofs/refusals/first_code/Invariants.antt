@@ -1,5 +1,5 @@
 use Rattle.std.proofs.Common.{◌≡◌, drop}
-use Rattle.ls_world.specs.Cases.{first_code}
+use Rattle.ls_record.specs.Cases.{first_code}
 use Rattle.ls_session.proofs.refusals.first_code.Given as goal
 
 -- none of the rows so far holds

@@ -1,5 +1,5 @@
 use Rattle.std.proofs.Common.{◌≤◌, ℕ, List, length, IsUtf8, ◌∙◌, sym, subst}
-use Rattle.ls_world.proofs.Milli.{milli_utf8}
+use Rattle.ls_record.proofs.Milli.{milli_utf8}
 use Rattle.ls_stream.proofs.Lengths.{ok_is, milli_few}
 use Rattle.ls_stream.proofs.opening.milli_word.Goals as goal
 

@@ -1,5 +1,5 @@
 use Rattle.std.proofs.Common.{◌≡◌, drop}
-use Rattle.ls_world.specs.Acting.{are_among}
+use Rattle.ls_record.specs.Acting.{are_among}
 use Rattle.ls_subs.proofs.adding.are_among.Given as goal
 
 -- the names so far are there

@@ -1,5 +1,5 @@
 use Rattle.std.proofs.Common.{◌≡◌, drop, ◌++◌}
-use Rattle.ls_world.specs.Acting.{places_among, names_of}
+use Rattle.ls_record.specs.Acting.{places_among, names_of}
 use Rattle.ls_subs.proofs.adding.group_of.Given as goal
 
 -- the numbers so far and those of the names left are the numbers of all

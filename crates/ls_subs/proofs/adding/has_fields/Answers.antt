@@ -1,6 +1,6 @@
 use Rattle.std.proofs.Common.{length, refl, ◌∙◌, ap, sym}
 use Rattle.std.proofs.lemmas.Option.{slice_get_read}
-use Rattle.ls_world.specs.Acting.{are_among}
+use Rattle.ls_record.specs.Acting.{are_among}
 use Rattle.ls_subs.proofs.Asks.{fields_past, fields_found, among_none}
 use Rattle.ls_subs.proofs.adding.has_fields.Goals as goal
 

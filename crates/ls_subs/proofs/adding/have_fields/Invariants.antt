@@ -1,7 +1,7 @@
 use Rattle.std.proofs.Common.{◌≡◌, drop}
 use Rattle.std.specs.List.{list_all}
-use Rattle.ls_world.specs.Acting.{are_among}
-use Rattle.ls_world.specs.World.{fields_in}
+use Rattle.ls_record.specs.Acting.{are_among}
+use Rattle.ls_record.specs.Records.{fields_in}
 use Rattle.ls_subs.proofs.adding.have_fields.Given as goal
 
 -- the items so far have the fields

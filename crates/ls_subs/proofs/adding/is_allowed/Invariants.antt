@@ -1,5 +1,5 @@
 use Rattle.std.proofs.Common.{◌≡◌, drop}
-use Rattle.ls_world.specs.Acting.{is_allowed}
+use Rattle.ls_record.specs.Acting.{is_allowed}
 use Rattle.ls_subs.proofs.adding.is_allowed.Given as goal
 
 -- it is allowed on the items so far

@@ -1,5 +1,5 @@
 use Rattle.std.proofs.Common.{◌≡◌, ◌+◌, drop}
-use Rattle.ls_world.specs.Tables.{place_of_field}
+use Rattle.ls_record.specs.Tables.{place_of_field}
 use Rattle.ls_subs.proofs.adding.place_in.Given as goal
 
 -- none of the places so far is the field's

@@ -1,5 +1,5 @@
 use Rattle.std.proofs.Common.{◌≡◌, drop, ◌++◌}
-use Rattle.ls_world.specs.Acting.{places_among}
+use Rattle.ls_record.specs.Acting.{places_among}
 use Rattle.ls_subs.proofs.adding.places_among.Given as goal
 
 -- the places so far and those of the names left are the places of all

@@ -1,7 +1,7 @@
 use Rattle.std.proofs.Common.{length, refl, subst, ℕ, Option, None, ◌∙◌, ap}
 use Rattle.ls_budget.specs.Kept.{StandsFrequency}
 use Rattle.std.proofs.lemmas.Option.{slice_get_read}
-use Rattle.ls_world.specs.Acting.{places_among}
+use Rattle.ls_record.specs.Acting.{places_among}
 use Rattle.ls_subs.proofs.Asks.{followed_is}
 use Rattle.ls_subs.proofs.adding.plan_item.Goals as goal
 

@@ -1,6 +1,6 @@
 use Rattle.std.proofs.Common.{◌+◌, ◌++◌, List, drop, map}
-use Rattle.ls_world.specs.Acting.{ask_of, places_among}
-use Rattle.ls_world.specs.World.{fields_in}
+use Rattle.ls_record.specs.Acting.{ask_of, places_among}
+use Rattle.ls_record.specs.Records.{fields_in}
 use Rattle.ls_subs.specs.declared.plan.PlanItem.{PlanItem}
 use Rattle.ls_subs.specs.Plans.{ArePlanItems}
 use Rattle.ls_subs.proofs.adding.plan_items.Given as goal

@@ -1,5 +1,5 @@
 use Rattle.std.proofs.Common.{◌∙◌, ap, refl, sym, subst, length, map, List, ℕ, ◌<◌, ◌≤◌}
-use Rattle.ls_world.specs.Lawful.{Each}
+use Rattle.ls_value.specs.Each.{Each}
 use Rattle.ls_subs.specs.Plans.{ArePlanItems, first_keys}
 use Rattle.ls_subs.proofs.Asks.{ask_at, group_within, group_some, schema_few, first_few, begins_are, configures_are}
 use Rattle.ls_subs.proofs.adding.planned.Goals as goal

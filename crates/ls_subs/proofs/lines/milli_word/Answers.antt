@@ -1,5 +1,5 @@
 use Rattle.std.proofs.Common.{IsUtf8, ◌∙◌, sym, subst}
-use Rattle.ls_world.proofs.Milli.{milli_utf8}
+use Rattle.ls_record.proofs.Milli.{milli_utf8}
 use Rattle.ls_subs.proofs.lines.milli_word.Goals as goal
 
 pub of_utf8-requires : goal.of_utf8-requires

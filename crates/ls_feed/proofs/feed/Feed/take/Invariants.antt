@@ -4,8 +4,8 @@ use Rattle.ls_feed.specs.Feeding.{IsReady, Stands}
 use Rattle.ls_feed.proofs.feed.Feed.take.Given as goal
 
 -- the lines that ended before the rest are answered
-abbrev pub invariant-loop-len : goal.invariant-loop-len
-invariant-loop-len g l =
+abbrev pub invariant-loop-rest : goal.invariant-loop-rest
+invariant-loop-rest g l =
     (front : List ℕ) × (l.piece ≡ front ++ l.rest)
     × ((read : List ℕ) (held : Option (List ℕ)) →
     Stands g.N.House.deed.config l.initial.self read held (g.C.Sink.held l.initial.conn)
@@ -14,5 +14,5 @@ invariant-loop-len g l =
     × (g.C.Sink.faults l.initial.conn ≤ g.C.Sink.faults l.conn)
     × (g.C.Sink.gives l.conn ≡ g.C.Sink.gives l.initial.conn)
 
-abbrev pub decreases-loop-len : goal.decreases-loop-len
-decreases-loop-len g l = length l.rest
+abbrev pub decreases-loop-rest : goal.decreases-loop-rest
+decreases-loop-rest g l = length l.rest

@@ -15,7 +15,7 @@ pub returns-in-Some-clause-ok : goal.returns-in-Some-clause-ok
 returns-in-Some-clause-ok c = on_ok_weaker c.bind_living.result (λ did w st.
     known_bound c.bind_living.new.self w c.args.connection c.args.bind.now c.in-Some.place c.args.text.now.items c.bind_living.new.text.items
     (ap (living_place w.sessions) (sym (c.named.ensures w st.connections)) ∙ sym (c.living.ensures.living w st) ∙ c.in-Some.is)
-    (λ s living. did w s st living)) c.bind_living.ensures.ok
+    (λ s living named. did w s st living named)) c.bind_living.ensures.ok
 
 pub returns-in-None-clause-err : goal.returns-in-None-clause-err
 returns-in-None-clause-err c = on_failed c.refuse_stream.result (λ w st. st)

@@ -1,21 +1,25 @@
-use Rattle.std.proofs.Common.{IfOk, subst, sym}
-use Rattle.ls_request.specs.declared.request.Op.{Op}
-use Rattle.ls_world.specs.World.{World, Session}
-use Rattle.ls_hub.specs.Hub.{StandsHub}
-use Rattle.ls_hub.specs.Requests.{IsLiving, DidOperate, operation, operation_code}
+use Rattle.std.proofs.Common.{refl, sym, ap, ◌∙◌, cond, List, ℕ}
+use Rattle.ls_hub.specs.Clock.{without_place}
+use Rattle.ls_hub.proofs.Hubs.{on_failed}
+use Rattle.ls_hub.proofs.Operated.{operated, unchanged}
 use Rattle.ls_hub.proofs.hub.Hub.change.Goals as goal
 
-pub returns-in-Delete-clause-did : goal.returns-in-Delete-clause-did
-returns-in-Delete-clause-did c =
-    subst (λ (o : Op). IfOk c.unsubscribe.result (λ code. (w : World) (s : Session) → StandsHub c.args.self.now w → IsLiving w c.args.place s
-    → DidOperate w c.args.place (operation_code w s o) (operation w o) code c.unsubscribe.new.self)) (sym c.in-Delete.is) c.unsubscribe.ensures.did
+pub returns-in_err-code-clause-err : goal.returns-in_err-code-clause-err
+returns-in_err-code-clause-err c = on_failed c.from_residual.result (λ w st.
+    unchanged c.args.self.now _ w c.args.place c.index_mut.result.now c.act.new.session st
+    (record { low = c.requires.place; at = c.index_mut.ensures.value; config = refl; tick = refl; connections = refl; sessions = refl }) refl
+    c.in_err-code.ensures.err.0 c.in_err-code.ensures.err.1)
 
-pub returns-in-Reconf-clause-did : goal.returns-in-Reconf-clause-did
-returns-in-Reconf-clause-did c =
-    subst (λ (o : Op). IfOk c.reconf.result (λ code. (w : World) (s : Session) → StandsHub c.args.self.now w → IsLiving w c.args.place s
-    → DidOperate w c.args.place (operation_code w s o) (operation w o) code c.reconf.new.self)) (sym c.in-Reconf.is) c.reconf.ensures.did
+pub returns-then-is_end-clause-did : goal.returns-then-is_end-clause-did
+returns-then-is_end-clause-did c = λ w s st living.
+    operated c.args.self.now _ w s c.args.place c.index_mut.result.now c.act.new.session c.args.op.now c.in_ok-code.code st living
+    (record { low = c.requires.place; at = c.index_mut.ensures.value; config = refl; tick = refl; connections = refl; sessions = refl })
+    (c.leave_out.ensures ∙ sym (ap (λ b. cond {A = List ℕ} b (without_place c.args.place c.args.self.now.living.items) c.args.self.now.living.items)
+    (sym c.is_end.ensures ∙ c.if-is_end.true))) c.in_ok-code.ensures.did
 
-pub returns-in-Constrain-clause-did : goal.returns-in-Constrain-clause-did
-returns-in-Constrain-clause-did c =
-    subst (λ (o : Op). IfOk c.constrain.result (λ code. (w : World) (s : Session) → StandsHub c.args.self.now w → IsLiving w c.args.place s
-    → DidOperate w c.args.place (operation_code w s o) (operation w o) code c.constrain.new.self)) (sym c.in-Constrain.is) c.constrain.ensures.did
+pub returns-else-is_end-clause-did : goal.returns-else-is_end-clause-did
+returns-else-is_end-clause-did c = λ w s st living.
+    operated c.args.self.now _ w s c.args.place c.index_mut.result.now c.act.new.session c.args.op.now c.in_ok-code.code st living
+    (record { low = c.requires.place; at = c.index_mut.ensures.value; config = refl; tick = refl; connections = refl; sessions = refl })
+    (sym (ap (λ b. cond {A = List ℕ} b (without_place c.args.place c.args.self.now.living.items) c.args.self.now.living.items)
+    (sym c.is_end.ensures ∙ c.if-is_end.false))) c.in_ok-code.ensures.did

@@ -1,7 +1,7 @@
 use Rattle.std.proofs.Common.{◌∙◌, refl, sym, arith, length, true, false}
 use Rattle.ls_value.specs.declared.limits.TheConstants.{GREATEST_NUMBER}
-use Rattle.ls_world.specs.World.{alive}
-use Rattle.ls_world.specs.declared.TheConstants.{MOST_SESSIONS}
+use Rattle.ls_record.specs.Records.{alive}
+use Rattle.ls_record.specs.declared.TheConstants.{MOST_SESSIONS}
 use Rattle.ls_hub.proofs.Sessions.{as_many}
 use Rattle.ls_hub.proofs.Begun.{codes_are, few, many, living_are}
 use Rattle.ls_hub.proofs.hub.Hub.create_code.Goals as goal

@@ -1,6 +1,6 @@
 use Rattle.std.proofs.Common.{refl, ap, List, []}
 use Rattle.ls_event.specs.declared.item.ItemDef.{ItemDef}
-use Rattle.ls_world.specs.World.{all_live}
+use Rattle.ls_record.specs.Records.{all_live}
 use Rattle.ls_hub.proofs.Hubs.{on_failed}
 use Rattle.ls_hub.proofs.Publishing.{with_cells}
 use Rattle.ls_hub.proofs.hub.Hub.declare.Goals as goal

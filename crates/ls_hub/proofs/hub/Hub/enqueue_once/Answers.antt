@@ -1,7 +1,7 @@
 use Rattle.std.proofs.Common.{◌++◌, refl, ◌∙◌, ap, arith}
 use Rattle.ls_step.specs.declared.out.Out.TheVariants as out
 use Rattle.ls_step.specs.Notes.{text_of_out, room_for}
-use Rattle.ls_world.specs.World.{all_live}
+use Rattle.ls_record.specs.Records.{all_live}
 use Rattle.ls_hub.proofs.Hubs.{on_failed}
 use Rattle.ls_hub.proofs.Publishing.{no_slot, named_in, enqueue_did, room_enqueued, with_cells}
 use Rattle.ls_hub.proofs.hub.Hub.enqueue_once.Goals as goal

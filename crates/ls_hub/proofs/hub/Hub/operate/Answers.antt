@@ -4,7 +4,8 @@ use Rattle.ls_line.specs.Lines.{text_of_line}
 use Rattle.ls_step.specs.Notes.{text_of_out}
 use Rattle.ls_step.specs.declared.out.Out.TheVariants as out
 use Rattle.ls_hub.specs.Hub.{name_at}
-use Rattle.ls_hub.specs.Requests.{DidOperate, answer_line, operation, operation_code}
+use Rattle.ls_acts.specs.Answers.{answer_line}
+use Rattle.ls_hub.specs.Requests.{DidOperate, operation, operation_code}
 use Rattle.ls_hub.proofs.Hubs.{on_failed}
 use Rattle.ls_hub.proofs.Requested.{operation_printed, refused_stands, gave_way}
 use Rattle.ls_hub.proofs.hub.Hub.operate.Goals as goal

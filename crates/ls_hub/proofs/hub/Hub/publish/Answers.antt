@@ -1,5 +1,5 @@
 use Rattle.std.proofs.Common.{refl, sym, ◌∙◌, ◌++◌, ap, arith}
-use Rattle.ls_world.specs.World.{all_live}
+use Rattle.ls_record.specs.Records.{all_live}
 use Rattle.ls_world.specs.Script.{text_of_outs}
 use Rattle.ls_hub.specs.Hub.{outs_published}
 use Rattle.ls_hub.proofs.Hubs.{on_failed}

@@ -5,7 +5,7 @@ use Rattle.ls_line.specs.declared.line.Line.TheVariants as line
 use Rattle.ls_line.specs.Lines.{text_of_line}
 use Rattle.ls_step.specs.Notes.{text_of_out}
 use Rattle.ls_step.specs.declared.out.Out.TheVariants as out
-use Rattle.ls_world.specs.Acting.{message_of}
+use Rattle.ls_record.specs.Acting.{message_of}
 use Rattle.ls_hub.specs.Hub.{name_at}
 use Rattle.ls_hub.proofs.Connected.{line_printed}
 use Rattle.ls_hub.proofs.hub.Hub.refuse_stream.Goals as goal

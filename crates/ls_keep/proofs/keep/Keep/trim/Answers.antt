@@ -1,5 +1,5 @@
 use Rattle.std.proofs.Common.{◌<◌, ap, arith}
-use Rattle.ls_keep.specs.Kept.{Kept}
+use Rattle.ls_keep.specs.Kept.{KeptLines}
 use Rattle.ls_keep.proofs.Trimming.{gave_up_more, says_no}
 use Rattle.ls_keep.proofs.keep.Keep.trim.Goals as goal
 
@@ -7,6 +7,6 @@ pub loop-self-preserved : goal.loop-self-preserved
 loop-self-preserved c =
     let k = c.loop-self.self in
     let less : k.given_up < k.sent =
-    omega (arith, ap (λ (v : Kept). v.given_up) c.self.view_is, ap (λ (v : Kept). v.sent) c.self.view_is, c.loop-self-test.true) in
+    omega (arith, ap (λ (v : KeptLines). v.given_up) c.self.view_is, ap (λ (v : KeptLines). v.sent) c.self.view_is, c.loop-self-test.true) in
     rw c.give_up.ensures
     (gave_up_more c.args.self.now k c.loop-self.invariant less c.requires.numbered (says_no _ c.if-is_over.ensures))

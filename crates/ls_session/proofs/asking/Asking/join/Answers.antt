@@ -21,4 +21,5 @@ invariant_of-self c = (
         ap (λ (a : Asking). a.room) c.self.view_is,
       )),
   c.self.invariant.1,
+  c.self.invariant.2,
 )

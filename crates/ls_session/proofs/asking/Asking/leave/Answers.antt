@@ -8,4 +8,5 @@ invariant_of-self c = (
   held_anew c.leave.new.self _ _ c.first-self-inside.ensures
       (omega (arith, ap (λ (t : Round). length t.seats) c.leave.ensures.seats, left_few c.args.sub c.self.inside.turns, c.self.invariant.0.room)),
   c.self.invariant.1,
+  c.self.invariant.2,
 )

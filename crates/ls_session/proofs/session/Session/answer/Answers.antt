@@ -1,5 +1,5 @@
 use Rattle.std.proofs.Common.{◌≡◌, Some, ap, true, false, refl, subst, sym, ◌∙◌}
-use Rattle.ls_world.specs.World.{due_at}
+use Rattle.ls_record.specs.Records.{due_at}
 use Rattle.ls_session.specs.declared.asking.Asked.{Asked}
 use Rattle.ls_session.specs.declared.session.Ask.{Ask}
 use Rattle.ls_session.specs.declared.session.Session.{Session as Kept}

@@ -2,7 +2,7 @@ use Rattle.std.proofs.Common.{◌≡◌, ◌≤◌, ◌<◌, ℕ, Bool, true, fa
 use Rattle.ls_value.specs.declared.limits.TheConstants.{GREATEST_NUMBER}
 use Rattle.ls_budget.specs.declared.due.Due.{Due}
 use Rattle.ls_turns.specs.declared.slot_ref.SlotRef.{SlotRef}
-use Rattle.ls_world.specs.World.{is_due, due_at}
+use Rattle.ls_record.specs.Records.{is_due, due_at}
 use Rattle.ls_subs.specs.Standing.{ref_of}
 use Rattle.ls_session.specs.Asking.{Asking, is_now}
 use Rattle.ls_session.specs.declared.asking.Asked.{Asked}

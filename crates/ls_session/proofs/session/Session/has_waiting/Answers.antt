@@ -1,4 +1,4 @@
-use Rattle.ls_world.specs.Acting.{unsent}
+use Rattle.ls_record.specs.Acting.{unsent}
 use Rattle.ls_session.proofs.Tables.{waits_is}
 use Rattle.ls_session.proofs.session.Session.has_waiting.Goals as goal
 

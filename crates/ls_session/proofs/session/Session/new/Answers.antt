@@ -1,6 +1,6 @@
-use Rattle.std.proofs.Common.{map, ap, sym, subst, [], arith}
-use Rattle.ls_world.specs.World.{Session, opened}
-use Rattle.ls_session.specs.Record.{begun_anew}
+use Rattle.std.proofs.Common.{map, ap, sym, subst, refl, [], arith}
+use Rattle.ls_record.specs.Records.{Session, opened}
+use Rattle.ls_session.specs.Record.{created}
 use Rattle.ls_session.specs.Asking.{Asking}
 use Rattle.ls_session.specs.Session.{StandsRound}
 use Rattle.ls_session.proofs.Moves.{round_anew}
@@ -10,9 +10,10 @@ pub returns : goal.returns
 returns c = λ most.
     let s : Session = opened c.args.id c.args.create.now.keepalive c.args.create.now.bandwidth c.args.create.now.length in
     record {
+      number = refl;
       lines = c.in_ok-lines.ensures;
-      round = subst (λ (x : Asking). StandsRound x (begun_anew c.args.now s)) (sym c.in_ok-asking.ensures.1)
-          (round_anew c.in_ok-asking.asking c.args.now s most (ap (λ ss. map (λ s. s.slot) ss) c.in_ok-asking.ensures.0));
+      round = subst (λ (x : Asking). StandsRound x (created c.args.id c.args.now s)) (sym c.in_ok-asking.ensures.1)
+          (round_anew c.in_ok-asking.asking c.args.id c.args.now c.args.now s (omega arith) most (ap (λ ss. map (λ s. s.slot) ss) c.in_ok-asking.ensures.0));
       subs = c.new-3.ensures [];
       rate = record { latest = omega (arith, c.new-4.ensures.latest); behind = omega arith; spends = c.new-4.ensures.stands };
     }

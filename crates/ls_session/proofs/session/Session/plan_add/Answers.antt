@@ -1,6 +1,6 @@
 use Rattle.std.proofs.Common.{◌≡◌, ◌≤◌, ◌||◌, ◌∷◌, [], Err, ◌∙◌, ap, sym, subst, false, nat_le, nat_lt, arith}
-use Rattle.ls_world.specs.Cases.{first_code}
-use Rattle.ls_world.specs.Acting.{subscriptions, are_spent}
+use Rattle.ls_record.specs.Cases.{first_code}
+use Rattle.ls_record.specs.Acting.{subscriptions, are_spent}
 use Rattle.ls_subs.specs.declared.subs.Subs.{Subs}
 use Rattle.ls_subs.specs.Kept.{has_sub, room_of}
 use Rattle.ls_subs.specs.declared.plan.Refusal.TheVariants as Refusal

@@ -2,7 +2,7 @@ use Rattle.std.proofs.Common.{◌≡◌, ◌≤◌, ◌<◌, ◌^◌, ℕ, List,
 use Rattle.ls_value.specs.declared.limits.TheConstants.{GREATEST_TICK}
 use Rattle.ls_turns.specs.Round.{gave}
 use Rattle.ls_turns.specs.declared.slot_ref.SlotRef.{SlotRef}
-use Rattle.ls_subs.specs.declared.told.Told.TheVariants as tells
+use Rattle.ls_subs.specs.declared.cut_line.CutLine.TheVariants as tells
 use Rattle.ls_session.specs.Asking.{with_turns}
 use Rattle.ls_session.specs.Record.{answered}
 use Rattle.ls_stream.specs.Standing.{NumbersLine}

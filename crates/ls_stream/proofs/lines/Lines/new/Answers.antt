@@ -1,5 +1,5 @@
-use Rattle.std.proofs.Common.{ℕ, List, [], subst, sym, ◌∙◌, refl, arith}
-use Rattle.ls_world.specs.Lawful.{Each}
+use Rattle.std.proofs.Common.{◌≡◌, ℕ, List, [], true, false, subst, sym, ◌∙◌, refl, arith}
+use Rattle.ls_value.specs.Each.{Each}
 use Rattle.ls_stream.specs.Standing.{IsShort}
 use Rattle.ls_stream.proofs.Lengths.{destroyed_short, timed_out_short}
 use Rattle.ls_stream.proofs.Rebinding.{new_stream}
@@ -8,8 +8,8 @@ use Rattle.ls_stream.proofs.lines.Lines.new.Goals as goal
 pub returns : goal.returns
 returns c =
     record {
-      owed = c.from_vec-owed.ensures.items ∙ c.in_ok-opening.ensures.lines;
-      keep = c.in_ok-keep.ensures.stands;
+      alive = λ a. record { owed = c.from_vec-owed.ensures.items ∙ c.in_ok-opening.ensures.lines; keep = c.in_ok-keep.ensures.stands };
+      over = λ d. absurd (let x : true ≡ false = d in cc);
       stream = new_stream c.new-2.result 1 0 c.args.create.now.length [] c.new-2.ensures (omega arith) (omega arith);
       unbound = refl;
       life = refl;

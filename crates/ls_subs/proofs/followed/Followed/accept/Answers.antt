@@ -3,8 +3,8 @@ use Rattle.ls_value.specs.declared.row.Value.{Value}
 use Rattle.ls_event.specs.declared.event.Taken.{Taken}
 use Rattle.ls_mirror.specs.Client.{What, row_or}
 use Rattle.ls_mirror.specs.Keys.{KeyTable}
-use Rattle.ls_world.specs.Lines.{tells_text}
-use Rattle.ls_subs.specs.declared.told.Told.TheVariants as tells
+use Rattle.ls_record.specs.Lines.{tells_text}
+use Rattle.ls_subs.specs.declared.cut_line.CutLine.TheVariants as tells
 use Rattle.ls_subs.specs.Subscribed.{Subscribed}
 use Rattle.ls_subs.specs.Subscription.{Appended, Appends, what_in, what_comes, line_if, after_line, told_by, keyed_with}
 use Rattle.ls_subs.proofs.Lengths.{heard_length}

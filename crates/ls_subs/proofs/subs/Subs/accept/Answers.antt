@@ -2,7 +2,7 @@ use Rattle.std.proofs.Common.{◌≡◌, ◌==◌, ◌∙◌, ap, sym, refl, sub
 use Rattle.std.specs.Prelude.{option_and_then}
 use Rattle.ls_subs.specs.declared.plan.PlanItem.{PlanItem}
 use Rattle.ls_subs.specs.declared.subs.Subs.{Subs}
-use Rattle.ls_subs.specs.declared.told.Told.TheVariants as tells
+use Rattle.ls_subs.specs.declared.cut_line.CutLine.TheVariants as tells
 use Rattle.ls_subs.specs.Subscription.{Appends}
 use Rattle.ls_subs.specs.Kept.{items_of, item_at, kept_at, line_of, AreAlike}
 use Rattle.ls_subs.proofs.Keeping.{map_cond, is_some_of, ok_then, ok_both, either, err_then}

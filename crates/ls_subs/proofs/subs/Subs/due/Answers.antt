@@ -1,6 +1,6 @@
 use Rattle.std.proofs.Common.{◌≡◌, ◌∙◌, ap, sym, Some, None, option_map}
 use Rattle.std.specs.Prelude.{option_and_then}
-use Rattle.ls_world.specs.Lines.{updated}
+use Rattle.ls_record.specs.Lines.{updated}
 use Rattle.ls_subs.specs.Kept.{items_of, item_at}
 use Rattle.ls_subs.proofs.Accepting.{kept_of_ref}
 use Rattle.ls_subs.proofs.subs.Subs.due.Goals as goal

@@ -1,0 +1,6 @@
+pub mod Told
+pub mod Asking
+pub mod Leaving
+pub mod JoinedSlots
+pub mod AddedSlots
+pub mod Operated

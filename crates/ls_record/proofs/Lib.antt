@@ -1,0 +1,12 @@
+pub mod Cuts
+pub mod Each
+pub mod EachKey
+pub mod Milli
+pub mod Naming
+pub mod Parts
+pub mod Queues
+pub mod Rules
+pub mod Short
+pub mod Texts
+pub mod Turns
+pub mod Weights

@@ -1,0 +1,11 @@
+pub mod Cases
+pub mod Came
+pub mod Lines
+pub mod Tables
+pub mod Cutting
+pub mod Records
+pub mod Acting
+pub mod Apart
+pub mod Light
+pub mod Turning
+pub mod Quiet

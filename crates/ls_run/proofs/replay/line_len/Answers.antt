@@ -1,5 +1,0 @@
-use Rattle.ls_run.proofs.PieceLines.{line_found}
-use Rattle.ls_run.proofs.replay.line_len.Goals as goal
-
-pub returns-clause-none : goal.returns-clause-none
-returns-clause-none c = line_found c.args.bytes.now c.memchr.result c.memchr.ensures
