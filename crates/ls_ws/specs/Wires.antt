@@ -1,0 +1,61 @@
+-- What a WebSocket over a pipe holds, and what its calls do to it (RFC 6455, sections 5 and 6).
+use Rattle.std.specs.Prelude.{◌≡◌, ◌<◌, ◌⊎◌, ℕ, List, [], refl, Bool, Ok, Err, ⊤}
+use Rattle.std.specs.declared.option.Option.{Option}
+use Rattle.std.specs.Coded.{Coded, code_by, coded×, coded_ℕ, coded_bool}
+use Rattle.tungstenite.specs.Connection.{write_step}
+use Rattle.tungstenite.specs.Content.{text}
+use Rattle.tungstenite.specs.Socket.{Socket, socket_code, Reads, Writes, content_of, kind_of, byte_count}
+use Rattle.tungstenite.specs.declared.message.Message.{Message}
+use Rattle.tungstenite.specs.Failure.{IsIo}
+use Rattle.tungstenite.specs.declared.error.Error.{Error}
+use Rattle.ls_talk.specs.Lines.{Counts, line_bytes}
+use Rattle.ls_talk.specs.declared.talk.TheConstants.{LONGEST_MESSAGE}
+use Rattle.ls_talk.specs.declared.talk.Incoming.{Incoming}
+use Rattle.ls_talk.specs.declared.talk.Incoming.TheVariants as incoming
+
+-- a wire: its socket over the pipe, its counts, and whether memory was refused to a message
+pub record WireState (C : Type 0) : Type 0 where
+  pub socket : Socket C
+  pub put_faults : ℕ
+  pub counts : Counts
+  pub is_starved : Bool
+
+module _ {C : Type 0} where
+  abbrev pub wire_code : Coded C → Coded (WireState C)
+  wire_code pipe =
+      code_by (Socket C × (ℕ × (ℕ × (ℕ × (ℕ × (ℕ × Bool))))))
+      (coded× (socket_code pipe) (coded× coded_ℕ (coded× coded_ℕ (coded× coded_ℕ (coded× coded_ℕ (coded× coded_ℕ coded_bool))))))
+      (λ w. (w.socket, (w.put_faults, (w.counts.faults, (w.counts.idles, (w.counts.closes, (w.counts.leaves, w.is_starved)))))))
+      (λ p. record { socket = p.0; put_faults = p.1.0; counts = record { faults = p.1.1.0; idles = p.1.1.1.0; closes = p.1.1.1.1.0; leaves = p.1.1.1.1.1.0 }; is_starved = p.1.1.1.1.1.1 })
+      (λ _. refl)
+
+  -- one text message of this line, whole, went out after what waited, and nothing waits
+  abbrev pub SendsLine : (C → Option (List ℕ)) → Socket C → Socket C → List ℕ → Type 0
+  SendsLine held old new line =
+      Writes held old new (write_step old.conn (text (line_bytes line))) × (new.output ≡ [])
+
+  -- no message is there yet: the frames that were read gave none, and the socket goes on from there
+  abbrev pub WaitsOf : (C → Option (List ℕ)) → Socket C → Socket C → Type 0
+  WaitsOf unread old new = (e : Error) × IsIo e × Reads unread old new (Err e)
+
+-- the answer that a message has
+abbrev pub Answers : Message → Incoming → Type 0
+Answers m (incoming.Text bytes) = content_of m ≡ text bytes
+Answers m incoming.Long = (kind_of m ≡ 0) × (LONGEST_MESSAGE < byte_count m)
+Answers m incoming.Binary = kind_of m ≡ 1
+Answers m incoming.Control = (kind_of m ≡ 2) ⊎ (kind_of m ≡ 3)
+Answers m answer = ⊤
+
+-- an answer that gives a message, which the socket read
+abbrev pub IsGiven : Incoming → Type 0
+IsGiven (incoming.Text bytes) = ⊤
+IsGiven incoming.Long = ⊤
+IsGiven incoming.Binary = ⊤
+IsGiven incoming.Control = ⊤
+IsGiven answer = ⊥
+
+module _ {C : Type 0} where
+  -- a socket read this message of the bytes that its pipe gave
+  abbrev pub ReadsOf : (C → Option (List ℕ)) → Socket C → Socket C → Incoming → Type 0
+  ReadsOf unread old new answer =
+      IsGiven answer → (m : Message) × Reads unread old new (Ok m) × Answers m answer
