@@ -1,0 +1,140 @@
+//! The door, the pipes and the clock of the system, over loopback.
+use ls_door::{Door, Heard, Visit};
+use ls_net::{SysClock, TcpDoor, TcpPipe};
+use ls_outside::{Clock, Got, Put, Sink, Source, write_all};
+use std::io::{Read, Write};
+use std::net::TcpStream;
+use std::test::*;
+use std::thread;
+
+/// How often a test looks whether something came over a socket, before it is marked as failed.
+const MOST_LOOKS: u64 = 10_000_000;
+
+/// Who came.
+#[derive(Drop)]
+enum Visitor<C> {
+    Client(C),
+    Feed(C),
+}
+
+/// Who comes next, if someone does.
+fn next<D: Door>(door: &mut D) -> Option<Visitor<D::Conn>> {
+    for _ in 0..MOST_LOOKS {
+        match door.accept() {
+            Visit::Client(conn) => return Some(Visitor::Client(conn)),
+            Visit::Feed(conn) => return Some(Visitor::Feed(conn)),
+            Visit::Idle => thread::yield_now(),
+            Visit::Failed => return None,
+        }
+    }
+    None
+}
+
+/// The client that comes next.
+fn next_client<D: Door>(door: &mut D) -> Option<D::Conn> {
+    match next(door) {
+        Some(Visitor::Client(conn)) => Some(conn),
+        _ => None,
+    }
+}
+
+/// Whether the next one is a feed.
+fn is_feed_next<D: Door>(door: &mut D) -> bool {
+    matches!(next(door), Some(Visitor::Feed(_)))
+}
+
+/// The next answer other than `NotYet`.
+fn next_read<S: Source>(source: &mut S, piece: &mut [u8; 8]) -> Got {
+    for _ in 0..MOST_LOOKS {
+        match source.read(piece) {
+            Got::NotYet => thread::yield_now(),
+            answer => return answer,
+        }
+    }
+    Got::NotYet
+}
+
+#[test]
+fn a_door_lets_clients_and_feeds_in(rt: HostRuntime) {
+    let mut door = TcpDoor::new(rt);
+    assert!(rt; matches!(door.accept(), Visit::Idle) && door.idles() == 1);
+    let Heard::Ready { port, feed } = door.listen(0, 0) else {
+        panic!(rt; "it doesn't listen")
+    };
+    assert!(rt; door.ports() == (port, feed) && port != 0 && feed != 0 && port != feed);
+    assert!(rt; matches!(door.accept(), Visit::Idle) && door.idles() == 2);
+    let one = TcpStream::connect(&rt, ("127.0.0.1", feed)).expect(&rt, "a feed connects");
+    assert!(rt; is_feed_next(&mut door));
+    let two = TcpStream::connect(&rt, ("127.0.0.2", port)).expect(&rt, "a client connects");
+    assert!(rt; next_client(&mut door).is_some());
+    assert!(rt; TcpStream::connect(&rt, ("127.0.0.2", feed)).is_err());
+    assert!(rt; door.listen(port, feed) == Heard::Failed);
+    assert!(rt; door.faults() == 1 && door.ports() == (port, feed));
+    drop(one);
+    drop(two);
+}
+
+#[test]
+fn a_pipe_reads_and_writes(rt: HostRuntime) {
+    let mut door = TcpDoor::new(rt);
+    let Heard::Ready { port, .. } = door.listen(0, 0) else {
+        panic!(rt; "it doesn't listen")
+    };
+    let mut client = TcpStream::connect(&rt, ("127.0.0.1", port)).expect(&rt, "a client connects");
+    let Some(mut pipe) = next_client(&mut door) else {
+        panic!(rt; "no client came")
+    };
+    let mut piece = [0u8; 8];
+    assert!(rt; pipe.read(&mut piece) == Got::NotYet && pipe.idles() == 1);
+    client.write_all(b"abc").expect(&rt, "the client writes");
+    assert!(rt; next_read(&mut pipe, &mut piece) == Got::Bytes(3) && piece.starts_with(b"abc"));
+    assert!(rt; write_all(&mut pipe, b"defg") == Put::Taken(4));
+    client
+        .read_exact(&mut piece[..4])
+        .expect(&rt, "the client reads");
+    assert!(rt; piece.starts_with(b"defg"));
+    drop(client);
+    assert!(rt; next_read(&mut pipe, &mut piece) == Got::End);
+    assert!(rt; pipe.read_faults() == 0 && pipe.write_faults() == 0);
+}
+
+/// Writes as long as the other side has room. Answers whether a write then failed.
+fn is_full_at_last(pipe: &mut TcpPipe, piece: &[u8]) -> bool {
+    for _ in 0..10_000 {
+        if pipe.write(piece) == Put::Failed {
+            return true;
+        }
+    }
+    false
+}
+
+#[test]
+fn a_client_that_does_not_read_is_given_up(rt: HostRuntime) -> Result<(), Fail> {
+    let mut door = TcpDoor::new(rt);
+    let Heard::Ready { port, .. } = door.listen(0, 0) else {
+        panic!(rt; "it doesn't listen")
+    };
+    let client = TcpStream::connect(&rt, ("127.0.0.1", port)).expect(&rt, "a client connects");
+    let Some(mut pipe) = next_client(&mut door) else {
+        panic!(rt; "no client came")
+    };
+    let mut piece = Vec::new(rt.alloc());
+    for _ in 0..65_536 {
+        piece.push(b'x')?;
+    }
+    assert!(rt; is_full_at_last(&mut pipe, &piece) && pipe.write_faults() == 1);
+    assert!(rt; pipe.read(&mut [0u8; 1]) == Got::NotYet);
+    drop(client);
+    Ok(())
+}
+
+#[test]
+fn the_systems_clock_does_not_go_back(rt: HostRuntime) -> Result<(), Fail> {
+    let mut clock = SysClock::new(rt);
+    let first = clock.now();
+    clock.wait(5);
+    let second = clock.now();
+    let mut twin = clock.twin()?;
+    assert!(rt; first < second && second <= twin.now());
+    Ok(())
+}

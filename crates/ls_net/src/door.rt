@@ -1,0 +1,167 @@
+//! Two ports that are listened on.
+ghost use Rattle.std.specs.Prelude.{◌≡◌};
+
+use crate::pipe::{TcpPipe, is_later};
+use ls_door::{Door, Heard, Visit};
+use std::io::Result;
+use std::net::{Net, TcpListener, TcpStream};
+
+/// The addresses from which clients are heard: all of them.
+const EVERYWHERE: &str = "0.0.0.0";
+
+/// The addresses from which feeds are heard: those of this machine alone, since a feed isn't asked who it is.
+const HERE: &str = "127.0.0.1";
+
+/// Two sockets that listen.
+#[derive(Drop)]
+struct Listeners {
+    clients: TcpListener,
+    feeds: TcpListener,
+}
+
+/// A door over TCP: clients from everywhere, feeds from 127.0.0.1 alone. `accept` doesn't wait. It looks for clients
+/// and for feeds in turn, so neither keeps the other out.
+#[derive(Drop)]
+pub struct TcpDoor<R: Net<Listener = TcpListener, Stream = TcpStream>> {
+    rt: R,
+    listeners: Option<Listeners>,
+    port: u16,
+    feed: u16,
+    feeds_next: bool,
+    faults: u64,
+    idles: u64,
+}
+
+impl<R: Net<Listener = TcpListener, Stream = TcpStream>> TcpDoor<R> {
+    /// A door that doesn't listen yet. Its `accept` is `Idle`.
+    pub fn new(rt: R) -> TcpDoor<R>
+        ensures { (result.faults ≡ 0) × (result.idles ≡ 0) × (result.port ≡ 0) × (result.feed ≡ 0) }
+    {
+        TcpDoor {
+            rt,
+            listeners: None,
+            port: 0,
+            feed: 0,
+            feeds_next: false,
+            faults: 0,
+            idles: 0,
+        }
+    }
+}
+
+/// Listens at an address. Gives the port too, which the system chooses where it is 0.
+fn listener_at<R: Net<Listener = TcpListener, Stream = TcpStream>>(
+    rt: &R,
+    address: &str,
+    port: u16,
+) -> Result<(TcpListener, u16)> {
+    let listener = TcpListener::bind(rt, (address, port))?;
+    listener.set_nonblocking(true)?;
+    let port = listener.local_addr()?.port();
+    Ok((listener, port))
+}
+
+/// Who is there, if anyone.
+fn next_at(listener: &TcpListener) -> Result<Option<TcpPipe>> {
+    match listener.accept() {
+        Ok((stream, _)) => Ok(Some(TcpPipe::over(stream)?)),
+        Err(error) => {
+            if is_later(&error) {
+                Ok(None)
+            } else {
+                Err(error)
+            }
+        }
+    }
+}
+
+/// Who came in.
+#[derive(Drop)]
+enum Visitor {
+    Client(TcpPipe),
+    Feed(TcpPipe),
+}
+
+impl Listeners {
+    /// Who is there, if anyone: feeds are looked for first, or clients.
+    fn next(&self, feeds_first: bool) -> Result<Option<Visitor>> {
+        if feeds_first {
+            if let Some(pipe) = next_at(&self.feeds)? {
+                return Ok(Some(Visitor::Feed(pipe)));
+            }
+        }
+        if let Some(pipe) = next_at(&self.clients)? {
+            return Ok(Some(Visitor::Client(pipe)));
+        }
+        Ok(next_at(&self.feeds)?.map(Visitor::Feed))
+    }
+}
+
+/// Listens at both ports.
+fn listeners_at<R: Net<Listener = TcpListener, Stream = TcpStream>>(
+    rt: &R,
+    port: u16,
+    feed: u16,
+) -> Result<(Listeners, u16, u16)> {
+    let (clients, port) = listener_at(rt, EVERYWHERE, port)?;
+    let (feeds, feed) = listener_at(rt, HERE, feed)?;
+    Ok((Listeners { clients, feeds }, port, feed))
+}
+
+impl<R: Net<Listener = TcpListener, Stream = TcpStream> + Drop> Door for TcpDoor<R> {
+    type Conn = TcpPipe;
+
+    ghost failures = { λ d. d.faults };
+
+    ghost waits = { λ d. d.idles };
+
+    ghost opened = { λ d. record { port = d.port; feed = d.feed } };
+
+    fn faults(&self) -> u64 {
+        self.faults
+    }
+
+    fn idles(&self) -> u64 {
+        self.idles
+    }
+
+    fn ports(&self) -> (u16, u16) {
+        (self.port, self.feed)
+    }
+
+    fn listen(&mut self, port: u16, feed: u16) -> Heard {
+        match listeners_at(&self.rt, port, feed) {
+            Ok((listeners, port, feed)) => {
+                self.listeners = Some(listeners);
+                self.port = port;
+                self.feed = feed;
+                Heard::Ready { port, feed }
+            }
+            Err(_) => {
+                self.faults = self.faults.saturating_add(1);
+                Heard::Failed
+            }
+        }
+    }
+
+    fn accept(&mut self) -> Visit<TcpPipe> {
+        let feeds_first = self.feeds_next;
+        self.feeds_next = !feeds_first;
+        let found = match &self.listeners {
+            Some(listeners) => listeners.next(feeds_first),
+            None => Ok(None),
+        };
+        match found {
+            Ok(Some(Visitor::Client(pipe))) => Visit::Client(pipe),
+            Ok(Some(Visitor::Feed(pipe))) => Visit::Feed(pipe),
+            Ok(None) => {
+                self.idles = self.idles.saturating_add(1);
+                Visit::Idle
+            }
+            Err(_) => {
+                self.faults = self.faults.saturating_add(1);
+                Visit::Failed
+            }
+        }
+    }
+}

@@ -1,0 +1,130 @@
+//! A connection.
+ghost use Rattle.std.specs.Prelude.{◌≡◌, ◌≤◌, ◌↔◌, IsTrue, IfOk, None, length, refl};
+ghost use Rattle.std.specs.IoError.{error_kind};
+ghost use Rattle.ls_net.specs.Sockets.{IsLater};
+
+use ls_outside::{Got, Pipe, Put, Sink, Source};
+use std::io::{Error, ErrorKind, Read, Result, Write};
+use std::net::TcpStream;
+use std::time::Duration;
+
+/// How long a write waits for room at most, in ms. So long may a network be away without the loss of a stream; and no
+/// longer than this does a client that stopped reading hold a thread with one write.
+pub const ROOM_MS: u64 = 5_000;
+
+/// Whether the call may be made again: it would have had to wait, or a signal interrupted it.
+pub(crate) fn is_later(error: &Error) -> bool
+    ensures { IsTrue result ↔ IsLater (error_kind error.now) }
+{
+    error.kind() == ErrorKind::WouldBlock || error.kind() == ErrorKind::Interrupted
+}
+
+/// A TCP connection. It tells nothing of its bytes.
+///
+/// A read doesn't wait: where no byte is there it is `NotYet`. A write waits for room, at most `ROOM_MS`; after that it
+/// is `Failed`, as it is after every other error. Bytes are sent at once (`set_nodelay`). The connection is closed
+/// when the pipe is dropped.
+#[derive(Drop)]
+pub struct TcpPipe {
+    stream: TcpStream,
+    read_faults: u64,
+    idles: u64,
+    write_faults: u64,
+}
+
+impl TcpPipe {
+    /// A pipe over this connection, with each count 0. `Err` where the system doesn't let its options be set; the
+    /// connection is then closed.
+    pub fn over(stream: TcpStream) -> Result<TcpPipe>
+        ensures { IfOk result (λ p. (p.read_faults ≡ 0) × (p.idles ≡ 0) × (p.write_faults ≡ 0)) }
+    {
+        stream.set_nodelay(true)?;
+        stream.set_write_timeout(Some(Duration::from_millis(ROOM_MS)))?;
+        stream.set_nonblocking(true)?;
+        Ok(TcpPipe {
+            stream,
+            read_faults: 0,
+            idles: 0,
+            write_faults: 0,
+        })
+    }
+}
+
+impl Source for TcpPipe {
+    ghost unread = { λ _. None };
+
+    ghost faults = { λ p. p.read_faults };
+
+    ghost waits = { λ p. p.idles };
+
+    ghost holds = { λ p. record { held = None; faults = p.write_faults } };
+
+    fn read_faults(&self) -> u64 {
+        self.read_faults
+    }
+
+    fn idles(&self) -> u64 {
+        self.idles
+    }
+
+    fn read(&mut self, piece: &mut [u8]) -> Got {
+        match self.stream.read(piece) {
+            Ok(0) => Got::End,
+            Ok(count) => Got::Bytes(count),
+            Err(error) => {
+                if is_later(&error) {
+                    self.idles = self.idles.saturating_add(1);
+                    return Got::NotYet;
+                }
+                self.read_faults = self.read_faults.saturating_add(1);
+                Got::Failed
+            }
+        }
+    }
+}
+
+/// Writes what there is room for. Where there is none it waits, at most `ROOM_MS`.
+fn write_waiting(stream: &mut TcpStream, piece: &[u8]) -> Result<usize>
+    ensures { IfOk result (λ count. count ≤ length piece.now) }
+{
+    match stream.write(piece) {
+        Err(error) => {
+            if !is_later(&error) {
+                return Err(error);
+            }
+        }
+        Ok(count) => return Ok(count),
+    }
+    stream.set_nonblocking(false)?;
+    let taken = stream.write(piece);
+    stream.set_nonblocking(true)?;
+    taken
+}
+
+impl Sink for TcpPipe {
+    ghost held = { λ _. None };
+
+    ghost faults = { λ p. p.write_faults };
+
+    ghost gives = { λ p. record { unread = None; faults = p.read_faults; waits = p.idles } };
+
+    fn write_faults(&self) -> u64 {
+        self.write_faults
+    }
+
+    fn write(&mut self, piece: &[u8]) -> Put {
+        match write_waiting(&mut self.stream, piece) {
+            Ok(count) if count > 0 || piece.is_empty() => Put::Taken(count),
+            _ => {
+                self.write_faults = self.write_faults.saturating_add(1);
+                Put::Failed
+            }
+        }
+    }
+}
+
+impl Pipe for TcpPipe {
+    ghost sink_is_left = { λ p. refl };
+
+    ghost source_is_left = { λ p. refl };
+}
