@@ -16,7 +16,7 @@ use Rattle.ls_feed.specs.declared.reply.FeedReply.{FeedReply}
 use Rattle.ls_feed.specs.declared.reply.FeedReply.TheVariants as reply
 use Rattle.ls_feed.specs.declared.reply.Bad.TheVariants as bad
 use Rattle.ls_feed.specs.declared.report.FeedEnd.TheVariants as end
-use Rattle.ls_lines.specs.Lines.{IsPlain, ended, EndsLine, EndsNone, Cutting, AreLines as AreLinesWithin, AreTooLong as AreTooLongFor}
+use Rattle.ls_lines.specs.Lines.{IsPlain, ended, EndsLine, EndsNone, Cutting, line_at, AreLines as AreLinesWithin, AreTooLong as AreTooLongFor}
 use Rattle.ls_lines.proofs.Joining.{lines_join, lines_kept as kept_within, too_long_more as longer_within}
 use Rattle.ls_feed.specs.Lines.{AreLines, AreTooLong, BeginOtherwise}
 use Rattle.ls_feed.specs.Replies.{texts_of, text_of}
@@ -313,26 +313,26 @@ kept_by f c = record { feeder = f; carry = c.carry }
 
 -- what a cutter says of a line, by the limit of a feed
 line_within : (c c' : Cutting) (piece : List ℕ) (used : ℕ) → c.limit ≡ LONGEST_LINE → EndsLine c c' piece used
-    → AreLines (c.carry ++ take used piece) (c'.line ∷ []) []
+    → AreLines (c.carry ++ take used piece) (line_at c' piece used ∷ []) []
 line_within c c' piece used is e =
-    subst (λ n. AreLinesWithin n (c.carry ++ take used piece) (c'.line ∷ []) []) is e.are
+    subst (λ n. AreLinesWithin n (c.carry ++ take used piece) (line_at c' piece used ∷ []) []) is e.are
 
 pub too_long_within : (c : Cutting) (xs : List ℕ) → c.limit ≡ LONGEST_LINE → AreTooLongFor c.limit xs → AreTooLong xs
 too_long_within c xs is t = subst (λ n. AreTooLongFor n xs) is t
 
 -- a line has ended in a piece, and it was acted on: how the bytes go on, if nothing more of the piece is looked at
 pub acted_on : (items : List ItemDef) (a : Fed) (f f' : Feeder) (c c' : Cutting) (line piece : List ℕ) (used : ℕ) (h0 h1 : Option (List ℕ))
-    → c.limit ≡ LONGEST_LINE → EndsLine c c' piece used → line ≡ c'.line
+    → c.limit ≡ LONGEST_LINE → EndsLine c c' piece used → line ≡ line_at c' piece used
     → ((lines : List (List ℕ)) (held : Option (List ℕ)) → Wrote items f lines held h0 → Acts items a f' lines line held h1)
     → (read : List ℕ) (held : Option (List ℕ)) → Stands items (kept_by f c) read held h0
     → Goes items a (kept_by f' c') (read ++ take used piece) held h1
 acted_on items a f f' c c' line piece used h0 h1 is e same acts read held st =
-    line_acted items a (kept_by f c) (kept_by f' c') c'.line (take used piece) read held h0 h1 e.none
+    line_acted items a (kept_by f c) (kept_by f' c') (line_at c' piece used) (take used piece) read held h0 h1 e.none
     (line_within c c' piece used is e) st (subst (λ t. Acts items a f' st.lines t held h1) same (acts st.lines held st.wrote))
 
 -- the same, where the feed ends
 pub acted_over : (items : List ItemDef) (a : Fed) (f f' : Feeder) (c c' : Cutting) (line piece : List ℕ) (used : ℕ) (h0 h1 : Option (List ℕ))
-    → (a ≡ fed.All → ⊥) → c.limit ≡ LONGEST_LINE → EndsLine c c' piece used → line ≡ c'.line
+    → (a ≡ fed.All → ⊥) → c.limit ≡ LONGEST_LINE → EndsLine c c' piece used → line ≡ line_at c' piece used
     → ((lines : List (List ℕ)) (held : Option (List ℕ)) → Wrote items f lines held h0 → Acts items a f' lines line held h1)
     → (read : List ℕ) (held : Option (List ℕ)) → Stands items (kept_by f c) read held h0
     → Goes items a (kept_by f' c') (read ++ piece) held h1

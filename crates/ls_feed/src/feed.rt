@@ -312,10 +312,8 @@ impl<N: House> Feed<N> {
             Err(LineRefused::TooLong) => return Err(self.feeder.refuse(conn)),
             Err(LineRefused::NoMemory) => return Err(Fed::NoMemory),
         };
-        match self
-            .feeder
-            .act(rt, alloc, conn, shared, gate, self.lines.line())
-        {
+        let line = self.lines.line(piece, used);
+        match self.feeder.act(rt, alloc, conn, shared, gate, line) {
             Fed::All => {}
             stopped => return Err(stopped),
         }

@@ -1,7 +1,7 @@
 //! What cuts lines.
-ghost use Rattle.std.specs.Prelude.{◌≡◌, ◌<◌, ◌++◌, [], ⊤, OnOk, OnErr, IsErrOf, IfOk, MatchOption};
+ghost use Rattle.std.specs.Prelude.{◌≡◌, ◌<◌, ◌≤◌, ◌++◌, [], ⊤, OnOk, OnErr, IsErrOf, IfOk, MatchOption};
 ghost use Rattle.std.specs.Prelude.{length, slice_index, take};
-ghost use Rattle.ls_lines.specs.Lines.{IsPlain, IsLine, AreTooLong, EndsLine, EndsNone};
+ghost use Rattle.ls_lines.specs.Lines.{IsPlain, IsLine, AreTooLong, EndsLine, EndsNone, line_at};
 
 use memchr::memchr;
 use std::alloc::Global;
@@ -18,12 +18,13 @@ pub enum LineRefused {
     NoMemory,
 }
 
-/// Cuts lines out of bytes that come in pieces. It holds the line that ended last, and the bytes behind it that belong
-/// to a line which hasn't ended yet; neither is longer than the limit, in bytes.
+/// Cuts lines out of bytes that come in pieces. It holds the bytes of a line that hasn't ended yet, and the line that
+/// ended last where it began in an earlier piece; neither is longer than the limit, in bytes.
 #[derive(Drop)]
 pub struct LineCutter {
     limit: usize,
-    line: Vec<u8>,
+    /// The line that ended last. Empty where it lies whole in its piece.
+    joined: Vec<u8>,
     carry: Vec<u8>,
 }
 
@@ -32,7 +33,7 @@ impl Model for LineCutter {
 
     ghost Value = { Cutting };
 
-    ghost view = { λ c. record { limit = c.limit; line = c.line.items; carry = c.carry.items } };
+    ghost view = { λ c. record { limit = c.limit; joined = c.joined.items; carry = c.carry.items } };
 
     ghost invariant = { λ c. IsLine c.limit c.carry.items };
 }
@@ -40,11 +41,11 @@ impl Model for LineCutter {
 impl LineCutter {
     /// Before any byte. No line is longer than the limit, in bytes, without its LF. It takes no memory yet.
     pub fn new(alloc: Global, limit: usize) -> LineCutter
-        ensures { result ≡ record { limit = limit; line = []; carry = [] } }
+        ensures { result ≡ record { limit = limit; joined = []; carry = [] } }
     {
         LineCutter {
             limit,
-            line: Vec::new(alloc),
+            joined: Vec::new(alloc),
             carry: Vec::new(alloc),
         }
     }
@@ -66,6 +67,12 @@ impl LineCutter {
             self.keep(piece)?;
             return Ok(None);
         };
+        if self.carry.is_empty() {
+            return match self.end_whole(len) {
+                Ok(()) => Ok(Some(len + 1)),
+                Err(cause) => Err(cause),
+            };
+        }
         match self.keep(&piece[..len]) {
             Ok(()) => self.end(),
             Err(cause) => return Err(cause),
@@ -73,11 +80,17 @@ impl LineCutter {
         Ok(Some(len + 1))
     }
 
-    /// The line that ended last, without its LF; empty before the first.
-    pub fn line(&self) -> &[u8]
-        ensures { result.now ≡ self.now.line }
+    /// The line that ended last, without its LF, by the piece and the answer of the call in which it ended. It is lent
+    /// from that piece where it lies whole there.
+    pub fn line<'a>(&'a self, piece: &'a [u8], used: usize) -> &'a [u8]
+        requires some { 0 < used }
+        requires within { used ≤ length piece.now }
+        ensures { result.now ≡ line_at self.now piece.now used }
     {
-        &self.line
+        if self.joined.is_empty() {
+            return &piece[..used - 1];
+        }
+        &self.joined
     }
 
     /// The bytes of the line that hasn't ended yet: at the end of the input, what stands behind the last LF.
@@ -110,10 +123,25 @@ impl LineCutter {
 
     /// What is kept is a line.
     fn end(&mut self)
-        ensures { self.new ≡ record self.old { line = self.old.carry; carry = [] } }
+        ensures { self.new ≡ record self.old { joined = self.old.carry; carry = [] } }
     {
-        mem::swap(&mut self.line, &mut self.carry);
+        mem::swap(&mut self.joined, &mut self.carry);
         self.carry.clear();
+    }
+
+    /// So many bytes of a piece are a line, of which nothing was kept.
+    fn end_whole(&mut self, len: usize) -> Result<(), LineRefused>
+        ensures ended { OnOk result (self.new ≡ record self.old { joined = [] }) }
+        ensures short { OnOk result (len ≤ self.old.limit) }
+        ensures before { IsLine self.old.limit self.old.carry }
+        ensures too_long { IsErrOf result LineRefused.TooLong → self.old.limit < len }
+        ensures err { OnErr result (self.new ≡ self.old) }
+    {
+        if len > self.limit {
+            return Err(LineRefused::TooLong);
+        }
+        self.joined.clear();
+        Ok(())
     }
 }
 

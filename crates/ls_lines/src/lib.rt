@@ -9,8 +9,8 @@
 //! piece "e\n"       line "cde", 2 bytes used
 //! ```
 //!
-//! It looks at each byte once, and copies it once, however the bytes are cut into pieces. It reads nothing, and a CR
-//! means nothing to it.
+//! A line that lies whole in its piece is lent from there and not copied. Each other byte is copied once, however the
+//! bytes are cut into pieces, and each byte is looked at once. The cutter reads nothing, and a CR means nothing to it.
 #![tactic(auto)]
 
 mod cross;

@@ -18,7 +18,7 @@ use Rattle.ls_run.specs.declared.replay.Fed.TheVariants as fed
 use Rattle.ls_run.proofs.ScriptLines.{GoesOn, goes_on, Stops, stops, text_begins}
 use Rattle.ls_run.proofs.ScriptLines.{whole_from-append, rest_from-append}
 use Rattle.ls_run.proofs.PieceLines.{whole_are, rest_is}
-use Rattle.ls_lines.specs.Lines.{Cutting, EndsLine, EndsNone}
+use Rattle.ls_lines.specs.Lines.{Cutting, EndsLine, EndsNone, line_at}
 
 -- nothing is written
 pub nothing : (held : Option (List ℕ)) → Appends held held []
@@ -191,18 +191,18 @@ fed_more a p xs more piece h i u stopped is f =
 
 -- a line that ends in a piece, and what its answer says of the bytes up to its end
 line_is : (c c' : Cutting) (p : Progress) (piece : List ℕ) (used : ℕ) → c.carry ≡ p.carry → EndsLine c c' piece used
-    → whole_from p.carry (take used piece) ≡ c'.line ∷ []
+    → whole_from p.carry (take used piece) ≡ line_at c' piece used ∷ []
 line_is c c' p piece used same e =
-    subst (λ t. whole_from t (take used piece) ≡ c'.line ∷ []) same
-    (whole_are c.limit c.carry (take used piece) (c'.line ∷ []) [] e.kept.plain e.are tt)
+    subst (λ t. whole_from t (take used piece) ≡ line_at c' piece used ∷ []) same
+    (whole_are c.limit c.carry (take used piece) (line_at c' piece used ∷ []) [] e.kept.plain e.are tt)
 
 pub line_holds : (c c' : Cutting) (p : Progress) (line piece : List ℕ) (used : ℕ) (u u' : List ℕ) → c.carry ≡ p.carry → EndsLine c c' piece used
-    → line ≡ c'.line → Holds fed.All p.world (line ∷ []) u u' → Holds fed.All p.world (whole_from p.carry (take used piece)) u u'
+    → line ≡ line_at c' piece used → Holds fed.All p.world (line ∷ []) u u' → Holds fed.All p.world (whole_from p.carry (take used piece)) u u'
 line_holds c c' p line piece used u u' same e is g =
     subst (λ (ls : List (List ℕ)). Holds fed.All p.world ls u u') (ap (λ t. t ∷ []) is ∙ sym (line_is c c' p piece used same e)) g
 
 pub line_stops : (a : Fed) (c c' : Cutting) (p : Progress) (line piece : List ℕ) (used : ℕ) (u u' : List ℕ) → (a ≡ fed.All → ⊥)
-    → c.carry ≡ p.carry → EndsLine c c' piece used → line ≡ c'.line → Holds a p.world (line ∷ []) u u' → Holds a p.world (whole_from p.carry piece) u u'
+    → c.carry ≡ p.carry → EndsLine c c' piece used → line ≡ line_at c' piece used → Holds a p.world (line ∷ []) u u' → Holds a p.world (whole_from p.carry piece) u u'
 line_stops a c c' p line piece used u u' stopped same e is g =
     let ls : List (List ℕ) = whole_from (rest_from p.carry (take used piece)) (drop used piece) in
     let parts : whole_from p.carry piece ≡ (line ∷ []) ++ ls =
@@ -216,11 +216,11 @@ line_stops a c c' p line piece used u u' stopped same e is g =
     }
 
 pub line_stands : (k : KeptReplay) (c c' : Cutting) (p : Progress) (line piece : List ℕ) (used : ℕ) → c.carry ≡ p.carry → EndsLine c c' piece used
-    → line ≡ c'.line → k.carry ≡ c'.carry → StandsEngine k.engine (world_of p.world (line ∷ [])) → StandsWithin k (progress_after p (take used piece))
+    → line ≡ line_at c' piece used → k.carry ≡ c'.carry → StandsEngine k.engine (world_of p.world (line ∷ [])) → StandsWithin k (progress_after p (take used piece))
 line_stands k c c' p line piece used same e is kept st =
     let rest : rest_from p.carry (take used piece) ≡ [] =
     subst (λ t. rest_from t (take used piece) ≡ []) same
-    (rest_is c.limit c.carry (take used piece) (c'.line ∷ []) [] e.kept.plain e.are tt) in
+    (rest_is c.limit c.carry (take used piece) (line_at c' piece used ∷ []) [] e.kept.plain e.are tt) in
     record {
       engine = subst (λ (ls : List (List ℕ)). StandsEngine k.engine (world_of p.world ls))
           (ap (λ t. t ∷ []) is ∙ sym (line_is c c' p piece used same e)) st;

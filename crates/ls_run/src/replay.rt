@@ -93,7 +93,7 @@ impl Replay {
         };
         match done(
             &mut self.engine,
-            self.lines.line(),
+            self.lines.line(piece, used),
             &mut self.text,
             &mut self.unwritten,
         ) {

@@ -13,7 +13,7 @@ fn add(said: &mut Vec<u8>, line: &[u8]) -> Result<(), AllocError> {
 /// What one byte more makes of a text: a line that it ends, or a mark where the line is too long.
 fn take_byte(cutter: &mut LineCutter, said: &mut Vec<u8>, byte: &[u8]) -> Result<(), NoMemory> {
     match cutter.take(byte) {
-        Ok(Some(_)) => add(said, cutter.line())?,
+        Ok(Some(used)) => add(said, cutter.line(byte, used))?,
         Ok(None) => {}
         Err(LineRefused::TooLong) => said.push(b'!')?,
         Err(LineRefused::NoMemory) => return Err(NoMemory),
@@ -46,17 +46,20 @@ fn lines_are_cut_byte_by_byte(rt: HostRuntime) -> Result<(), NoMemory> {
     Ok(())
 }
 
-/// Whether a piece is taken up to the end of its first line.
-fn takes_one(cutter: &mut LineCutter) -> bool {
-    let first = cutter.take(b"cd\nef\n") == Ok(Some(3));
-    first && same_bytes(cutter.line(), b"abcd")
+/// Whether a piece is taken up to the end of its first line, which is this.
+fn takes_one(cutter: &mut LineCutter, piece: &[u8], line: &[u8]) -> bool {
+    match cutter.take(piece) {
+        Ok(Some(used)) => used == 3 && same_bytes(cutter.line(piece, used), line),
+        _ => false,
+    }
 }
 
 #[test]
 fn a_piece_is_taken_up_to_the_end_of_a_line(rt: HostRuntime) -> Result<(), NoMemory> {
     let mut cutter = LineCutter::new(rt.alloc(), 4);
     assert!(rt; cutter.take(b"ab") == Ok(None));
-    assert!(rt; takes_one(&mut cutter));
+    assert!(rt; takes_one(&mut cutter, b"cd\nef\n", b"abcd"));
+    assert!(rt; takes_one(&mut cutter, b"ef\n", b"ef"));
     assert!(rt; cutter.take(b"abcde") == Err(LineRefused::TooLong));
     Ok(())
 }

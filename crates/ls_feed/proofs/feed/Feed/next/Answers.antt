@@ -22,14 +22,14 @@ pub returns-in_default-clause-goes : goal.returns-in_default-clause-goes
 returns-in_default-clause-goes g c = λ read held st.
     let cut = c.self.inside.lines in
     let f = c.self.inside.feeder in
-    acted_over _ c.act.result f c.act.new.self cut c.take.new.self c.line.result.now c.args.piece.now c.in-Ok-Some.used _ _ c.in_default.not-All
-    c.self.invariant (ends_some _ _ _ _ _ c.in-Ok-Some.field-0-is c.in-Ok-Some.ensures.lines) c.line.ensures c.act.ensures.acts read held
+    acted_over _ c.act.result f c.act.new.self cut c.take.new.self c.line-line.result.now c.args.piece.now c.in-Ok-Some.used _ _ c.in_default.not-All
+    c.self.invariant (ends_some _ _ _ _ _ c.in-Ok-Some.field-0-is c.in-Ok-Some.ensures.lines) c.line-line.ensures c.act.ensures.acts read held
     (stands_of _ (kept_by f cut) c.args.self.now read held _ c.self.view_is st)
 
 pub returns-clause-goes : goal.returns-clause-goes
 returns-clause-goes g c = λ read held st.
     let cut = c.self.inside.lines in
     let f = c.self.inside.feeder in
-    acted_on _ fed.All f c.act.new.self cut c.take.new.self c.line.result.now c.args.piece.now c.in-Ok-Some.used _ _ c.self.invariant
-    (ends_some _ _ _ _ _ c.in-Ok-Some.field-0-is c.in-Ok-Some.ensures.lines) c.line.ensures
+    acted_on _ fed.All f c.act.new.self cut c.take.new.self c.line-line.result.now c.args.piece.now c.in-Ok-Some.used _ _ c.self.invariant
+    (ends_some _ _ _ _ _ c.in-Ok-Some.field-0-is c.in-Ok-Some.ensures.lines) c.line-line.ensures
     c.in-All.ensures.acts read held (stands_of _ (kept_by f cut) c.args.self.now read held _ c.self.view_is st)
