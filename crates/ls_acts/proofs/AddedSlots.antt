@@ -26,10 +26,10 @@ use Rattle.ls_cells.proofs.Lives.{free_other}
 use Rattle.ls_subs.specs.declared.plan.PlanItem.{PlanItem}
 use Rattle.ls_subs.specs.Plans.{ArePlanItems, MayJoin, JoinAll, followed_of, keys_of_ask}
 use Rattle.ls_subs.specs.Subscription.{StandsSubscribed, HasStarted, HoldsKeys}
-use Rattle.ls_subs.specs.Subscribed.{Subscribed}
+use Rattle.ls_subs.proofs.Joins.{joins_plan}
 use Rattle.ls_session.specs.Record.{slots_of}
 use Rattle.ls_acts.specs.Joining.{JoinInOrder, Leave}
-use Rattle.ls_acts.proofs.Asking.{AsksApart, CanJoin}
+use Rattle.ls_record.proofs.Asking.{AsksApart, CanJoin}
 
 -- the slot that joins by what is asked of an item
 abbrev live_of : List Item → (ℕ → ℕ) → ℕ → ℕ → Ask → LiveSlot
@@ -74,42 +74,7 @@ in_order items f sub rank (q ∷ asks) (p ∷ ps) a b are may apart free room =
     more : length ((a ++ live_of items f sub rank q ∷ []) ++ b) ≡ length (a ++ b) + 1
     more = ap length (append_assoc a (live_of items f sub rank q ∷ []) b) ∙ length_in a b (live_of items f sub rank q)
 
--- a fresh slot has told nothing, and its plan is of its mode
-started_none : (m : Mode) (p : Shape) (h : List Entry) (n : ℕ) (asked : Option ℕ) → HasStarted (joined (plan_of p h m n) h asked).plan.mode
-    (joined (plan_of p h m n) h asked).has_started None
-started_none mode.Raw p h n asked = tt
-started_none mode.Merge p h n asked = refl
-started_none mode.Distinct p h n None = tt
-started_none mode.Distinct p h n (Some k) = tt
-started_none mode.Command p h n None = tt
-started_none mode.Command p h n (Some k) = tt
-
-plan_same : (m : Mode) (p : Shape) (h : List Entry) (n : ℕ) (asked : Option ℕ) → (joined (plan_of p h m n) h asked).plan ≡ plan_of p h m n
-plan_same mode.Raw p h n asked = refl
-plan_same mode.Merge p h n asked = refl
-plan_same mode.Distinct p h n None = refl
-plan_same mode.Distinct p h n (Some k) = refl
-plan_same mode.Command p h n None = refl
-plan_same mode.Command p h n (Some k) = refl
-
--- a table of no keys
-holds_none : (keys : Option KeyPlaces) → HoldsKeys keys finite.empty []
-holds_none None = tt
-holds_none (Some at) = λ k. get-empty _ k
-
--- what is kept of an item of which nothing came stands for its slot
-followed_stands : (items : List Item) (sub rank : ℕ) (q : Ask) → StandsSubscribed (followed_of (definitions items) sub rank q) q.wanted (joined_slot items q) []
-followed_stands items sub rank q =
-    record {
-      places = refl;
-      keys = ap (λ (p : Plan). keys_in p.mode (schema_of q.wanted p))
-          (sym (plan_same q.mode (shape_at items q.item) (history_of items q.item) q.size q.wanted.snapshot));
-      row = refl;
-      wide = tt;
-      has_started = started_none q.mode (shape_at items q.item) (history_of items q.item) q.size q.wanted.snapshot;
-      table = holds_none (keys_of_ask (definitions items) q);
-    }
-
+-- the slots of a plan's items did
 pub join_all : (items : List Item) (f : ℕ → ℕ) (sub rank : ℕ) (asks : List Ask) (ps : List PlanItem) → ArePlanItems (definitions items) sub rank asks ps
     → Each (MayJoin (definitions items)) ps
     → JoinAll ps (map (λ v. v.number) (joined_all items f sub rank asks)) (joined_all items f sub rank asks)
@@ -117,24 +82,7 @@ join_all items f sub rank [] [] are may = tt
 join_all items f sub rank [] (p ∷ ps) are may = absurd are
 join_all items f sub rank (q ∷ asks) [] are may = absurd are
 join_all items f sub rank (q ∷ asks) (p ∷ ps) are may =
-    let i = are.0 in
-    let plan : (joined_slot items q).plan ≡ plan_of (shape_at items q.item) (history_of items q.item) q.mode q.size =
-    plan_same q.mode (shape_at items q.item) (history_of items q.item) q.size q.wanted.snapshot in (
-      record {
-        sub = ap (λ (u : Subscribed). u.sub) (sym i.followed);
-        rank = ap (λ (u : Subscribed). u.rank) (sym i.followed);
-        item = sym i.item;
-        number = refl;
-        mode = i.mode ∙ ap (λ (x : Plan). x.mode) (sym plan);
-        allowed = ap (λ (x : Plan). is_mode_of x.mode x.shape.kind) plan
-            ∙ ap (λ m. is_mode_of m (shape_at items q.item).kind) (sym i.mode)
-            ∙ ap (λ n. is_mode_of p.mode (shape_at items n).kind) (sym i.item) ∙ may.0.allowed;
-        frequency = i.frequency;
-        narrow = subst (λ (u : Subscribed). IsNarrow u.places) i.followed may.0.narrow;
-        client = subst (λ (u : Subscribed). StandsSubscribed u q.wanted (joined_slot items q) []) (sym i.followed) (followed_stands items sub rank q);
-      },
-      join_all items f sub (rank + 1) asks ps are.1 may.1,
-    )
+    (joins_plan items sub rank (f q.item) q p are.0 may.0, join_all items f sub (rank + 1) asks ps are.1 may.1)
 
 -- the slots that an accepted add asks for, behind a round
 pub add_in_order : (items : List Item) (a : Add) (ps : List PlanItem) (lives before after : List LiveSlot)

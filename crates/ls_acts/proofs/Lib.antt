@@ -1,5 +1,4 @@
 pub mod Told
-pub mod Asking
 pub mod Leaving
 pub mod JoinedSlots
 pub mod AddedSlots

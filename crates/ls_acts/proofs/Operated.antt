@@ -17,7 +17,7 @@ use Rattle.ls_session.specs.Session.{StandsSession}
 use Rattle.ls_session.specs.declared.session.Session.{Session as Kept}
 use Rattle.ls_acts.specs.Acting.{op_code, act_code, acted, after_act, StandsAmong, Acts, ActsAlone}
 use Rattle.ls_acts.specs.Joining.{JoinInOrder}
-use Rattle.ls_acts.proofs.Asking.{CanJoin, can_join}
+use Rattle.ls_record.proofs.Asking.{CanJoin, can_join}
 use Rattle.ls_acts.proofs.AddedSlots.{add_in_order, join_all}
 
 -- a session that isn't refused anything hasn't ended, and has no cause of its own

@@ -1,5 +1,4 @@
 //! What may go to another thread.
-use crate::bell::Bell;
 use crate::door::Visit;
 use crate::duct::Duct;
 use crate::mem_door::{MemDoor, PlainDoor};
@@ -7,9 +6,6 @@ use std::sync::Wait;
 
 /// A type whose values may be sent.
 fn sends<T: Send>() {}
-
-/// A type whose values may be shared.
-fn syncs<T: Sync>() {}
 
 /// Doors in memory.
 pub(crate) fn doors() {
@@ -20,12 +16,6 @@ pub(crate) fn doors() {
 /// What a door gives.
 pub(crate) fn visits<C: Send>() {
     sends::<Visit<C>>();
-}
-
-/// Bells.
-pub(crate) fn bells() {
-    sends::<Bell>();
-    syncs::<Bell>();
 }
 
 /// Ends of ducts.

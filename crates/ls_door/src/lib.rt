@@ -18,15 +18,14 @@
 //! It opens no socket, and bounds neither how many jobs run nor how long one runs.
 #![tactic(auto)]
 
-mod bell;
 mod cross;
 mod door;
 mod duct;
 mod mem_door;
 mod spawner;
 
-pub use bell::Bell;
 pub use door::{Door, Heard, Visit};
 pub use duct::Duct;
+pub use ls_bell::Bell;
 pub use mem_door::{MemDoor, PlainDoor};
 pub use spawner::{STACK_BYTES, Spawner, Way};

@@ -1,6 +1,9 @@
-//! The tests of who comes in and who works for them: doors, spawners, bells and ducts, and the real ones over loopback.
+//! The tests of who comes in and who works for them: doors, spawners, bells and ducts, and the real ones over loopback;
+//! and of a feed over a duct.
 #![tactic(auto)]
 
+#[cfg(test)]
+mod feeds;
 #[cfg(test)]
 mod memory;
 #[cfg(test)]

@@ -113,6 +113,28 @@ shown_moved lines v s same h =
       rows = h.rows;
     }
 
+-- nor on its number on its item
+in_mode_numbered : (m : Mode) (v : LiveSlot) (n : ℕ) (keyed : Option KeyPlaces) → BegunIn m v keyed → BegunIn m (record v { number = n }) keyed
+in_mode_numbered mode.Command v n keyed b = record { kind = b.kind; places = b.places }
+in_mode_numbered mode.Merge v n keyed b = b
+in_mode_numbered mode.Raw v n keyed b = b
+in_mode_numbered mode.Distinct v n keyed b = b
+
+pub shown_numbered : (lines : List Line) (v : LiveSlot) (n : ℕ) → Shown lines v → Shown lines (record v { number = n })
+shown_numbered lines v n h =
+    record {
+      subscription = h.subscription;
+      is = h.is;
+      sub = h.sub;
+      rank = h.rank;
+      within = h.within;
+      some = h.some;
+      most = h.most;
+      schema = h.schema;
+      keyed = in_mode_numbered v.slot.plan.mode v n h.subscription.keyed h.keyed;
+      rows = h.rows;
+    }
+
 -- slots of one subscription have its fields
 same_fields : (sub other : ℕ) (lines : List Line) (b c : Begun) → begun_as sub (wires lines) ≡ Some b → begun_as other (wires lines) ≡ Some c → sub ≡ other
     → b.fields ≡ c.fields

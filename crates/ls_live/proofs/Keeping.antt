@@ -6,12 +6,15 @@ use Rattle.ls_value.specs.declared.limits.TheConstants.{GREATEST_NUMBER}
 use Rattle.ls_value.proofs.Each.{each_append}
 use Rattle.ls_event.specs.declared.event.Entry.{Entry}
 use Rattle.ls_event.specs.Publishes.{IsHistory}
-use Rattle.ls_event.specs.Slots.{Slot}
+use Rattle.ls_event.specs.declared.event.Taken.{Taken}
+use Rattle.ls_event.specs.Cuts.{cut}
+use Rattle.ls_event.specs.Slots.{Slot, passed}
 use Rattle.ls_event.specs.Textual.{Textual, TextualEvent}
 use Rattle.ls_cell.specs.Numbered.{slot_at, set_slot}
 use Rattle.ls_cell.specs.Standing.{StandsSlot}
-use Rattle.ls_cell.specs.Cell.{Held, StandsCell, HasSlot, last_in}
-use Rattle.ls_cell.proofs.Changes.{within, set_at, set_other}
+use Rattle.ls_cell.specs.Any.{any_cut}
+use Rattle.ls_cell.specs.Cell.{Held, StandsCell, HasSlot, cut_at, last_in}
+use Rattle.ls_cell.proofs.Changes.{within, set_at, set_other, some_of}
 use Rattle.ls_cell.proofs.Recorded.{same_has, recorded}
 use Rattle.ls_live.specs.Live.{StandsFor, IsCaughtUp, OnlyCaughtUp, KeepsSlots}
 
@@ -57,7 +60,7 @@ keeps_on c h d k e l first second ss st =
     let two = second one.0 one.2 in
     (two.0, λ n. further (slot_at ss n) (slot_at one.0 n) (slot_at two.0 n) (one.1 n) (two.1 n), two.2)
 
-some_value : {A : Type 0} (o : Option A) → IsSome o → (a : A) × (o ≡ Some a)
+pub some_value : {A : Type 0} (o : Option A) → IsSome o → (a : A) × (o ≡ Some a)
 some_value None some = absurd cc
 some_value (Some a) some = (a, refl)
 
@@ -85,6 +88,23 @@ keeps_added c h d e now x kept step is ss st =
 pub stands_kept : (c : Held) (h : List Entry) (d : Held) (k : List Entry) → KeepsSlots c h d k → StandsFor c h
     → StandsFor d k
 stands_kept c h d k kept st = let now = kept st.0 st.1 in (now.0, now.2)
+
+-- a slot is caught up, or passes a cut: it goes on standing
+pub stands_caught : (d e : Held) (slot : ℕ) (h : List Entry) → HasSlot d slot → last_in d slot ≤ last_in e slot
+    → ((ss : List (Option Slot)) (h : List Entry) (s : Slot) → StandsCell d ss h → slot_at ss slot ≡ Some s
+    → StandsCell e (set_slot ss slot (Some (record s { last = last_in e slot }))) h) → StandsFor d h → StandsFor e h
+stands_caught d e slot h live more step st = stands_kept d h e h (keeps_caught d e slot h live more step) st
+
+pub stands_passed : (d e : Held) (slot : ℕ) (h : List Entry) → IsSome (cut_at d slot)
+    → ((ss : List (Option Slot)) (h : List Entry) (s : Slot) (t : Taken) → StandsCell d ss h → slot_at ss slot ≡ Some s
+    → cut h s ≡ Some t → StandsCell e (set_slot ss slot (Some (passed s t))) h) → StandsFor d h → StandsFor e h
+stands_passed d e slot h cuts step st =
+    let live : HasSlot d slot = some_of any_cut (slot_at d.slots slot) cuts in
+    let s = some_value (slot_at st.0 slot) (sym (same_has (StandsSlot d.item.shape) d.slots st.0 h slot st.1.slots) ∙ live) in
+    let t = some_value (cut_at d slot) cuts in (
+      set_slot st.0 slot (Some (passed s.0 t.0)),
+      step st.0 h s.0 t.0 st.1 s.1 (sym (recorded d st.0 h slot s.0 st.1 s.1).cut ∙ t.1),
+    )
 
 -- what a cell stands for is a history of its item
 pub stands_lawful : (c : Held) (h : List Entry) → StandsFor c h → IsHistory c.item.shape h

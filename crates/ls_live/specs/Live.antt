@@ -1,18 +1,20 @@
 -- An item with its history, and what an adapter has seen of it (this project's profile).
-use Rattle.std.specs.Prelude.{◌≡◌, ℕ, ◌≤◌, ◌==◌, Bool, false, List, Option, None, Some, Result, Ok, Err}
+use Rattle.std.specs.Prelude.{◌≡◌, ℕ, ◌≤◌, ◌==◌, Bool, false, List, Option, None, Some, Result, Ok, Err, slice_get}
 use Rattle.atomic_table.specs.Seated.{TableId}
 use Rattle.ls_event.specs.declared.event.Event.{Event}
 use Rattle.ls_event.specs.declared.event.Entry.{Entry}
 use Rattle.ls_event.specs.declared.event.PublishRefused.{PublishRefused}
 use Rattle.ls_event.specs.declared.event.PublishRefused.TheVariants as refused
 use Rattle.ls_event.specs.declared.item.ItemDef.{ItemDef}
-use Rattle.ls_event.specs.Shapes.{Shape}
-use Rattle.ls_event.specs.Publishes.{refusal}
+use Rattle.ls_event.specs.Shapes.{Shape, shape_of}
+use Rattle.ls_event.specs.Publishes.{refusal, IsHistory}
 use Rattle.ls_event.specs.Slots.{Slot}
+use Rattle.ls_event.specs.Textual.{Textual}
 use Rattle.ls_cell.specs.Cell.{Held, StandsCell}
 use Rattle.ls_cell.specs.Numbered.{slot_at}
 use Rattle.ls_register.specs.Items.{ShowsItem}
 use Rattle.ls_register.specs.Places.{Placed}
+use Rattle.ls_register.specs.Watches.{Watched}
 use Rattle.ls_live.specs.declared.shape.ItemShape.{ItemShape}
 
 -- an item: its number and its place in the register, where it has one, what is kept of it, the table on which its
@@ -39,6 +41,29 @@ pub record Pass : Type 0 where
 pub record IsOf (p : Pass) (i : HeldItem) : Type 0 where
   pub table : p.table ≡ i.table
   pub shape : p.shape ≡ i.shape
+
+-- what was seen of an item is of this one, which has a place in the register
+pub record IsWatchOf (w : Watched) (i : HeldItem) : Type 0 where
+  pub placed : Placed
+  pub place_is : i.place ≡ Some placed
+  pub item : w.item ≡ i.item
+  pub at : w.at ≡ placed.at
+  pub table : w.table ≡ i.table
+
+-- the place shows the declared item of this number, whose history stands on this table, and of which this was seen: its
+-- texts are UTF-8
+pub record IsWatching (config : List ItemDef) (p : Placed) (item : ℕ) (table : TableId) (list : List Entry) : Type 0 where
+  pub shape : Shape
+  pub shows : ShowsItem config p item shape table
+  pub history : IsHistory shape list
+  pub textual : Textual list
+
+-- what was seen of an item is a history of the declared item, and its texts are UTF-8
+pub record IsSeenOf (config : List ItemDef) (w : Watched) : Type 0 where
+  pub def : ItemDef
+  pub declared : slice_get config w.item ≡ Some def
+  pub history : IsHistory (shape_of def) w.list
+  pub textual : Textual w.list
 
 -- whether both know a place in the register, and it is one
 abbrev pub are_one : Option Placed → Option Placed → Bool

@@ -1,6 +1,7 @@
 //! What crosses from thread to thread.
 
 use crate::live::{LiveItem, PubPass};
+use crate::watch::Watch;
 use ls_register::House;
 use std::sync::Mutex;
 
@@ -11,6 +12,11 @@ fn syncs<T: Sync>() {}
 /// A pass goes to another thread.
 pub fn a_pass_crosses<N: House + Send + Sync>() {
     sends::<PubPass<N>>()
+}
+
+/// So does what was seen of an item.
+pub fn a_watch_crosses<N: House + Send + Sync>() {
+    sends::<Watch<N>>()
 }
 
 /// Threads share an item behind its lock.

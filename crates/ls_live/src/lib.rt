@@ -16,17 +16,22 @@
 //! is held. An item with a place in a register ([`LiveItem::at`]) knows the passes that are its own by their places
 //! ([`LiveItem::is_of`]).
 //!
-//! No slot keeps an event back: one that lags by as much as it may is caught up ([`weigh`]). It takes no lock and tells
-//! no session.
+//! No slot keeps an event back: one that lags by as much as it may is caught up ([`weigh`]). Slots join and leave, and
+//! are asked for their cuts, as those of the cell. A [`Watch`] is what was seen of an item apart from its lock; it meets
+//! passes and other watches. It takes no lock and tells no session.
 #![tactic(auto)]
 
 mod copied;
 mod cross;
 mod live;
 mod shape;
+mod slots;
+mod watch;
 mod weighing;
 
 pub use copied::{CopiedEntry, copied_entry};
 pub use live::{LiveItem, PubPass, publish_copied, publish_into};
+pub use ls_cell::Joined;
 pub use ls_event::PublishRefused;
+pub use watch::Watch;
 pub use weighing::weigh;

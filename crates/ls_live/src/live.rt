@@ -1,6 +1,7 @@
 //! An item with its history, and the passes of those who publish on it.
 ghost use Rattle.std.specs.Prelude.{◌≡◌, ◌≤◌, ◌++◌, ◌∷◌, [], ℕ, None, Some, IsTrue, IfOk, IfErr, length};
 ghost use Rattle.std.specs.Prelude.{List, OnOk, ◌&&◌, ◌==◌, is_some};
+ghost use Rattle.std.specs.Arc.{arc_value};
 ghost use mathlib.Core.List.{IsPrefix};
 ghost use Rattle.ls_event.specs.declared.limits.TheConstants.{MOST_ADAPTERS as MOST};
 ghost use Rattle.ls_event.specs.declared.event.Entry.{Entry};
@@ -23,6 +24,7 @@ use ls_register::{House, Made, Place};
 use ls_value::NoMemory;
 use std::alloc::Global;
 use std::marker::Model;
+use std::sync::Arc;
 
 /// An item with publishers: a cell, and its history's writer. Contracts see the item's number and its place in the
 /// register, the cell, the history's table, the item's shape and the whole history, for which the cell stands and whose
@@ -30,16 +32,17 @@ use std::marker::Model;
 #[derive(Drop)]
 pub struct LiveItem<N: House> {
     alloc: Global,
-    cell: ItemCell,
+    pub(crate) cell: ItemCell,
     shape: ItemShape,
-    chron: Chron<Entry>,
-    writer: Writer<Entry>,
-    place: Option<Place<N>>,
-    item: u32,
+    pub(crate) chron: Arc<Chron<Entry>>,
+    pub(crate) writer: Writer<Entry>,
+    pub(crate) place: Option<Place<N>>,
+    pub(crate) item: u32,
 }
 
 impl<N: House> Model for LiveItem<N> {
     ghost use Rattle.std.specs.Prelude.{◌≡◌, IfSome};
+    ghost use Rattle.std.specs.Arc.{arc_value};
     ghost use Rattle.ls_event.specs.Textual.{Textual};
     ghost use Rattle.ls_register.specs.Items.{ShowsItem};
     ghost use Rattle.ls_live.specs.Live.{HeldItem, StandsFor, shape_kept};
@@ -50,32 +53,33 @@ impl<N: House> Model for LiveItem<N> {
       item = i.item;
       place = i.place;
       cell = i.cell;
-      table = i.chron;
+      table = arc_value i.chron;
       shape = i.cell.item.shape;
       history = i.writer.list;
     } };
 
-    ghost invariant = { λ i. (i.writer.table ≡ i.chron) × (shape_kept i.shape ≡ i.cell.item.shape)
+    ghost invariant = { λ i. (i.writer.table ≡ arc_value i.chron) × (shape_kept i.shape ≡ i.cell.item.shape)
         × StandsFor i.cell i.writer.list
-        × IfSome i.place (λ p. ShowsItem N.deed.config p i.item i.cell.item.shape i.chron)
+        × IfSome i.place (λ p. ShowsItem N.deed.config p i.item i.cell.item.shape (arc_value i.chron))
         × Textual i.writer.list };
 }
 
 /// An adapter's pass to an item: by it events are published, and it has seen what was published through it. Contracts
 /// see the adapter, from 1, the item's number, its place in the register, where the pass knows it, its table and shape,
-/// and a beginning of its history, whose texts are UTF-8.
+/// and a beginning of its history, which is a history of that shape and whose texts are UTF-8.
 #[derive(Drop)]
 pub struct PubPass<N: House> {
     item: u32,
     adapter: u8,
-    shape: ItemShape,
-    reader: Reader<Entry>,
-    place: Option<Place<N>>,
+    pub(crate) shape: ItemShape,
+    pub(crate) reader: Reader<Entry>,
+    pub(crate) place: Option<Place<N>>,
 }
 
 impl<N: House> Model for PubPass<N> {
     ghost use Rattle.std.specs.Prelude.{◌≡◌, ◌≤◌, IfSome};
     ghost use Rattle.ls_event.specs.declared.limits.TheConstants.{MOST_ADAPTERS};
+    ghost use Rattle.ls_event.specs.Publishes.{IsHistory};
     ghost use Rattle.ls_event.specs.Textual.{Textual};
     ghost use Rattle.ls_register.specs.Items.{ShowsItem};
     ghost use Rattle.ls_live.specs.Live.{Pass, shape_kept};
@@ -93,7 +97,7 @@ impl<N: House> Model for PubPass<N> {
 
     ghost invariant = { λ p. (1 ≤ p.adapter) × (p.adapter ≤ MOST_ADAPTERS)
         × IfSome p.place (λ q. ShowsItem N.deed.config q p.item (shape_kept p.shape) p.reader.table)
-        × Textual p.reader.list };
+        × Textual p.reader.list × IsHistory (shape_kept p.shape) p.reader.list };
 }
 
 impl<N: House> LiveItem<N> {
@@ -105,6 +109,7 @@ impl<N: House> LiveItem<N> {
         ensures slots { IfOk result (λ i. StandsCell i.cell [] []) }
     {
         let (chron, writer) = Chron::start(alloc)?;
+        let chron = Arc::new(alloc, chron)?;
         let cell = ItemCell::new(alloc, item)?;
         Ok(LiveItem {
             alloc,
@@ -122,6 +127,14 @@ impl<N: House> LiveItem<N> {
         ensures { (result ≡ self.old.table) × (self.new ≡ self.old) }
     {
         self.chron.note(&mut self.writer).sign()
+    }
+
+    /// The shared history itself, to be kept beside the item's lock: readers of it count its entries without the lock.
+    /// It takes no memory, and is refused only where it is held 2^63 times.
+    pub fn history(&self) -> Result<Arc<Chron<Entry>>, NoMemory>
+        ensures { IfOk result (λ chron. arc_value chron ≡ self.now.table) }
+    {
+        Ok(Arc::try_clone(&self.chron)?)
     }
 
     /// The item at its place in the register, which shows the declared item of this number, from 0.
@@ -157,6 +170,7 @@ impl<N: House> LiveItem<N> {
         ensures same { self.new ≡ self.old }
         ensures pass { result ≡ record (whole_pass self.old adapter) { place = None } }
         ensures textual { Textual result.list }
+        ensures lawful { IsHistory result.shape result.list }
     {
         let reader = self.chron.note(&mut self.writer);
         PubPass {
@@ -176,6 +190,7 @@ impl<N: House> LiveItem<N> {
         ensures same { self.new ≡ self.old }
         ensures pass { result ≡ whole_pass self.old adapter }
         ensures textual { Textual result.list }
+        ensures lawful { IsHistory result.shape result.list }
     {
         let reader = self.chron.note(&mut self.writer);
         let place = match &mut self.place {
@@ -303,7 +318,7 @@ pub fn publish_copied<N: House>(
     } = item;
     add_copied(
         cell,
-        chron,
+        &**chron,
         writer,
         &mut pass.reader,
         pass.adapter,

@@ -62,6 +62,10 @@ impl<R: HostClock + Copy> Clock for SysClock<R> {
         thread::sleep(&self.rt, Duration::from_millis(ms));
     }
 
+    fn runs(&self) -> bool {
+        true
+    }
+
     /// A clock with the same start. It takes no memory, and never fails.
     fn twin(&self) -> Result<SysClock<R>, NoMemory>
         ensures later { IfOk result (λ t. self.now ≤ t) }

@@ -22,6 +22,10 @@ pub trait Clock: Sized {
     fn wait(&mut self, ms: u64)
         ensures { told self.old ≤ told self.new };
 
+    /// Whether its ticks rise by themselves as time goes by. Those of a clock in memory don't: so who waits for
+    /// something to do may sleep beside the one, and lets the other wait.
+    fn runs(&self) -> bool;
+
     /// A clock of the same time for another thread: its ticks don't fall below those that this one told.
     fn twin(&self) -> Result<Self, NoMemory>
         ensures { IfOk result (λ t. told self.now ≤ told t) };
@@ -108,6 +112,10 @@ impl Clock for MemClock {
         ensures after { self.new ≡ record self.old { waited = min (self.old.waited + ms) (2 ^ 64 - 1) } }
     {
         self.waited = self.waited.saturating_add(ms);
+    }
+
+    fn runs(&self) -> bool {
+        false
     }
 
     fn twin(&self) -> Result<MemClock, NoMemory>

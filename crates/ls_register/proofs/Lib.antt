@@ -1,1 +1,3 @@
 pub mod Showing
+pub mod Rising
+pub mod Counting

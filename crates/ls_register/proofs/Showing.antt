@@ -8,7 +8,7 @@ use Rattle.ls_chron.proofs.Beginnings.{prefix_get}
 use Rattle.ls_register.specs.declared.made.Made.{Made}
 use Rattle.ls_register.specs.declared.made.Made.TheVariants.{Item, Session, Slot, Gone, Claimed, Freed}
 use Rattle.ls_register.specs.Places.{Placed}
-use Rattle.ls_register.specs.Items.{items_of, fact_of, facts_from, ShowsItem}
+use Rattle.ls_register.specs.Items.{items_of, fact_of, facts_from, ShowsItem, ShowsSlot}
 
 -- a place shows the same for good
 pub shows_more : (config : List ItemDef) (p q : Placed) (item : ℕ) (shape : Shape) (table : TableId)
@@ -64,6 +64,17 @@ items_more (Gone s ∷ ms) item d table = items_more ms item d table
 items_more (Claimed n ∷ ms) item d table = items_more ms item d table
 items_more (Freed n ∷ ms) item d table = items_more ms item d table
 
+-- a slot more
+pub slots_more : (ms : List Made) (item slot : ℕ) (table : TableId) → items_of (ms ++ Slot item slot table ∷ []) ≡ items_of ms
+slots_more [] item slot table = refl
+slots_more (Item i f k o ∷ ms) item slot table =
+    ap (λ l. record { item = i; fields = f; kind = k } ∷ l) (slots_more ms item slot table)
+slots_more (Session s o ∷ ms) item slot table = slots_more ms item slot table
+slots_more (Slot i s o ∷ ms) item slot table = slots_more ms item slot table
+slots_more (Gone s ∷ ms) item slot table = slots_more ms item slot table
+slots_more (Claimed n ∷ ms) item slot table = slots_more ms item slot table
+slots_more (Freed n ∷ ms) item slot table = slots_more ms item slot table
+
 -- and one more that is declared
 pub facts_more : (n m : ℕ) (ds : List ItemDef) (d : ItemDef) → m ≡ n + length ds
     → facts_from n (ds ++ d ∷ []) ≡ facts_from n ds ++ fact_of m d ∷ []
@@ -76,3 +87,10 @@ pub at_end : (ms list : List Made) (m : Made) (n : ℕ) → list ≡ ms ++ m ∷
 at_end [] list m n is long = ap (λ l. slice_get l 0) is
 at_end (x ∷ ms) list m n is long =
     ap (λ l. slice_get l (length (x ∷ ms))) is ∙ at_end ms (ms ++ m ∷ []) m (length (ms ++ m ∷ [])) refl refl
+
+-- a slot that was added last is shown
+pub shows_slot : (ms list : List Made) (item slot e : ℕ) (o : TableId) (p : Placed) → list ≡ ms ++ Slot item slot o ∷ []
+    → e ≡ length ms → p ≡ record { at = e; list = list } → ShowsSlot p item slot o
+shows_slot ms list item slot e o p is at place =
+    subst (λ (q : Placed). ShowsSlot q item slot o) (sym place)
+    (record { entry = ap (slice_get list) at ∙ at_end ms list (Slot item slot o) (length list) is refl })

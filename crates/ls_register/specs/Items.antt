@@ -43,3 +43,7 @@ pub record ShowsItem (config : List ItemDef) (p : Placed) (item : ℕ) (shape : 
   pub entry : slice_get p.list p.at ≡ Some (Item item (length def.fields) def.kind table)
   pub declared : slice_get config item ≡ Some def
   pub shape_is : shape ≡ shape_of def
+
+-- the place shows the slot of this number, from 1, on the item of this number, whose tie stands on this table
+pub record ShowsSlot (p : Placed) (item slot : ℕ) (table : TableId) : Type 0 where
+  pub entry : slice_get p.list p.at ≡ Some (Slot item slot table)

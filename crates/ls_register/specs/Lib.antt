@@ -2,3 +2,5 @@ pub mod Tables
 pub mod Deeds
 pub mod Places
 pub mod Items
+pub mod Sessions
+pub mod Watches

@@ -36,6 +36,6 @@ pub fn tokens_cross<N: House + Send + Sync>() {
 }
 
 /// Threads share the book behind its lock.
-pub fn the_book_is_shared<N: House + Send + Sync>() {
-    syncs::<Mutex<Book<N>>>()
+pub fn the_book_is_shared<N: House + Send + Sync, H: Send>() {
+    syncs::<Mutex<Book<N, H>>>()
 }

@@ -14,7 +14,7 @@
 //! ```text
 //! let Blank { register, mut writer } = blank;
 //! let place = add_item::<N>(&register, &mut writer, 0, &def, live.sign())?;    // for each item, in order
-//! let mut book = Book::<N>::new(writer);
+//! let mut book = Book::<N, H>::new(alloc, writer, 1);     // so many items; H is what is held of a session
 //! let view = book.view(&register);       // its items are the server's
 //! ```
 //!
@@ -28,11 +28,12 @@ mod cross;
 mod house;
 mod made;
 mod place;
+mod rows;
 mod told;
 mod waiting;
 
 pub use blank::{Blank, add_item};
-pub use book::{Book, View};
+pub use book::{Book, ClaimRefused, View};
 pub use house::House;
 pub use made::Made;
 pub use place::{Place, one_table};

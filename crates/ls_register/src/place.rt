@@ -4,7 +4,7 @@ ghost use mathlib.Core.List.{IsPrefix};
 
 use crate::house::House;
 use crate::made::Made;
-use ls_chron::{Chron, Reader};
+use ls_chron::{Chron, Reader, Writer};
 use std::marker::{Model, PhantomData};
 
 /// Whether two places of the register are one. Both readers take the longer of their lists, so at one place both have
@@ -75,6 +75,17 @@ impl<N: House> Place<N> {
         ensures second { IsPrefix other.old.list other.new.list }
     {
         one_table(register, &mut self.seen, self.at, &mut other.seen, other.at)
+    }
+
+    /// Its reader has then the whole register. It takes no memory.
+    pub(crate) fn show(&mut self, register: &Chron<Made>, writer: &mut Writer<Made>)
+        requires register { register.now ≡ N.deed.register }
+        requires writer { writer.old.table ≡ register.now }
+        ensures writer { writer.new ≡ writer.old }
+        ensures whole { self.new ≡ record { at = self.old.at; list = writer.old.list } }
+        ensures begins { IsPrefix self.old.list writer.old.list }
+    {
+        register.whole(writer, &mut self.seen);
     }
 
     /// One more token of the place. It takes no memory.

@@ -1,9 +1,10 @@
 //! What a session's history tells.
 
+use ls_line::LineBuf;
 use ls_turns::SlotRef;
-use ls_value::Bytes;
 
-/// An entry of a session's history. Ticks are in ms, rates in thousandths of kbit/s, lengths in bytes.
+/// An entry of a session's history. Ticks are in ms, rates in thousandths of kbit/s, lengths in bytes. A text stands in
+/// room for the longest line, so that a session tells of each line in the room that it has.
 #[derive(Drop)]
 pub enum Told {
     /// A line was numbered.
@@ -11,7 +12,7 @@ pub enum Told {
     /// A line's text, without CR LF, was given on the stream of an epoch.
     Gave {
         epoch: u64,
-        text: Bytes,
+        text: LineBuf,
         tick: u64,
     },
     /// A stream is bound: its epoch, the number of the last line that counts as given before it, whether its client
@@ -46,7 +47,7 @@ pub enum Told {
 /// after the cut, and the number of the event at which its row stands. A line without a slot has 0 in these three.
 #[derive(Drop)]
 pub struct Numbered {
-    pub text: Bytes,
+    pub text: LineBuf,
     pub slot: Option<SlotRef>,
     pub before: u64,
     pub upto: u64,

@@ -40,7 +40,7 @@ impl Session {
 
     /// Why a subscription can't end, or have another frequency: the session has ended, there is no such subscription,
     /// or there is no room or no number for its line.
-    pub(crate) fn code_of_change(&self, sub: u32) -> Option<u16>
+    pub fn code_of_change(&self, sub: u32) -> Option<u16>
         ensures code { (r : Record) → StandsSession self.now r → result ≡ changing_code r.session sub }
         ensures left { result ≡ None → last_line self.now.lines + 1 ≤ GREATEST_NUMBER }
     {
@@ -68,7 +68,7 @@ impl Session {
 
     /// Why a session can't have a new stream: the bind names another session, it has ended, the client can't go on
     /// after its count, or no epoch is left.
-    pub(crate) fn code_of_bind(&self, bind: &Bind) -> Option<u16>
+    pub fn code_of_bind(&self, bind: &Bind) -> Option<u16>
         ensures code { (r : Record) → StandsSession self.now r → result ≡ binding_code r.number r.session bind.now }
         ensures may { result ≡ None → MayBind self.now.lines bind.now }
         ensures named { result ≡ None → bind.now.session ≡ self.now.number }

@@ -3,7 +3,9 @@ use Rattle.std.proofs.Common.{◌≡◌, ℕ, zero, suc, ◌<◌, ◌≤◌, Lis
 use Rattle.std.specs.List.{list_all}
 use Rattle.std.proofs.lemmas.Bool.{leb-true}
 use Rattle.ls_value.specs.Values.{are_distinct}
+use Rattle.ls_value.specs.Each.{Each}
 use Rattle.ls_value.proofs.Rows.{and_left, and_right}
+use Rattle.ls_told.specs.Seen.{IsDeclared}
 use Rattle.ls_words.specs.Words.{is_name}
 use Rattle.ls_event.specs.declared.item.ItemDef.{ItemDef}
 use Rattle.ls_event.specs.declared.limits.TheConstants.{MOST_FIELDS}
@@ -51,4 +53,26 @@ pub few_items : (ds : List ItemDef) → are_items ds ≡ true → length ds ≤ 
 few_items ds are =
     leb-true (length ds) MOST_ITEMS
     (and_left (nat_le (length ds) MOST_ITEMS) (list_all is_item ds)
+    (and_left (nat_le (length ds) MOST_ITEMS && list_all is_item ds) (are_distinct (names_of ds)) are))
+
+-- each item of a config is declared as it may be
+declared_each : (ds : List ItemDef) → list_all is_item ds ≡ true → Each IsDeclared ds
+declared_each [] all = tt
+declared_each (d ∷ ds) all =
+    let is : is_item d ≡ true = and_left (is_item d) (list_all is_item ds) all in
+    let fields : are_fields d.fields ≡ true =
+    and_right (is_name d.name) (are_fields d.fields) (and_left (is_name d.name && are_fields d.fields) (has_needed d.kind d.fields) is) in (
+      record {
+        shape = item_shape d is;
+        distinct =
+            and_right (nat_le 1 (length d.fields) && nat_le (length d.fields) MOST_FIELDS) (are_distinct d.fields)
+            (and_left (nat_le 1 (length d.fields) && nat_le (length d.fields) MOST_FIELDS && are_distinct d.fields) (list_all is_name d.fields) fields);
+      },
+      declared_each ds (and_right (is_item d) (list_all is_item ds) all),
+    )
+
+pub declared_all : (ds : List ItemDef) → are_items ds ≡ true → Each IsDeclared ds
+declared_all ds are =
+    declared_each ds
+    (and_right (nat_le (length ds) MOST_ITEMS) (list_all is_item ds)
     (and_left (nat_le (length ds) MOST_ITEMS && list_all is_item ds) (are_distinct (names_of ds)) are))

@@ -1,5 +1,6 @@
 //! What other threads may be sent, and what they may share.
 use crate::shared::Shared;
+use crate::testimony::Testimony;
 use ls_config::Config;
 use ls_live::{LiveItem, PubPass};
 use ls_register::House;
@@ -16,6 +17,10 @@ pub fn config_is_shared() {
 
 pub fn pass_is_sent<N: House + Send + Sync>() {
     sends::<PubPass<N>>()
+}
+
+pub fn testimony_is_sent<N: House + Send + Sync>() {
+    sends::<Testimony<N>>()
 }
 
 pub fn item_is_shared<N: House + Send + Sync>() {

@@ -18,10 +18,18 @@
 //! publishers get it. No slot joins an item here.
 #![tactic(auto)]
 
+mod binding;
+mod creating;
 mod cross;
+mod ending;
 mod shared;
+mod taking;
+mod testimony;
 
 pub use ls_event::PublishRefused;
 pub use ls_live::{LiveItem, PubPass, publish_into};
 pub use ls_register::{Blank, House, Made, View, one_table};
+pub use ls_session::{Lost, Turn};
+pub use ls_subs::Refusal;
 pub use shared::Shared;
+pub use testimony::{Opened, Testimony};

@@ -1,4 +1,4 @@
-//! Items behind their locks.
+//! The items of a server behind their locks, and its register with the sessions behind one of its own.
 ghost use Rattle.std.specs.Prelude.{◌≡◌, ◌<◌, ◌≤◌, ◌+◌, ◌++◌, ◌∷◌, [], true, IfOk, IfErr, IfSome, OnOk, Some, length};
 ghost use Rattle.std.specs.Prelude.{slice_get, vec_len};
 ghost use Rattle.std.specs.Vec.{vec_capacity};
@@ -13,30 +13,37 @@ ghost use Rattle.ls_register.specs.Items.{items_of, facts_of, fact_of};
 ghost use Rattle.ls_live.specs.Live.{IsCause, IsPassFor, cause_in, entry_of};
 ghost use Rattle.ls_shared.specs.Offers.{HasOnce};
 
+use crate::testimony::Held;
 use crossbeam_utils::CachePadded;
+use ls_bell::Bell;
 use ls_chron::{Chron, Writer};
 use ls_config::Config;
 use ls_event::{Event, ItemDef, PublishRefused};
-use ls_live::{CopiedEntry, LiveItem, PubPass, copied_entry, publish_copied};
+use ls_live::{CopiedEntry, LiveItem, PubPass, copied_entry};
 use ls_outside::{Gate, Point};
 use ls_register::{Blank, Book, House, Made, View, add_item, wait_for_good};
+use ls_seated::Seated;
 use ls_value::NoMemory;
 use std::alloc::Global;
-use std::sync::{Mutex, Wait};
+use std::sync::atomic::AtomicU64;
+use std::sync::{Arc, Mutex, Wait};
 
 /// The items of a server, each behind its lock and on cache lines of its own, so that offers to two of them don't slow
-/// one another; with the register that says what was made. It keeps the allocator that its constructor took.
+/// one another; with the register that says what was made, and the sessions. It keeps the allocator that its constructor
+/// took. `overdue` is a tick, in ms, before which no session is without a stream for too long.
 #[derive(Drop)]
 pub struct Shared<N: House> {
-    alloc: Global,
-    register: Chron<Made>,
-    config: Config,
-    book: Mutex<Book<N>>,
-    items: Vec<CachePadded<Mutex<LiveItem<N>>>>,
+    pub(crate) alloc: Global,
+    pub(crate) register: Chron<Made>,
+    pub(crate) config: Config,
+    pub(crate) book: Mutex<Book<N, Held<N>>>,
+    pub(crate) items: Vec<CachePadded<Mutex<Seated<N>>>>,
+    pub(crate) overdue: AtomicU64,
     ghost named: { register ≡ N.deed.register },
     ghost is_set: { config.set ≡ N.deed.set },
     ghost configured: { config.items ≡ N.deed.config },
     ghost counted: { vec_len items ≡ length config.items },
+    ghost sound: { are_items config.items ≡ true },
 }
 
 impl<N: House> Shared<N> {
@@ -53,13 +60,15 @@ impl<N: House> Shared<N> {
             mut writer,
         } = blank;
         let items = live_items::<N>(alloc, &register, &mut writer, config.items.as_slice())?;
-        let book = Mutex::new(Book::new(writer));
+        let count = config.items.len() as u64;
+        let book = Mutex::new(Book::new(alloc, writer, count));
         Ok(Shared {
             alloc,
             register,
             config,
             book,
             items,
+            overdue: AtomicU64::new(u64::MAX),
         })
     }
 
@@ -75,7 +84,7 @@ impl<N: House> Shared<N> {
         ensures shape { IfSome (slice_get N.deed.config item) (λ d. result.shape ≡ shape_of d) }
         ensures textual { Textual result.list }
     {
-        let lock: &Mutex<LiveItem<N>> = &self.items[item as usize];
+        let lock: &Mutex<Seated<N>> = &self.items[item as usize];
         let mut live = lock.lock(rt);
         pass_of(rt, &mut live, &self.register, item, adapter)
     }
@@ -130,7 +139,13 @@ impl<N: House> Shared<N> {
         };
         let mut live = lock.lock(rt);
         gate.pass(Point::Offering { item });
-        offer_to(rt, &mut live, &self.register, pass, seq, event, &copied)
+        let answer = offer_to(rt, &mut live, &self.register, pass, seq, event, &copied);
+        let bells = live.bells();
+        drop(live);
+        if let Ok(bells) = bells {
+            ring(&bells);
+        }
+        answer
     }
 }
 
@@ -140,7 +155,7 @@ fn live_items<N: House>(
     register: &Chron<Made>,
     writer: &mut Writer<Made>,
     defs: &[ItemDef],
-) -> Result<Vec<CachePadded<Mutex<LiveItem<N>>>>, NoMemory>
+) -> Result<Vec<CachePadded<Mutex<Seated<N>>>>, NoMemory>
     requires register { register.now ≡ N.deed.register }
     requires writer { writer.old.table ≡ N.deed.register }
     requires empty { writer.old.list ≡ [] }
@@ -149,6 +164,7 @@ fn live_items<N: House>(
     ensures table { writer.new.table ≡ N.deed.register }
     ensures items { OnOk result (items_of writer.new.list ≡ facts_of N.deed.config) }
     ensures count { IfOk result (λ items. vec_len items ≡ length N.deed.config) }
+    ensures entries { OnOk result (length writer.new.list ≡ length N.deed.config) }
 {
     let mut items = Vec::with_capacity(alloc, defs.len())?;
     push_items::<N>(alloc, register, writer, defs, &mut items)?;
@@ -161,7 +177,7 @@ fn push_items<N: House>(
     register: &Chron<Made>,
     writer: &mut Writer<Made>,
     defs: &[ItemDef],
-    items: &mut Vec<CachePadded<Mutex<LiveItem<N>>>>,
+    items: &mut Vec<CachePadded<Mutex<Seated<N>>>>,
 ) -> Result<(), NoMemory>
     requires register { register.now ≡ N.deed.register }
     requires writer { writer.old.table ≡ N.deed.register }
@@ -173,6 +189,7 @@ fn push_items<N: House>(
     ensures table { writer.new.table ≡ N.deed.register }
     ensures items { OnOk result (items_of writer.new.list ≡ facts_of N.deed.config) }
     ensures count { OnOk result (vec_len items.new ≡ length N.deed.config) }
+    ensures entries { OnOk result (length writer.new.list ≡ length N.deed.config) }
 {
     for item in 0..defs.len() {
         let live = live_item::<N>(alloc, register, writer, item as u32, &defs[item])?;
@@ -188,7 +205,7 @@ fn live_item<N: House>(
     writer: &mut Writer<Made>,
     item: u32,
     def: &ItemDef,
-) -> Result<LiveItem<N>, NoMemory>
+) -> Result<Seated<N>, NoMemory>
     requires register { register.now ≡ N.deed.register }
     requires writer { writer.old.table ≡ N.deed.register }
     requires declared { slice_get N.deed.config item ≡ Some def.now }
@@ -203,13 +220,13 @@ fn live_item<N: House>(
     let Ok(place) = add_item::<N>(register, writer, item, def, table) else {
         unreachable!()
     };
-    Ok(live.at(place, item))
+    Seated::new(alloc, live.at(place, item))
 }
 
 /// An adapter's pass of the item behind a lock. Where that isn't the item of this number, it waits for good.
 fn pass_of<N: House, R: Wait>(
     rt: &R,
-    live: &mut LiveItem<N>,
+    live: &mut Seated<N>,
     register: &Chron<Made>,
     item: u32,
     adapter: u8,
@@ -231,7 +248,7 @@ fn pass_of<N: House, R: Wait>(
 /// Adds an event to the item behind a lock. Where the pass is of another item, it waits for good.
 fn offer_to<N: House, R: Wait>(
     rt: &R,
-    live: &mut LiveItem<N>,
+    live: &mut Seated<N>,
     register: &Chron<Made>,
     pass: &mut PubPass<N>,
     seq: u64,
@@ -253,5 +270,12 @@ fn offer_to<N: House, R: Wait>(
     if !live.is_of(register, pass) {
         wait_for_good(rt);
     }
-    publish_copied(live, pass, seq, event, copied)
+    live.publish_copied(pass, seq, event, copied)
+}
+
+/// Rings each bell.
+fn ring(bells: &Vec<Arc<Bell, Global>, Global>) {
+    for bell in bells.iter() {
+        bell.ring();
+    }
 }

@@ -14,3 +14,4 @@ pub mod Planning
 pub mod Mapped
 pub mod Enqueues
 pub mod Limiting
+pub mod Joins

@@ -40,7 +40,7 @@ fn is_one_place<N: House>(alloc: Global, blank: Blank, def: &ItemDef) -> Result<
         return Err(NoMemory);
     };
     let mut again = place.again(&register);
-    let mut book = Book::<N>::new(writer);
+    let mut book = Book::<N, u64>::new(alloc, writer, 1);
     let _view = book.view(&register);
     Ok(place.is_that(&register, &mut again))
 }

@@ -1,5 +1,7 @@
-use Rattle.std.proofs.Common.{◌≡◌, ◌++◌, ◌∷◌, [], sym, ◌∙◌, ap, subst, IfSome, IfOk, IfErr, length, None}
+use Rattle.std.proofs.Common.{◌≡◌, ◌++◌, ◌∷◌, [], List, sym, ◌∙◌, ap, subst, IfSome, IfOk, IfErr, length, None}
 use mathlib.Core.List.{IsPrefix}
+use Rattle.std.specs.Arc.{arc_value}
+use Rattle.ls_event.specs.declared.event.Entry.{Entry}
 use Rattle.ls_event.specs.History.{HasFields}
 use Rattle.ls_event.specs.Publishes.{IsHistory}
 use Rattle.ls_event.specs.Shapes.{Shape}
@@ -18,11 +20,12 @@ add_copied-requires-clause-fields g c =
     subst (λ (x : HeldItem). HasFields x.shape.fields c.args.event) (sym c.item.view_is) c.requires.fields
 
 pub add_copied-requires-clause-writer : goal.add_copied-requires-clause-writer
-add_copied-requires-clause-writer g c = c.item.invariant.0
+add_copied-requires-clause-writer g c = c.item.invariant.0 ∙ sym c.deref.ensures
 
 pub add_copied-requires-clause-reader : goal.add_copied-requires-clause-reader
 add_copied-requires-clause-reader g c =
-    ap (λ (x : Pass). x.table) c.pass.view_is ∙ (c.requires.of.table ∙ sym (ap (λ (x : HeldItem). x.table) c.item.view_is))
+    ap (λ (x : Pass). x.table) c.pass.view_is
+    ∙ (c.requires.of.table ∙ (sym (ap (λ (x : HeldItem). x.table) c.item.view_is) ∙ sym c.deref.ensures))
 
 pub add_copied-requires-clause-stands : goal.add_copied-requires-clause-stands
 add_copied-requires-clause-stands g c = c.item.invariant.2
@@ -40,7 +43,7 @@ invariant_of-item g c =
       said.table ∙ inv.0,
       inv.1 ∙ sym said.shape,
       stands_kept i.cell i.writer.list c.add_copied.new.cell c.add_copied.new.writer.list said.slots inv.2,
-      subst (λ (p : Shape). IfSome i.place (λ q. ShowsItem g.N.House.deed.config q i.item p i.chron)) (sym said.shape) inv.3,
+      subst (λ (p : Shape). IfSome i.place (λ q. ShowsItem g.N.House.deed.config q i.item p (arc_value i.chron))) (sym said.shape) inv.3,
       said.textual inv.4,
     )
 
@@ -56,6 +59,16 @@ invariant_of-pass g c =
       subst (λ (t : TableId). IfSome p.place (λ q. ShowsItem g.N.House.deed.config q p.item (shape_kept p.shape) t))
           (sym same) c.pass.invariant.2,
       subst Textual (sym (ap (λ t. t.list) said.reader)) (said.textual c.item.invariant.4),
+      subst (λ (x : Shape × List Entry). IsHistory x.0 x.1)
+          (λ k. (
+            (ap (λ (x : HeldItem). x.shape) c.item.view_is
+                ∙ (sym c.requires.of.shape ∙ sym (ap (λ (x : Pass). x.shape) c.pass.view_is))) k,
+            (sym (ap (λ t. t.list) said.reader)) k,
+          ))
+          (subst (λ (q : Shape). IsHistory q c.add_copied.new.writer.list) said.shape
+          (stands_lawful c.add_copied.new.cell c.add_copied.new.writer.list
+          (stands_kept c.item.inside.cell c.item.inside.writer.list c.add_copied.new.cell c.add_copied.new.writer.list
+          said.slots c.item.invariant.2))),
     )
 
 pub returns-clause-item : goal.returns-clause-item

@@ -1,0 +1,17 @@
+//! A bell that wakes threads which wait for something to do.
+//!
+//! A `Bell` is rung by whoever made something new, and waited for by whoever looks for it:
+//!
+//! ```text
+//! let seen = bell.rings();
+//! // .. looks, and finds nothing ..
+//! bell.wait(rt, seen, 10);        // at once where it was rung since, at most 10 ms
+//! ```
+//!
+//! It is shared by reference or in an `Arc`. It takes no memory, and no contract speaks of time.
+#![tactic(auto)]
+
+mod bell;
+mod cross;
+
+pub use bell::Bell;

@@ -1,0 +1,248 @@
+-- What is kept of a session in threads stays right as one of its slots is asked.
+use Rattle.std.proofs.Common.{◌≡◌, ◌<◌, ◌-◌, ◌+◌, ℕ, zero, suc, Bool, true, false, Option, None, Some, List, [], ◌∷◌, ◌++◌, length, refl, sym, ◌∙◌, ap, subst, arith, cond}
+use Rattle.std.proofs.Common.{slice_get, option_map, eq-eqb}
+use mathlib.Core.List.{IsPrefix}
+use Rattle.ls_value.specs.Each.{Each}
+use Rattle.ls_value.specs.declared.limits.TheConstants.{GREATEST_NUMBER, GREATEST_TICK}
+use Rattle.ls_event.specs.declared.event.Entry.{Entry}
+use Rattle.ls_event.specs.declared.event.Taken.{Taken}
+use Rattle.ls_event.specs.declared.item.ItemDef.{ItemDef}
+use Rattle.ls_event.specs.Cuts.{cut}
+use Rattle.ls_event.specs.Slots.{Plan}
+use Rattle.ls_cell.proofs.Passing.{passed_last, passed_plan}
+use Rattle.ls_mirror.specs.Client.{What}
+use Rattle.ls_record.specs.Came.{came_by}
+use Rattle.ls_record.specs.Lines.{Line, Tells, line_text, text_at}
+use Rattle.ls_record.specs.Records.{LiveSlot, change, shape_in, is_alive}
+use Rattle.ls_record.proofs.Each.{each_at}
+use Rattle.ls_register.specs.declared.told.Told.{Told}
+use Rattle.ls_register.specs.declared.told.Told.TheVariants.{Numbered}
+use Rattle.ls_register.specs.declared.told.Numbered.{Numbered as NumberedLine}
+use Rattle.ls_seated.specs.Seats.{SeatSeen}
+use Rattle.ls_seated.proofs.Tied.{at_last, at_passed}
+use Rattle.ls_subs.specs.Standing.{passed_live, what_of}
+use Rattle.ls_session.specs.declared.session.Session.{Session as Kept}
+use Rattle.ls_session.specs.Record.{Record, waited, answered, answered_by}
+use Rattle.ls_session.specs.Session.{StandsSession}
+use Rattle.ls_stream.specs.Standing.{IsShort}
+use Rattle.ls_told.specs.Seen.{Watched, seen_of, FitsWatch, showing}
+use Rattle.ls_told.specs.Keeping.{KeepsTold}
+use Rattle.ls_told.specs.Telling.{TellsOf}
+use Rattle.ls_told.proofs.Answered.{keeps_silent, keeps_told}
+use Rattle.ls_told.proofs.Keeps.{keeps_caught_up}
+use Rattle.ls_told.proofs.Watching.{seen_first}
+use Rattle.ls_live_session.specs.Speaking.{SubSeen}
+use Rattle.ls_live_session.specs.Adding.{NoneBefore}
+use Rattle.ls_live_session.specs.Leaving.{HasLast}
+use Rattle.ls_live_session.specs.Lives.{LivesAs, IsSeatOf, HasSeat, HasNothing}
+use Rattle.ls_live_session.specs.Taking.{reached, caught_up}
+use Rattle.ls_live_session.proofs.Bounds.{fits_numbered}
+use Rattle.ls_live_session.proofs.CaughtUp.{get_changed, session_caught}
+use Rattle.ls_live_session.proofs.Living.{latest_at, at_latest}
+use Rattle.ls_live_session.proofs.Moving.{SeatMoves, same_last, own_seat, other_seat, each_moved, each_back}
+use Rattle.ls_live_session.proofs.Seeing.{lives_seen_at}
+
+-- the seat that moves is the slot's
+pub moving_seat : (config : List ItemDef) (ws : List Watched) (old new : List SubSeen) (v : LiveSlot) (t u : SeatSeen)
+    → SeatMoves old new v.sub v.rank t u → HasSeat config ws old v → IsSeatOf config ws t v
+moving_seat config ws old new v t u m h =
+    let place : h.place ≡ m.place = same_last old v.sub h.place m.place h.group m.group h.there h.named h.only m.there m.named m.only in
+    let groups : Some h.group ≡ Some m.group = sym h.there ∙ (ap (slice_get old) place ∙ m.there) in
+    let group : h.group ≡ m.group = cc in
+    let seats : Some h.seat ≡ Some t = sym h.ranked ∙ (ap (λ (g : SubSeen). slice_get g.seats (v.rank - 1)) group ∙ m.ranked) in
+    let seat : h.seat ≡ t = cc in
+    subst (λ (x : SeatSeen). IsSeatOf config ws x v) seat h.of
+
+-- the slot that is asked has more events enqueued
+pub asked_caught : (r : Record) (n : ℕ) (v : LiveSlot) → slice_get r.session.board.round r.asked ≡ Some v
+    → slice_get (caught_up n r).session.board.round r.asked ≡ Some (reached n v)
+asked_caught r n v here = get_changed (reached n) r.asked r.session.board.round ∙ ap (option_map (reached n)) here
+
+change_same : (n : ℕ) (vs : List LiveSlot) → change n (λ x. x) vs ≡ vs
+change_same n [] = refl
+change_same zero (v ∷ vs) = refl
+change_same (suc n) (v ∷ vs) = ap (λ l. v ∷ l) (change_same n vs)
+
+module _ (config : List ItemDef) (number : ℕ) (es : List Told) (ws : List Watched) (subs new : List SubSeen) (k : Kept) (r : Record)
+    (v : LiveSlot) (here : slice_get r.session.board.round r.asked ≡ Some v) where
+  pub lives_caught : (at : ℕ) (w : Watched) (h : List Entry) (t : SeatSeen) → LivesAs config number es ws subs k r
+      → slice_get ws at ≡ Some w → w.item ≡ v.item → NoneBefore ws at v.item → IsPrefix w.list h → FitsWatch config (showing h w)
+      → SeatMoves subs new v.sub v.rank t (record t { last = length h; quiet = false })
+      → LivesAs config number es (change at (showing h) ws) new k (caught_up (length h) r)
+  lives_caught at w h t l there item none more fits m =
+      let n : ℕ = length h in
+      let ws1 : List Watched = change at (showing h) ws in
+      let l1 : LivesAs config number es ws1 subs k r = lives_seen_at config number es ws subs k r at w h there more fits l in
+      let seen : seen_of ws1 v.item ≡ h = seen_first ws at w h v.item there item none in
+      let long : length (seen_of ws1 v.item) ≡ n = ap (λ (x : List Entry). length x) seen in
+      let u : SeatSeen = record t { last = n; quiet = false } in
+      let own : IsSeatOf config ws1 t v =
+      moving_seat config ws1 subs new v t u m (each_at (HasSeat config ws1 subs) r.asked v r.session.board.round here l1.seated) in
+      let is : IsSeatOf config ws1 u (reached n v) =
+      record {
+        sub = own.sub;
+        rank = own.rank;
+        item = own.item;
+        number = own.number;
+        shape = own.shape;
+        at = at_last (shape_in config v.item) (seen_of ws1 v.item) t.plan t.list v.slot n (omega (arith, long)) own.at;
+        last = refl;
+        quiet = λ b. absurd (let x : false ≡ true = b in cc);
+      } in
+      record {
+        stands = session_caught k r n l1.stands;
+        number_is = l1.number_is;
+        floor = l1.floor;
+        latest = l1.latest;
+        told =
+            keeps_caught_up config number es ws1 r.session r.asked n v here (omega (arith, own.at.last, long)) (omega (arith, long)) l1.told;
+        seated =
+            each_moved (HasSeat config ws1 subs) (HasSeat config ws1 new) (reached n) r.asked r.session.board.round v l1.stands.subs.apart here
+            (λ x away has. other_seat config ws1 subs new v.sub v.rank t u m x away has)
+            (own_seat config ws1 subs new v.sub v.rank t u m (reached n v) refl refl is) l1.seated;
+        fits = l1.fits;
+      }
+
+  -- it waits until it is due
+  pub lives_waited : (k2 : Kept) → LivesAs config number es ws subs k r → StandsSession k2 (waited r v)
+      → LivesAs config number es ws subs k2 (waited r v)
+  lives_waited k2 l stands =
+      record {
+        stands = stands;
+        number_is = l.number_is;
+        floor = l.floor;
+        latest = l.latest;
+        told = l.told;
+        seated = l.seated;
+        fits = l.fits;
+      }
+
+  -- it has nothing, and its seat knows that
+  pub lives_quiet : (t : SeatSeen) (b : Bool) → LivesAs config number es ws subs k r → SeatMoves subs new v.sub v.rank t (record t { quiet = b })
+      → (b ≡ true → HasNothing (seen_of ws v.item) v.slot) → LivesAs config number es ws new k r
+  lives_quiet t b l m nothing =
+      let u : SeatSeen = record t { quiet = b } in
+      let own = moving_seat config ws subs new v t u m (each_at (HasSeat config ws subs) r.asked v r.session.board.round here l.seated) in
+      let is : IsSeatOf config ws u v =
+      record {
+        sub = own.sub;
+        rank = own.rank;
+        item = own.item;
+        number = own.number;
+        shape = own.shape;
+        at = own.at;
+        last = own.last;
+        quiet = nothing;
+      } in
+      record {
+        stands = l.stands;
+        number_is = l.number_is;
+        floor = l.floor;
+        latest = l.latest;
+        told = l.told;
+        seated =
+            subst (Each (HasSeat config ws new)) (change_same r.asked r.session.board.round)
+            (each_moved (HasSeat config ws subs) (HasSeat config ws new) (λ x. x) r.asked r.session.board.round v l.stands.subs.apart here
+            (λ x away has. other_seat config ws subs new v.sub v.rank t u m x away has)
+            (own_seat config ws subs new v.sub v.rank t u m v refl refl is) l.seated);
+        fits = l.fits;
+      }
+
+  -- its seat after a cut that both passed
+  passed_seat : (t : SeatSeen) (taken : Taken) → IsSeatOf config ws t v → v.slot.last ≡ length (seen_of ws v.item)
+      → cut (seen_of ws v.item) v.slot ≡ Some taken
+      → IsSeatOf config ws (record t { list = t.list ++ length (seen_of ws v.item) ∷ []; quiet = false }) (passed_live taken v)
+  passed_seat t taken own whole cuts =
+      record {
+        sub = own.sub;
+        rank = own.rank;
+        item = own.item;
+        number = own.number;
+        shape = ap (λ (p : Plan). p.shape) (passed_plan v.slot taken) ∙ own.shape;
+        at = at_passed (shape_in config v.item) (seen_of ws v.item) t.plan t.list v.slot taken own.at whole cuts;
+        last = own.last ∙ sym (passed_last v.slot taken);
+        quiet = λ b. absurd (let x : false ≡ true = b in cc);
+      }
+
+  moved_round : (t : SeatSeen) (taken : Taken) → LivesAs config number es ws subs k r → v.slot.last ≡ length (seen_of ws v.item)
+      → cut (seen_of ws v.item) v.slot ≡ Some taken
+      → SeatMoves subs new v.sub v.rank t (record t { list = t.list ++ length (seen_of ws v.item) ∷ []; quiet = false })
+      → HasSeat config ws new (passed_live taken v) × Each (HasSeat config ws new) (change r.asked (passed_live taken) r.session.board.round)
+  moved_round t taken l whole cuts m =
+      let u : SeatSeen = record t { list = t.list ++ length (seen_of ws v.item) ∷ []; quiet = false } in
+      let own = moving_seat config ws subs new v t u m (each_at (HasSeat config ws subs) r.asked v r.session.board.round here l.seated) in
+      let mine = own_seat config ws subs new v.sub v.rank t u m (passed_live taken v) refl refl (passed_seat t taken own whole cuts) in (
+        mine,
+        each_moved (HasSeat config ws subs) (HasSeat config ws new) (passed_live taken) r.asked r.session.board.round v l.stands.subs.apart here
+            (λ x away has. other_seat config ws subs new v.sub v.rank t u m x away has) mine l.seated,
+      )
+
+  -- its cut makes no line
+  pub lives_silent : (k2 : Kept) (t : SeatSeen) (taken : Taken) → LivesAs config number es ws subs k r
+      → v.slot.last ≡ length (seen_of ws v.item) → cut (seen_of ws v.item) v.slot ≡ Some taken
+      → SeatMoves subs new v.sub v.rank t (record t { list = t.list ++ length (seen_of ws v.item) ∷ []; quiet = false })
+      → what_of r.session.board.lines v taken ≡ None → StandsSession k2 (answered r v taken)
+      → LivesAs config number es ws new k2 (answered r v taken)
+  lives_silent k2 t taken l whole cuts m silent stands =
+      subst (λ (o : Option What). LivesAs config number es ws new k2 (answered_by r v taken o)) (sym silent)
+      (record {
+        stands = subst (λ (o : Option What). StandsSession k2 (answered_by r v taken o)) silent stands;
+        number_is = l.number_is;
+        floor = l.floor;
+        latest = l.latest;
+        told =
+            subst (λ (o : Option What). KeepsTold config number es ws (answered_by r v taken o).session) silent
+            (keeps_silent config number es ws r v taken here cuts silent l.told);
+        seated = (moved_round t taken l whole cuts m).1;
+        fits = l.fits;
+      })
+
+  -- its cut makes a line
+  pub lives_line : (k2 : Kept) (t : SeatSeen) (taken : Taken) (what : What) (line : NumberedLine) → LivesAs config number es ws subs k r
+      → length es < GREATEST_NUMBER → v.slot.last ≡ length (seen_of ws v.item) → cut (seen_of ws v.item) v.slot ≡ Some taken
+      → SeatMoves subs new v.sub v.rank t (record t { list = t.list ++ length (seen_of ws v.item) ∷ []; quiet = false })
+      → what_of r.session.board.lines v taken ≡ Some what → StandsSession k2 (answered r v taken)
+      → line.text ≡ line_text r.session.board.lines (Tells v.sub v.rank r.tick (came_by v.slot taken what))
+      → TellsOf line v.sub v.rank r.tick
+      → LivesAs config number (es ++ Numbered line ∷ []) ws new k2 (answered r v taken)
+  lives_line k2 t taken what line l low whole cuts m tells stands text of =
+      let moved = moved_round t taken l whole cuts m in
+      subst (λ (o : Option What). LivesAs config number (es ++ Numbered line ∷ []) ws new k2 (answered_by r v taken o)) (sym tells)
+      (record {
+        stands = subst (λ (o : Option What). StandsSession k2 (answered_by r v taken o)) tells stands;
+        number_is = l.number_is;
+        floor = omega (arith, at_latest es (Numbered line) line.tick refl, of.tick_is);
+        latest = latest_at es (Numbered line) line.tick GREATEST_TICK refl l.latest (omega (arith, of.tick_is, l.stands.round.most));
+        told =
+            subst (λ (o : Option What). KeepsTold config number (es ++ Numbered line ∷ []) ws (answered_by r v taken o).session) tells
+            (keeps_told config number es ws r v taken what line here cuts tells text of l.told);
+        seated =
+            each_back (HasSeat config ws new) (passed_live taken) r.asked r.session.board.round (passed_live taken v) moved.1 moved.0;
+        fits = fits_numbered number es line l.fits low;
+      })
+
+-- the text of the last line
+text_last : (lines : List Line) (l : Line) → text_at (l ∷ lines) (length (l ∷ lines)) ≡ line_text lines l
+text_last lines l =
+    let same : suc (length lines) ≡ length lines + 1 = omega arith in
+    ap (λ b. cond b (line_text lines l) (text_at lines (suc (length lines)))) (eq-eqb (suc (length lines)) (length lines + 1) same)
+
+-- the line that a cut made is kept
+pub line_last : (config : List ItemDef) (number : ℕ) (es es2 : List Told) (ws : List Watched) (subs subs2 : List SubSeen) (k k2 : Kept)
+    (r : Record) (v : LiveSlot) (taken : Taken) (what : What) → LivesAs config number es ws subs k r
+    → LivesAs config number es2 ws subs2 k2 (answered r v taken) → what_of r.session.board.lines v taken ≡ Some what
+    → is_alive r.session.life ≡ true
+    → IsShort (line_text r.session.board.lines (Tells v.sub v.rank r.tick (came_by v.slot taken what)))
+    → HasLast k2 (line_text r.session.board.lines (Tells v.sub v.rank r.tick (came_by v.slot taken what)))
+line_last config number es es2 ws subs subs2 k k2 r v taken what l l2 tells alive short =
+    let text : List ℕ = line_text r.session.board.lines (Tells v.sub v.rank r.tick (came_by v.slot taken what)) in
+    let new : LivesAs config number es2 ws subs2 k2 (answered_by r v taken (Some what)) =
+    subst (λ (o : Option What). LivesAs config number es2 ws subs2 k2 (answered_by r v taken o)) tells l2 in
+    record {
+      of = answered_by r v taken (Some what);
+      stands = new.stands;
+      alive = alive;
+      some = omega (arith, new.told.alone.session.given_up, l.told.alone.session.sent);
+      text_is = text_last r.session.board.lines (Tells v.sub v.rank r.tick (came_by v.slot taken what));
+      short = short;
+    }

@@ -1,0 +1,52 @@
+use Rattle.std.proofs.Common.{◌∙◌, ap, subst, length, Some, Err}
+use Rattle.ls_record.specs.Acting.{asks_of}
+use Rattle.ls_live_session.specs.Adding.{FindsAdd}
+use Rattle.ls_live_session.proofs.Added.{adding_begun, lives_prepared, items_planned, seen_begun}
+use Rattle.ls_live_session.proofs.live.LiveSession.begin_add.Goals as goal
+
+pub invariant_of-result : goal.invariant_of-result
+invariant_of-result g c =
+    let old = c.self.inside.parts in
+    let new = c.plan_in.new.parts in
+    let i = c.self.invariant in
+    let r = i.0.0 in
+    let config = g.N.House.deed.config in
+    let begun = adding_begun config old.number old.history.list old.watches.items old.subs.items new.subs.items old.session new.session c.args.add.now
+    c.args.free c.in-Ok.plan c.new.result.items c.new-in-Ok.result.items r i.0.1 c.plan_in.ensures.subs (c.plan_in.ensures.same r i.0.1.stands)
+    c.in-Ok.ensures.ready c.in-Ok.ensures.plan c.in-Ok.ensures.join c.requires.fits (c.in-Ok.ensures.accepted r i.0.1.stands)
+    c.in-Ok.ensures.left.0 c.new.ensures.items c.new-in-Ok.ensures.items in
+    rw c.plan_in.ensures.rest ((r, begun), i.1, c.in-Ok.ensures.room)
+
+pub invariant_of-result-in-Err : goal.invariant_of-result-in-Err
+invariant_of-result-in-Err g c =
+    let old = c.self.inside.parts in
+    let new = c.plan_in.new.parts in
+    let i = c.self.invariant in
+    let r = i.0.0 in
+    let lives = lives_prepared g.N.House.deed.config old.number old.history.list old.watches.items old.subs.items new.subs.items old.session
+    new.session r c.plan_in.ensures.subs (c.plan_in.ensures.same r i.0.1.stands) i.0.1 in
+    rw c.plan_in.ensures.rest ((r, lives), i.1)
+
+pub returns-in-Ok-clause-begun : goal.returns-in-Ok-clause-begun
+returns-in-Ok-clause-begun g c =
+    let config = g.N.House.deed.config in
+    let a = c.args.add.now in
+    let rest = c.plan_in.ensures.rest in
+    let view = c.self.view_is in
+    let new = c.plan_in.new.parts in
+    let self = c.args.self in
+    seen_begun new.number self.number new.place self.place new.history.table self.table new.history.list self.lines new.watches.items self.watches
+    a c.args.free _ _ (length c.new.result.items) 0
+    (ap (λ p. p.number) rest ∙ ap (λ s. s.number) view)
+    (ap (λ p. p.place) rest ∙ ap (λ s. s.place) view)
+    (ap (λ p. p.history.table) rest ∙ ap (λ s. s.table) view)
+    (ap (λ p. p.history.list) rest ∙ ap (λ s. s.lines) view)
+    (ap (λ p. p.watches.items) rest ∙ ap (λ s. s.watches) view)
+    (items_planned config a.sub 1 (asks_of config a) c.in-Ok.plan.items.items c.in-Ok.ensures.plan.items)
+    (ap length c.new.ensures.items)
+
+pub returns-in-Err-clause-refused : goal.returns-in-Err-clause-refused
+returns-in-Err-clause-refused g c = λ code is.
+    let i = c.self.invariant in
+    subst (λ s. FindsAdd g.N.House.deed.config s.number s.lines s.watches c.args.free c.args.spent c.args.add.now (Some code)) c.self.view_is
+    (record { session = i.0.0.session; told = i.0.1.told; code_is = c.in-Err.ensures.refused code (ap (λ e. Err e) is) i.0.0 i.0.1.stands })

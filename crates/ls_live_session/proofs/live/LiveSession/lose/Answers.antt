@@ -1,0 +1,9 @@
+use Rattle.std.proofs.Common.{◌≡◌, ℕ, Some, subst}
+use Rattle.ls_told.specs.Heard.{heard}
+use Rattle.ls_live_session.specs.Speaking.{Speaking}
+use Rattle.ls_live_session.proofs.live.LiveSession.lose.Goals as goal
+
+pub returns-clause-not_bound : goal.returns-clause-not_bound
+returns-clause-not_bound g c is =
+    subst (λ (v : Speaking). ((x : ℕ) × ((heard v.number v.lines).unbound ≡ Some x)) × (c.lose.new.self.history.list ≡ v.lines))
+    c.self.view_is (c.lose.ensures.not_bound is)

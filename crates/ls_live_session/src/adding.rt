@@ -1,0 +1,569 @@
+//! A subscription is added to a session: its slots join their items one after another (TLCP 2.1, control with LS_op add).
+ghost use Rattle.std.specs.Prelude.{◌≡◌, ◌≤◌, ◌<◌, ◌+◌, ◌++◌, ◌∷◌, [], ℕ, None, Some, IfOk, IfErr, IfSome, OnOk, OnErr, IsTrue, IsFalse};
+ghost use Rattle.std.specs.Prelude.{true, false, length, map, slice_get};
+ghost use Rattle.ls_value.specs.declared.limits.TheConstants.{GREATEST_TICK};
+ghost use Rattle.ls_request.specs.Ranges.{AddFits};
+ghost use Rattle.ls_record.specs.Acting.{asks_of};
+ghost use Rattle.ls_record.specs.Cutting.{Ask as Asks};
+ghost use Rattle.ls_subs.specs.declared.plan.Refusal.TheVariants as Refusal;
+ghost use Rattle.ls_told.specs.Seen.{SeesMore};
+ghost use Rattle.ls_told.specs.Heard.{counts_as};
+ghost use Rattle.ls_told.specs.Requests.{is_spent};
+ghost use Rattle.std.specs.Prelude.{◌||◌, List, IsErrOf};
+ghost use Rattle.std.specs.Vec.{vec_len, vec_capacity};
+ghost use Rattle.ls_value.specs.Each.{Each};
+ghost use Rattle.atomic_table.specs.Seated.{TableId};
+ghost use Rattle.ls_cell.specs.Numbered.{live_slots};
+ghost use Rattle.ls_register.specs.declared.made.Made.TheVariants.{Slot as SlotMade};
+ghost use Rattle.ls_request.specs.declared.request.Add.{Add as Added};
+ghost use Rattle.ls_request.specs.declared.request.Op.TheVariants as op;
+ghost use Rattle.ls_record.specs.Records.{shape_in};
+ghost use Rattle.ls_record.specs.declared.TheConstants.{MOST_GROUP_ITEMS};
+ghost use Rattle.ls_register.specs.declared.told.Told.{Told};
+ghost use Rattle.ls_seated.specs.Seats.{SeatSeen, IsJoinCause};
+ghost use Rattle.ls_subs.specs.declared.plan.PlanItem.{PlanItem as Planned};
+ghost use Rattle.ls_subs.specs.Plans.{IsPlan, MayJoin};
+ghost use Rattle.ls_session.specs.declared.session.Session.{Session as Kept};
+ghost use Rattle.ls_session.specs.Record.{Record, adding_code};
+ghost use Rattle.ls_session.specs.Session.{StandsSession, IsReady};
+ghost use Rattle.ls_told.specs.Seen.{Watched, FitsWatch};
+ghost use Rattle.ls_told.specs.Requests.{op_code};
+ghost use Rattle.ls_live_session.specs.Speaking.{SubSeen};
+ghost use Rattle.ls_live_session.specs.Lives.{Lives};
+ghost use Rattle.ls_live_session.specs.Sights.{AreOneItems};
+ghost use Rattle.ls_live_session.specs.Adding.{AddingSeen, FindsAdd, AddsTo, IsAdding, NoneBefore, IsFirst, AddsWatch, JoinsNow, JoinsOne, JoinsNone};
+
+use crate::history::no_cut;
+use crate::live::LiveSession;
+use crate::parts::{SessionParts, SubSeats};
+use crate::sight::Sight;
+use ls_bell::Bell;
+use ls_chron::Chron;
+use ls_config::Config;
+use ls_live::Watch;
+use ls_register::{Book, House, Made};
+use ls_request::Add;
+use ls_seated::{JoinRefused, Seat, Seated};
+use ls_subs::{AddPlan, PlanItem, Refusal};
+use ls_value::NoMemory;
+use std::alloc::Global;
+use std::marker::Model;
+use std::sync::Arc;
+
+/// A session to which a subscription is added, while its slots join their items. It has all the memory that the session
+/// needs for the subscription.
+#[derive(Drop)]
+pub struct Adding<'a, N: House> {
+    add: &'a Add,
+    free: u32,
+    parts: SessionParts<N>,
+    plan: AddPlan,
+    seats: Vec<Seat<N>>,
+    numbers: Vec<u32>,
+}
+
+impl<'a, N: House> Model for Adding<'a, N> {
+    ghost use Rattle.std.specs.Prelude.{map, length};
+    ghost use Rattle.ls_subs.specs.declared.plan.PlanItem.{PlanItem};
+    ghost use Rattle.ls_live_session.specs.Adding.{AddingSeen};
+
+    ghost Value = { AddingSeen };
+
+    ghost view = { λ d. record {
+      number = d.parts.number;
+      place = d.parts.place;
+      table = d.parts.history.table;
+      lines = d.parts.history.list;
+      watches = d.parts.watches.items;
+      add = d.add.now;
+      free = d.free;
+      items = map (λ (p : PlanItem). p.item) d.plan.items.items;
+      joined = length d.seats.items;
+    } };
+
+    ghost use Rattle.std.specs.Prelude.{◌≡◌, ◌≤◌, ◌+◌, IfSome};
+    ghost use Rattle.std.specs.Vec.{vec_len, vec_capacity};
+    ghost use Rattle.ls_session.specs.Record.{Record};
+    ghost use Rattle.ls_live_session.specs.Lives.{ShowsIt};
+    ghost use Rattle.ls_live_session.specs.Adding.{IsAdding};
+
+    ghost invariant = { λ d. ((r : Record) × IsAdding N.deed.config d.parts.number d.parts.history.list
+        d.parts.watches.items d.parts.subs.items d.parts.session d.add.now d.free d.plan d.seats.items d.numbers.items r)
+        × IfSome d.parts.place (λ p. ShowsIt p d.parts.number d.parts.history.table)
+        × (vec_len d.parts.subs + 1 ≤ vec_capacity d.parts.subs) };
+}
+
+/// A session to which a subscription can't be added, and why.
+#[derive(Drop)]
+pub struct NotAdded<N: House> {
+    pub session: LiveSession<N>,
+    pub cause: Refusal,
+}
+
+/// A session to which no subscription was added, and the seats of the slots that had joined, which are to leave.
+#[derive(Drop)]
+pub struct Undone<N: House> {
+    pub session: LiveSession<N>,
+    pub seats: SubSeats<N>,
+}
+
+impl<N: House> LiveSession<N> {
+    /// Begins to add a subscription, where nothing stands against it. `free` is the number of slots that the server may
+    /// still give, and `spent` says whether its register is. It is refused, in this order: 20 where the session has ended,
+    /// 72, 70, 21, 24, 23, 71, 74 as [`Session::prepare_add`](ls_session::Session::prepare_add) says, and 74 where the
+    /// session's history or the register is spent. A refusal changes nothing.
+    pub fn begin_add<'a>(
+        self,
+        add: &'a Add,
+        config: &Config,
+        free: u32,
+        spent: bool,
+    ) -> Result<Adding<'a, N>, NotAdded<N>>
+        requires fits { AddFits add.now }
+        requires config { config.now.items ≡ N.deed.config }
+        ensures begun { IfOk result (λ d. d ≡ record {
+          number = self.number;
+          place = self.place;
+          table = self.table;
+          lines = self.lines;
+          watches = self.watches;
+          add = add.now;
+          free = free;
+          items = map (λ (a : Asks). a.item) (asks_of N.deed.config add.now);
+          joined = 0;
+        }) }
+        ensures accepted { OnOk result (FindsAdd N.deed.config self.number self.lines self.watches free spent add.now None
+            × (is_spent self.lines ≡ false) × (spent ≡ false)) }
+        ensures refused { IfErr result (λ e. (code : ℕ) → e.cause ≡ Refusal.Code code
+            → FindsAdd N.deed.config self.number self.lines self.watches free spent add.now (Some code)) }
+        ensures same { IfErr result (λ e. e.session ≡ self) }
+    {
+        let LiveSession { mut parts } = self;
+        match plan_in(&mut parts, add, config, free, spent) {
+            Ok(plan) => {
+                let alloc = parts.alloc;
+                Ok(Adding {
+                    add,
+                    free,
+                    parts,
+                    plan,
+                    seats: Vec::new(alloc),
+                    numbers: Vec::new(alloc),
+                })
+            }
+            Err(cause) => Err(NotAdded {
+                session: LiveSession { parts },
+                cause,
+            }),
+        }
+    }
+}
+
+impl<'a, N: House> Adding<'a, N> {
+    /// The number of the item that joins next, `None` where all have a slot.
+    pub fn next_item(&self) -> Option<u32>
+        ensures { result ≡ slice_get self.now.items self.now.joined }
+    {
+        item_at(&self.plan.items, self.seats.len())
+    }
+
+    /// The slot of the next item joins it, and the session has then seen the item's whole history. `false`, where this
+    /// isn't the next item as the register knows it, changes nothing. A refusal changes no slot.
+    pub fn join<H: Drop>(
+        &mut self,
+        register: &Chron<Made>,
+        item: &mut Seated<N>,
+        book: &mut Book<N, H>,
+    ) -> Result<bool, JoinRefused>
+        requires register { register.now ≡ N.deed.register }
+        ensures rest { self.new ≡ record self.old { watches = self.new.watches; joined = self.new.joined } }
+        ensures more { SeesMore self.old.watches self.new.watches }
+        ensures joined { IfOk result (λ joins. IsTrue joins → self.new.joined ≡ self.old.joined + 1) }
+        ensures other { IfOk result (λ joins. IsFalse joins → (self.new.joined ≡ self.old.joined)
+            × (item.new ≡ item.old) × (book.new ≡ book.old)) }
+        ensures item { item.new.item ≡ record item.old.item { cell = item.new.item.cell } }
+        ensures err { OnErr result ((self.new.joined ≡ self.old.joined) × (item.new ≡ item.old) × (book.new ≡ book.old)) }
+        ensures cause { IfErr result (IsJoinCause (live_slots item.old.item.cell.slots) (length book.old)) }
+        ensures book { IfOk result (λ joins. IsTrue joins → (number : ℕ) × (table : TableId)
+            × (book.new ≡ book.old ++ SlotMade item.old.item.item number table ∷ [])) }
+    {
+        let Adding {
+            add: _,
+            free: _,
+            parts,
+            plan,
+            seats,
+            numbers,
+        } = self;
+        join_next(parts, plan, seats, numbers, register, item, book)
+    }
+
+    /// The sight watches each item that the session watches by now, as [`LiveSession::show_items`] has it.
+    pub fn show_items(
+        &mut self,
+        register: &Chron<Made>,
+        sight: &mut Sight<N>,
+    ) -> Result<bool, NoMemory>
+        requires { register.now ≡ N.deed.register }
+        ensures same { self.new ≡ self.old }
+        ensures sight { sight.new ≡ record sight.old { watches = sight.new.watches } }
+        ensures more { SeesMore sight.old.watches sight.new.watches }
+        ensures one { IfOk result (λ yes. IsTrue yes → AreOneItems self.old.watches sight.new.watches) }
+        ensures err { OnErr result (sight.new ≡ sight.old) }
+    {
+        let Adding { parts, .. } = self;
+        sight.watch_items(register, &mut parts.watches)
+    }
+
+    /// The subscription begins at a tick, in ms: the history has its SUBOK or SUBCMD and its CONF, and the session has
+    /// the seats of its slots. All items have joined. It takes no memory.
+    pub fn finish(self, now: u64) -> LiveSession<N>
+        requires tick { now ≤ GREATEST_TICK }
+        requires all { self.joined ≡ length self.items }
+        ensures session { result ≡ record {
+          number = self.entry.number;
+          place = self.entry.place;
+          table = self.entry.table;
+          lines = result.lines;
+          watches = self.entry.watches;
+        } }
+        ensures added { AddsTo N.deed.config self.entry.number self.entry.add self.entry.free
+            (counts_as now self.entry.lines) self.entry.lines result.lines self.entry.watches }
+    {
+        let Adding {
+            add: _,
+            free: _,
+            mut parts,
+            plan,
+            seats,
+            numbers,
+        } = self;
+        finish_in(&mut parts, plan, seats, &numbers, now);
+        LiveSession { parts }
+    }
+
+    /// The session without the subscription, and the seats of the slots that have joined by now, which are to leave their
+    /// items. It takes no memory.
+    pub fn undo(self) -> Undone<N>
+        ensures session { result.session ≡ record {
+          number = self.entry.number;
+          place = self.entry.place;
+          table = self.entry.table;
+          lines = self.entry.lines;
+          watches = self.entry.watches;
+        } }
+        ensures seats { length result.seats.seats ≡ self.entry.joined }
+    {
+        let Adding {
+            add: _,
+            free: _,
+            parts,
+            plan,
+            seats,
+            numbers: _,
+        } = self;
+        Undone {
+            session: LiveSession { parts },
+            seats: SubSeats {
+                sub: plan.sub,
+                seats,
+            },
+        }
+    }
+}
+
+/// A plan for the subscription that an add asks for, and room for its seats.
+fn plan_in<N: House>(
+    parts: &mut SessionParts<N>,
+    add: &Add,
+    config: &Config,
+    free: u32,
+    spent: bool,
+) -> Result<AddPlan, Refusal>
+    requires fits { AddFits add.now }
+    requires config { config.now.items ≡ N.deed.config }
+    ensures rest { parts.new ≡ record parts.old { session = parts.new.session; subs = parts.new.subs } }
+    ensures subs { parts.new.subs.items ≡ parts.old.subs.items }
+    ensures room { OnOk result (vec_len parts.new.subs + 1 ≤ vec_capacity parts.new.subs) }
+    ensures plan { IfOk result (λ p. IsPlan N.deed.config add.now p) }
+    ensures join { IfOk result (λ p. Each (MayJoin N.deed.config) p.items.items) }
+    ensures ready { IfOk result (λ p. IsReady parts.new.session p) }
+    ensures accepted { OnOk result ((r : Record) → StandsSession parts.old.session r
+        → adding_code N.deed.config free r.session add.now ≡ None) }
+    ensures left { OnOk result ((is_spent parts.old.history.list ≡ false) × (spent ≡ false)) }
+    ensures refused { (code : ℕ) → IsErrOf result (Refusal.Code code) → (r : Record) → StandsSession parts.old.session r
+        → op_code N.deed.config free (is_spent parts.old.history.list || spent) r.session (op.Add add.now) ≡ Some code }
+    ensures same { (r : Record) → StandsSession parts.old.session r → StandsSession parts.new.session r }
+{
+    let Ok(()) = parts.subs.reserve(1) else {
+        return Err(Refusal::NoMemory);
+    };
+    match parts.session.prepare_add(add, config, free) {
+        Ok(plan) => {
+            if parts.history.is_spent() {
+                Err(Refusal::Code(74))
+            } else if spent {
+                Err(Refusal::Code(74))
+            } else {
+                Ok(plan)
+            }
+        }
+        Err(cause) => Err(cause),
+    }
+}
+
+/// The number of the item of a plan at a place.
+fn item_at(items: &Vec<PlanItem>, place: usize) -> Option<u32>
+    ensures { result ≡ slice_get (map (λ (p : Planned). p.item) items.now.items) place }
+{
+    match items.get(place) {
+        Some(item) => Some(item.item),
+        None => None,
+    }
+}
+
+/// Where the first watch of an item of a number stands.
+pub(crate) fn find_watch<N: House>(watches: &Vec<Watch<N>>, number: u32) -> Option<usize>
+    ensures found { IfSome result (λ k. (w : Watched) × (slice_get watches.now.items k ≡ Some w) × (w.item ≡ number)
+        × NoneBefore watches.now.items k number) }
+    ensures none { result ≡ None → NoneBefore watches.now.items (length watches.now.items) number }
+{
+    for i in 0..watches.len() {
+        if watches[i].item() == number {
+            return Some(i);
+        }
+    }
+    None
+}
+
+/// Where the first watch of an item stands, which is begun where there is none; `None` where the one that there is isn't
+/// of this item.
+fn watch_of<N: House>(
+    watches: &mut Vec<Watch<N>>,
+    register: &Chron<Made>,
+    item: &mut Seated<N>,
+    number: u32,
+) -> Result<Option<usize>, NoMemory>
+    requires register { register.now ≡ N.deed.register }
+    requires number { item.old.item.item ≡ number }
+    ensures item { item.new ≡ item.old }
+    ensures more { AddsWatch N.deed.config watches.old.items watches.new.items }
+    ensures found { IfOk result (λ o. IfSome o (λ k. IsFirst watches.new.items k number item.old.item)) }
+{
+    match find_watch(watches, number) {
+        Some(place) => {
+            let watch = &mut watches[place];
+            if item.is_watch(register, watch) {
+                Ok(Some(place))
+            } else {
+                Ok(None)
+            }
+        }
+        None => {
+            watches.reserve(1)?;
+            let watch = item.watch(register)?;
+            fits(&watch);
+            let place = watches.len();
+            watches.push_reserved(watch);
+            Ok(Some(place))
+        }
+    }
+}
+
+/// What was seen by a watch is a history of its item, with texts in UTF-8.
+pub(crate) fn fits<N: House>(watch: &Watch<N>)
+    ensures { FitsWatch N.deed.config watch.now }
+{
+    watch.says();
+}
+
+/// The slot of the next item of a plan joins it, and its seat is added to those that there are. `false` where this isn't
+/// the next item.
+fn join_next<N: House, H: Drop>(
+    parts: &mut SessionParts<N>,
+    plan: &AddPlan,
+    seats: &mut Vec<Seat<N>>,
+    numbers: &mut Vec<u32>,
+    register: &Chron<Made>,
+    item: &mut Seated<N>,
+    book: &mut Book<N, H>,
+) -> Result<bool, JoinRefused>
+    requires register { register.now ≡ N.deed.register }
+    requires may { Each (MayJoin N.deed.config) plan.now.items.items }
+    requires few { length plan.now.items.items ≤ MOST_GROUP_ITEMS }
+    ensures rest { parts.new ≡ record parts.old { watches = parts.new.watches } }
+    ensures keeps { (es : List Told) (subs : List SubSeen) (k : Kept) (a : Added) (free : ℕ) (r : Record)
+        → IsAdding N.deed.config parts.old.number es parts.old.watches.items subs k a free plan.now seats.old.items
+        numbers.old.items r
+        → IsAdding N.deed.config parts.old.number es parts.new.watches.items subs k a free plan.now seats.new.items
+        numbers.new.items r }
+    ensures more { SeesMore parts.old.watches.items parts.new.watches.items }
+    ensures joined { IfOk result (λ joins. IsTrue joins → length seats.new.items ≡ length seats.old.items + 1) }
+    ensures other { IfOk result (λ joins. IsFalse joins → (length seats.new.items ≡ length seats.old.items)
+        × (item.new ≡ item.old) × (book.new ≡ book.old)) }
+    ensures item { item.new.item ≡ record item.old.item { cell = item.new.item.cell } }
+    ensures err { OnErr result ((length seats.new.items ≡ length seats.old.items) × (item.new ≡ item.old)
+        × (book.new ≡ book.old)) }
+    ensures cause { IfErr result (IsJoinCause (live_slots item.old.item.cell.slots) (length book.old)) }
+    ensures book { IfOk result (λ joins. IsTrue joins → (number : ℕ) × (table : TableId)
+        × (book.new ≡ book.old ++ SlotMade item.old.item.item number table ∷ [])) }
+{
+    let Some(next) = plan.items.get(seats.len()) else {
+        return Ok(false);
+    };
+    if item.has_item(next.item) {
+        join_item(parts, plan.sub, next, seats, numbers, register, item, book)
+    } else {
+        Ok(false)
+    }
+}
+
+/// The slot of an item joins it, and its seat is added. `false` where the watch of the item that there is isn't of this
+/// one.
+fn join_item<N: House, H: Drop>(
+    parts: &mut SessionParts<N>,
+    sub: u32,
+    next: &PlanItem,
+    seats: &mut Vec<Seat<N>>,
+    numbers: &mut Vec<u32>,
+    register: &Chron<Made>,
+    item: &mut Seated<N>,
+    book: &mut Book<N, H>,
+) -> Result<bool, JoinRefused>
+    requires register { register.now ≡ N.deed.register }
+    requires number { item.old.item.item ≡ next.now.item }
+    requires shape { item.old.item.shape ≡ shape_in N.deed.config next.now.item }
+    requires may { MayJoin N.deed.config next.now }
+    requires few { length seats.old.items < MOST_GROUP_ITEMS }
+    ensures rest { parts.new ≡ record parts.old { watches = parts.new.watches } }
+    ensures joins { IfOk result (λ joins. IsTrue joins → JoinsOne N.deed.config parts.old.watches.items parts.new.watches.items sub
+        seats.old.items seats.new.items numbers.old.items numbers.new.items item.old.item next.now) }
+    ensures other { IfOk result (λ joins. IsFalse joins → JoinsNone N.deed.config parts.old.watches.items
+        parts.new.watches.items seats.old.items seats.new.items numbers.old.items numbers.new.items) }
+    ensures err { OnErr result (JoinsNone N.deed.config parts.old.watches.items parts.new.watches.items seats.old.items
+        seats.new.items numbers.old.items numbers.new.items) }
+    ensures stays { IfOk result (λ joins. IsFalse joins → (item.new ≡ item.old) × (book.new ≡ book.old)) }
+    ensures kept { OnErr result ((item.new ≡ item.old) × (book.new ≡ book.old)) }
+    ensures item { item.new.item ≡ record item.old.item { cell = item.new.item.cell } }
+    ensures cause { IfErr result (IsJoinCause (live_slots item.old.item.cell.slots) (length book.old)) }
+    ensures book { IfOk result (λ joins. IsTrue joins → (number : ℕ) × (table : TableId)
+        × (book.new ≡ book.old ++ SlotMade item.old.item.item number table ∷ [])) }
+{
+    let Ok(found) = watch_of(&mut parts.watches, register, item, next.item) else {
+        return Err(JoinRefused::NoMemory);
+    };
+    match found {
+        Some(place) => join_at(
+            parts, place, sub, next, seats, numbers, register, item, book,
+        ),
+        None => Ok(false),
+    }
+}
+
+/// The slot of an item joins it behind what the watch at a place then sees, and its seat is added.
+fn join_at<N: House, H: Drop>(
+    parts: &mut SessionParts<N>,
+    place: usize,
+    sub: u32,
+    next: &PlanItem,
+    seats: &mut Vec<Seat<N>>,
+    numbers: &mut Vec<u32>,
+    register: &Chron<Made>,
+    item: &mut Seated<N>,
+    book: &mut Book<N, H>,
+) -> Result<bool, JoinRefused>
+    requires register { register.now ≡ N.deed.register }
+    requires first { IsFirst parts.old.watches.items place next.now.item item.old.item }
+    requires shape { item.old.item.shape ≡ shape_in N.deed.config next.now.item }
+    requires may { MayJoin N.deed.config next.now }
+    requires few { length seats.old.items < MOST_GROUP_ITEMS }
+    ensures rest { parts.new ≡ record parts.old { watches = parts.new.watches } }
+    ensures joins { IfOk result (λ joins. (joins ≡ true) × ((t : SeatSeen) × (seats.new.items ≡ seats.old.items ++ t ∷ [])
+        × (numbers.new.items ≡ numbers.old.items ++ t.number ∷ [])
+        × JoinsNow N.deed.config parts.old.watches.items parts.new.watches.items place sub (length seats.old.items)
+        item.old.item next.now t)) }
+    ensures item { item.new.item ≡ record item.old.item { cell = item.new.item.cell } }
+    ensures err { OnErr result ((parts.new.watches.items ≡ parts.old.watches.items) × (seats.new.items ≡ seats.old.items)
+        × (numbers.new.items ≡ numbers.old.items) × (item.new ≡ item.old) × (book.new ≡ book.old)) }
+    ensures cause { IfErr result (IsJoinCause (live_slots item.old.item.cell.slots) (length book.old)) }
+    ensures book { IfOk result (λ joins. IsTrue joins → (number : ℕ) × (table : TableId)
+        × (book.new ≡ book.old ++ SlotMade item.old.item.item number table ∷ [])) }
+{
+    let Ok(bell) = make_room(parts, seats, numbers) else {
+        return Err(JoinRefused::NoMemory);
+    };
+    let rank = seats.len() as u32;
+    let watch = &mut parts.watches[place];
+    let seat = item.join(
+        parts.alloc,
+        register,
+        book,
+        next.mode,
+        next.n,
+        next.snapshot,
+        watch,
+        sub,
+        rank,
+        bell,
+    )?;
+    fits(watch);
+    numbers.push_reserved(seat.number());
+    seats.push_reserved(seat);
+    Ok(true)
+}
+
+/// Room for one seat more, and the session's bell once more.
+fn make_room<N: House>(
+    parts: &SessionParts<N>,
+    seats: &mut Vec<Seat<N>>,
+    numbers: &mut Vec<u32>,
+) -> Result<Arc<Bell, Global>, NoMemory>
+    ensures seats { seats.new.items ≡ seats.old.items }
+    ensures numbers { numbers.new.items ≡ numbers.old.items }
+    ensures room { OnOk result ((vec_len seats.new + 1 ≤ vec_capacity seats.new)
+        × (vec_len numbers.new + 1 ≤ vec_capacity numbers.new)) }
+{
+    seats.reserve(1)?;
+    numbers.reserve(1)?;
+    let bell = Arc::try_clone(&parts.bell)?;
+    Ok(bell)
+}
+
+/// The subscription of a plan begins at a tick, with its seats.
+fn finish_in<N: House>(
+    parts: &mut SessionParts<N>,
+    plan: AddPlan,
+    seats: Vec<Seat<N>>,
+    numbers: &Vec<u32>,
+    now: u64,
+)
+    requires tick { now ≤ GREATEST_TICK }
+    requires room { vec_len parts.old.subs + 1 ≤ vec_capacity parts.old.subs }
+    requires all { length seats.items ≡ length plan.items.items }
+    requires adding { (a : Added) × (free : ℕ) × (r : Record) × IsAdding N.deed.config parts.old.number
+        parts.old.history.list parts.old.watches.items parts.old.subs.items parts.old.session a free plan seats.items
+        numbers.now.items r }
+    ensures rest { parts.new ≡ record parts.old {
+      session = parts.new.session;
+      history = parts.new.history;
+      subs = parts.new.subs;
+    } }
+    ensures table { parts.new.history.table ≡ parts.old.history.table }
+    ensures added { (a : Added) (free : ℕ) (r : Record) → IsAdding N.deed.config parts.old.number parts.old.history.list
+        parts.old.watches.items parts.old.subs.items parts.old.session a free plan seats.items numbers.now.items r
+        → Lives N.deed.config parts.old.number parts.new.history.list parts.old.watches.items parts.new.subs.items
+        parts.new.session
+        × AddsTo N.deed.config parts.old.number a free (counts_as now parts.old.history.list) parts.old.history.list
+        parts.new.history.list parts.old.watches.items }
+{
+    let tick = parts.history.tick(now);
+    parts
+        .history
+        .tell_numbered(plan.begins.as_slice(), no_cut(), tick);
+    parts
+        .history
+        .tell_numbered(plan.configures.as_slice(), no_cut(), tick);
+    let sub = plan.sub;
+    parts.session.finish_add(plan, numbers);
+    parts.subs.push_reserved(SubSeats { sub, seats });
+}

@@ -1,0 +1,189 @@
+//! What a session shows to callers.
+ghost use Rattle.std.specs.Prelude.{◌≡◌, [], IfOk, IfSome, IsTrue, IsSome, OnErr};
+ghost use mathlib.Core.List.{IsPrefix};
+ghost use Rattle.ls_told.specs.Seen.{SeesMore, Grows};
+ghost use Rattle.ls_session.specs.Record.{Record};
+ghost use Rattle.ls_live_session.specs.Lives.{Lives, LivesAs, ShowsIt};
+ghost use Rattle.ls_live_session.specs.Sights.{AreOneItems, ShowsAll};
+
+use crate::live::LiveSession;
+use crate::parts::SessionParts;
+use crate::sight::{Sight, SightStart};
+use crate::watches::{agree_all, all_fit, copies};
+use ls_bell::Bell;
+use ls_chron::Chron;
+use ls_live::Watch;
+use ls_register::{House, Made};
+use ls_value::NoMemory;
+use std::alloc::Global;
+use std::sync::Arc;
+
+impl<N: House> LiveSession<N> {
+    /// A sight of all that the session has, to which no line was given. The session has a place in the register.
+    pub fn tell(&mut self, alloc: Global, register: &Chron<Made>) -> Result<Sight<N>, NoMemory>
+        requires register { register.now ≡ N.deed.register }
+        requires placed { IsSome self.old.place }
+        ensures same { self.new ≡ self.old }
+        ensures sight { IfOk result (λ t. ShowsAll self.old t × (t.mine ≡ [])) }
+    {
+        let start = SightStart::new(alloc)?;
+        let watches = copies(alloc, register, &mut self.parts.watches)?;
+        let bell = Arc::try_clone(&self.parts.bell)?;
+        Ok(sight_of(&mut self.parts, register, start, watches, bell))
+    }
+
+    /// The same of a session that watches no item yet, in memory that was taken before; `bell` is the session's.
+    pub fn tell_first(
+        &mut self,
+        alloc: Global,
+        register: &Chron<Made>,
+        start: SightStart,
+        bell: Arc<Bell, Global>,
+    ) -> Sight<N>
+        requires register { register.now ≡ N.deed.register }
+        requires placed { IsSome self.old.place }
+        requires none { self.old.watches ≡ [] }
+        ensures same { self.new ≡ self.old }
+        ensures sight { ShowsAll self.old result × (result.mine ≡ []) }
+    {
+        sight_of(&mut self.parts, register, start, Vec::new(alloc), bell)
+    }
+
+    /// Whether the sight is of this session, by their places in the register. A session without a place has none. It
+    /// takes no memory.
+    pub fn is_of(&mut self, register: &Chron<Made>, sight: &mut Sight<N>) -> bool
+        requires { register.now ≡ N.deed.register }
+        ensures same { (self.new ≡ self.old) × (sight.new ≡ sight.old) }
+        ensures one { IsTrue result → (sight.old.number ≡ self.old.number) × (sight.old.table ≡ self.old.table) }
+    {
+        let Some(place) = &mut self.parts.place else {
+            return false;
+        };
+        let mut mine = place.again(register);
+        let mut theirs = sight.place.again(register);
+        mine.is_that(register, &mut theirs)
+    }
+
+    /// The sight watches each item that the session watches, and answers whether both watch the same ones then: no call
+    /// brings about that they don't. After `NoMemory` the sight is as before.
+    pub fn show_items(
+        &mut self,
+        register: &Chron<Made>,
+        sight: &mut Sight<N>,
+    ) -> Result<bool, NoMemory>
+        requires { register.now ≡ N.deed.register }
+        ensures same { self.new ≡ self.old }
+        ensures sight { sight.new ≡ record sight.old { watches = sight.new.watches } }
+        ensures more { SeesMore sight.old.watches sight.new.watches }
+        ensures one { IfOk result (λ yes. IsTrue yes → AreOneItems self.old.watches sight.new.watches) }
+        ensures err { OnErr result (sight.new ≡ sight.old) }
+    {
+        sight.watch_items(register, &mut self.parts.watches)
+    }
+
+    /// The sight sees all that the session has, and the session then has seen of its items what the sight had. They
+    /// watch the same items. It takes no memory.
+    pub fn show(&mut self, register: &Chron<Made>, sight: &mut Sight<N>)
+        requires register { register.now ≡ N.deed.register }
+        requires of { (sight.old.number ≡ self.old.number) × (sight.old.table ≡ self.old.table) }
+        requires one { AreOneItems self.old.watches sight.old.watches }
+        ensures session { self.new ≡ record self.old { watches = self.new.watches } }
+        ensures more { SeesMore self.old.watches self.new.watches }
+        ensures sight { ShowsAll self.new sight.new }
+        ensures mine { sight.new.mine ≡ sight.old.mine }
+        ensures grows { Grows sight.old sight.new }
+    {
+        self.parts.show(register, sight);
+    }
+
+    /// The sight sees all of the session's history. Of the items it has seen what the session has. It takes no memory.
+    pub fn show_lines(&mut self, sight: &mut Sight<N>)
+        requires of { (sight.old.number ≡ self.old.number) × (sight.old.table ≡ self.old.table) }
+        requires items { sight.old.watches ≡ self.old.watches }
+        ensures same { self.new ≡ self.old }
+        ensures sight { sight.new ≡ record sight.old { lines = self.old.lines; later = self.old.lines } }
+        ensures lines { IsPrefix sight.old.lines self.old.lines }
+        ensures later { IsPrefix sight.old.later self.old.lines }
+    {
+        self.parts.history.show(&mut sight.later);
+        self.parts.history.show(&mut sight.lines);
+    }
+
+    /// Of the session's history the sight has all in its later list; all else stays. It takes no memory.
+    pub fn show_later(&mut self, sight: &mut Sight<N>)
+        requires { sight.old.table ≡ self.old.table }
+        ensures same { self.new ≡ self.old }
+        ensures later { sight.new ≡ record sight.old { later = self.old.lines } }
+        ensures begins { IsPrefix sight.old.later self.old.lines }
+    {
+        self.parts.history.show(&mut sight.later);
+    }
+}
+
+impl<N: House> SessionParts<N> {
+    /// The sight sees all that the session has, as by [`LiveSession::show`].
+    pub fn show(&mut self, register: &Chron<Made>, sight: &mut Sight<N>)
+        requires register { register.now ≡ N.deed.register }
+        requires lives { Lives N.deed.config self.old.number self.old.history.list self.old.watches.items
+            self.old.subs.items self.old.session }
+        requires of { (sight.old.number ≡ self.old.number) × (sight.old.table ≡ self.old.history.table) }
+        requires one { AreOneItems self.old.watches.items sight.old.watches }
+        ensures rest { self.new ≡ record self.old { watches = self.new.watches; history = self.new.history } }
+        ensures history { self.new.history ≡ self.old.history }
+        ensures more { SeesMore self.old.watches.items self.new.watches.items }
+        ensures lives { (r : Record) → LivesAs N.deed.config self.old.number self.old.history.list
+            self.old.watches.items self.old.subs.items self.old.session r
+            → LivesAs N.deed.config self.old.number self.old.history.list self.new.watches.items self.old.subs.items
+            self.old.session r }
+        ensures sight { ShowsAll (record {
+          number = self.old.number;
+          place = self.old.place;
+          table = self.old.history.table;
+          lines = self.old.history.list;
+          watches = self.new.watches.items;
+        }) sight.new }
+        ensures mine { sight.new.mine ≡ sight.old.mine }
+        ensures grows { Grows sight.old sight.new }
+    {
+        agree_all(register, &mut self.watches, &mut sight.watches);
+        all_fit(&self.watches);
+        self.history.show(&mut sight.later);
+        self.history.show(&mut sight.lines);
+    }
+}
+
+/// A sight of all that the parts have, to which no line was given.
+fn sight_of<N: House>(
+    parts: &mut SessionParts<N>,
+    register: &Chron<Made>,
+    start: SightStart,
+    watches: Vec<Watch<N>>,
+    bell: Arc<Bell, Global>,
+) -> Sight<N>
+    requires register { register.now ≡ N.deed.register }
+    requires lives { Lives N.deed.config parts.old.number parts.old.history.list parts.old.watches.items
+        parts.old.subs.items parts.old.session }
+    requires shows { IfSome parts.old.place (λ p. ShowsIt p parts.old.number parts.old.history.table) }
+    requires placed { IsSome parts.old.place }
+    requires watches { watches.items ≡ parts.old.watches.items }
+    ensures same { parts.new ≡ parts.old }
+    ensures sight { (result.number ≡ parts.old.number) × (result.table ≡ parts.old.history.table)
+        × (result.lines ≡ parts.old.history.list) × (result.later ≡ parts.old.history.list)
+        × (result.watches ≡ parts.old.watches.items) × (result.mine ≡ []) }
+{
+    let Some(place) = &mut parts.place else {
+        unreachable!()
+    };
+    let place = place.again(register);
+    let SightStart { tally, mine } = start;
+    Sight {
+        number: parts.number,
+        lines: parts.history.note(),
+        later: parts.history.note(),
+        tally,
+        mine,
+        place,
+        watches,
+        bell,
+    }
+}

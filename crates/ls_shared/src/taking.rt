@@ -1,0 +1,227 @@
+//! What the sessions of a server give.
+ghost use Rattle.std.specs.Prelude.{◌≡◌, ◌≤◌, ◌<◌, IfOk, IfSome, OnOk, OnErr, length};
+ghost use mathlib.Core.List.{IsPrefix};
+ghost use Rattle.ls_value.specs.declared.limits.TheConstants.{GREATEST_TICK, GREATEST_NUMBER};
+ghost use Rattle.ls_record.specs.Records.{Alive};
+ghost use Rattle.ls_session.specs.Record.{Record, Question};
+ghost use Rattle.ls_told.specs.Heard.{heard};
+ghost use Rattle.ls_told.specs.Seen.{Grows, LawfulTold, SeesMore};
+ghost use Rattle.ls_told.specs.Requests.{HasBound};
+ghost use Rattle.ls_live_session.specs.Lives.{Lives, StaysStill};
+ghost use Rattle.ls_live_session.specs.Taking.{IsAskedFrom};
+ghost use Rattle.ls_shared.specs.Answers.{SeesOn, Turns};
+ghost use Rattle.ls_shared.specs.Taking.{EndsTurn, IsQuietTurn};
+
+use crate::shared::Shared;
+use crate::testimony::Testimony;
+use ls_line::LineBuf;
+use ls_live_session::{LiveSession, SessionParts, Sight};
+use ls_outside::{Gate, Point};
+use ls_register::{House, wait_for_good};
+use ls_session::{Ask, Turn};
+use ls_value::NoMemory;
+use std::sync::Wait;
+
+impl<N: House> Shared<N> {
+    /// A turn of the session of which `seen` is, at a tick, in ms, of at most [`GREATEST_TICK`](ls_value::GREATEST_TICK),
+    /// for the stream of an epoch, of which `seen` has the Bound: at most one line is given, and `into` holds it. Each
+    /// slot that is asked has first what its item has. Where there is nothing to give and the last line was given as
+    /// long ago as the keep-alive, or longer, PROBE is given. The turn is never a question. `seen` then has what stands
+    /// under the session's lock. After `NoMemory` slots may have moved past cuts that make no line. The gate is passed
+    /// while the session's lock is held. The call may wait.
+    pub fn take<R: Wait, G: Gate>(
+        &self,
+        rt: &R,
+        session: u64,
+        epoch: u64,
+        now: u64,
+        seen: &mut Testimony<N>,
+        into: &mut LineBuf,
+        gate: &G,
+    ) -> Result<Turn, NoMemory>
+        requires tick { now ≤ GREATEST_TICK }
+        requires named { session ≡ seen.old.number }
+        requires bound { HasBound epoch seen.old.lines }
+        ensures grows { OnOk result (Grows seen.old seen.new) }
+        ensures turn { IfOk result (Turns N.deed.config epoch now seen.old seen.new into.new) }
+        ensures memory { OnErr result (SeesOn seen.old seen.new × (seen.new.mine ≡ seen.old.mine)) }
+        ensures lawful { LawfulTold N.deed.config seen.new }
+    {
+        let Testimony { held, sight, .. } = seen;
+        let mut guard = held.lock(rt);
+        gate.pass(Point::Turning { session });
+        let Some(live) = guard.take() else {
+            wait_for_good(rt);
+            unreachable!()
+        };
+        let (live, turn) = self.take_in(rt, live, sight, epoch, now, into);
+        self.note_loss(&live);
+        sight.vouch();
+        *guard = Some(live);
+        turn
+    }
+
+    /// A turn of a session of which a caller has seen something.
+    fn take_in<R: Wait>(
+        &self,
+        rt: &R,
+        live: LiveSession<N>,
+        sight: &mut Sight<N>,
+        epoch: u64,
+        now: u64,
+        into: &mut LineBuf,
+    ) -> (LiveSession<N>, Result<Turn, NoMemory>)
+        requires tick { now ≤ GREATEST_TICK }
+        requires bound { HasBound epoch sight.old.lines }
+        ensures grows { OnOk result.1 (Grows sight.old sight.new) }
+        ensures turn { IfOk result.1 (Turns N.deed.config epoch now sight.old sight.new into.new) }
+        ensures memory { OnErr result.1 (SeesOn sight.old sight.new × (sight.new.mine ≡ sight.old.mine)) }
+    {
+        let mut live = live;
+        let Ok(()) = self.reach(rt, &mut live, sight) else {
+            return (live, Err(NoMemory));
+        };
+        sight.vouch();
+        let mut parts = live.into_parts();
+        let turn = self.turns(rt, &mut parts, epoch, now, into);
+        let mut live = LiveSession::of_parts(parts);
+        let Ok(()) = self.reach(rt, &mut live, sight) else {
+            return (live, Err(NoMemory));
+        };
+        let Ok(ended) = turn else {
+            return (live, Err(NoMemory));
+        };
+        match ended {
+            Turn::Send => {
+                sight.own(live.entries() - 1);
+                (live, Ok(Turn::Send))
+            }
+            ended => (live, Ok(ended)),
+        }
+    }
+
+    /// A turn of a session in parts: its round is asked until there is a line, or nothing.
+    fn turns<R: Wait>(
+        &self,
+        rt: &R,
+        parts: &mut SessionParts<N>,
+        epoch: u64,
+        now: u64,
+        into: &mut LineBuf,
+    ) -> Result<Turn, NoMemory>
+        requires tick { now ≤ GREATEST_TICK }
+        requires lives { Lives N.deed.config parts.old.number parts.old.history.list parts.old.watches.items
+            parts.old.subs.items parts.old.session }
+        ensures rest { (parts.new.number ≡ parts.old.number) × (parts.new.place ≡ parts.old.place)
+            × (parts.new.history.table ≡ parts.old.history.table) }
+        ensures lives { Lives N.deed.config parts.new.number parts.new.history.list parts.new.watches.items
+            parts.new.subs.items parts.new.session }
+        ensures items { SeesMore parts.old.watches.items parts.new.watches.items }
+        ensures begins { IsPrefix parts.old.history.list parts.new.history.list }
+        ensures turn { IfOk result
+            (EndsTurn parts.old.number epoch now parts.old.history.list parts.new.history.list into.new) }
+    {
+        for _ in rt.forever() {
+            match self.step(rt, parts, epoch, now, into)? {
+                Some(turn) => return Ok(turn),
+                None => {}
+            }
+        }
+        unreachable!()
+    }
+
+    /// One step of a turn: it ends, or a question is asked and answered.
+    fn step<R: Wait>(
+        &self,
+        rt: &R,
+        parts: &mut SessionParts<N>,
+        epoch: u64,
+        now: u64,
+        into: &mut LineBuf,
+    ) -> Result<Option<Turn>, NoMemory>
+        requires tick { now ≤ GREATEST_TICK }
+        requires lives { Lives N.deed.config parts.old.number parts.old.history.list parts.old.watches.items
+            parts.old.subs.items parts.old.session }
+        ensures rest { (parts.new.number ≡ parts.old.number) × (parts.new.place ≡ parts.old.place)
+            × (parts.new.history.table ≡ parts.old.history.table) }
+        ensures lives { Lives N.deed.config parts.new.number parts.new.history.list parts.new.watches.items
+            parts.new.subs.items parts.new.session }
+        ensures items { SeesMore parts.old.watches.items parts.new.watches.items }
+        ensures begins { IsPrefix parts.old.history.list parts.new.history.list }
+        ensures turn { IfOk result (λ ended. IfSome ended
+            (EndsTurn parts.old.number epoch now parts.old.history.list parts.new.history.list into.new)) }
+    {
+        match parts.give(epoch, now, into) {
+            Turn::Ask(ask) => {
+                self.ask(rt, parts, ask, now)?;
+                Ok(None)
+            }
+            Turn::Idle => Ok(Some(probed(parts, epoch, now, into, Turn::Idle))),
+            Turn::NotDue { at } => Ok(Some(probed(parts, epoch, now, into, Turn::NotDue { at }))),
+            turn => Ok(Some(turn)),
+        }
+    }
+
+    /// Asks the slot of a session's question what it has to tell, and answers the question. Where the item doesn't have
+    /// the slot, it waits for good.
+    fn ask<R: Wait>(
+        &self,
+        rt: &R,
+        parts: &mut SessionParts<N>,
+        ask: Ask,
+        now: u64,
+    ) -> Result<(), NoMemory>
+        requires tick { now ≤ GREATEST_TICK }
+        requires room { length parts.old.history.list < GREATEST_NUMBER }
+        requires alive { (heard parts.old.number parts.old.history.list).life ≡ Alive }
+        requires asked { (r : Record) × (q : Question) × IsAskedFrom N.deed.config parts.old.number parts.old.history.list parts.old.watches.items
+            parts.old.subs.items parts.old.session r q ask now }
+        ensures rest { (parts.new.number ≡ parts.old.number) × (parts.new.place ≡ parts.old.place)
+            × (parts.new.history.table ≡ parts.old.history.table) }
+        ensures lives { Lives N.deed.config parts.new.number parts.new.history.list parts.new.watches.items
+            parts.new.subs.items parts.new.session }
+        ensures items { SeesMore parts.old.watches.items parts.new.watches.items }
+        ensures begins { IsPrefix parts.old.history.list parts.new.history.list }
+    {
+        let Some(lock) = self.items.get(ask.slot.item as usize) else {
+            wait_for_good(rt);
+            unreachable!()
+        };
+        let mut item = lock.lock(rt);
+        let Some(found) = parts.find(&self.register, &mut item, ask.slot) else {
+            wait_for_good(rt);
+            unreachable!()
+        };
+        match parts.take_from(&mut item, ask, found, now) {
+            Ok(_) => Ok(()),
+            Err(NoMemory) => Err(NoMemory),
+        }
+    }
+}
+
+/// PROBE, where a stream gave nothing for its keep-alive, in place of an answer that gives nothing.
+fn probed<N: House>(
+    parts: &mut SessionParts<N>,
+    epoch: u64,
+    now: u64,
+    into: &mut LineBuf,
+    quiet: Turn,
+) -> Turn
+    requires tick { now ≤ GREATEST_TICK }
+    requires lives { Lives N.deed.config parts.old.number parts.old.history.list parts.old.watches.items
+        parts.old.subs.items parts.old.session }
+    requires quiet { IsQuietTurn quiet }
+    requires still { StaysStill parts.old.number epoch parts.old.history.list }
+    ensures rest { parts.new ≡ record parts.old { history = parts.new.history } }
+    ensures table { parts.new.history.table ≡ parts.old.history.table }
+    ensures lives { Lives N.deed.config parts.new.number parts.new.history.list parts.new.watches.items
+        parts.new.subs.items parts.new.session }
+    ensures ends { EndsTurn parts.old.number epoch now parts.old.history.list parts.new.history.list into.new result }
+    ensures begins { IsPrefix parts.old.history.list parts.new.history.list }
+{
+    if parts.probe(epoch, now, into) {
+        Turn::Send
+    } else {
+        quiet
+    }
+}

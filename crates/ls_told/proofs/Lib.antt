@@ -1,0 +1,13 @@
+pub mod Appended
+pub mod Texts
+pub mod Moves
+pub mod Watching
+pub mod Facts
+pub mod Used
+pub mod Keeps
+pub mod Turns
+pub mod Answered
+pub mod Joined
+pub mod Rests
+pub mod Codes
+pub mod Gapless

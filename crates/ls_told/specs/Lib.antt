@@ -1,0 +1,9 @@
+pub mod Spoken
+pub mod Heard
+pub mod Telling
+pub mod Seen
+pub mod Keeping
+pub mod Joining
+pub mod Requests
+pub mod Turns
+pub mod Given
