@@ -11,3 +11,4 @@ pub mod Moving
 pub mod Replied
 pub mod Added
 pub mod Asked
+pub mod AddDone

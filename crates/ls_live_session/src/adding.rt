@@ -160,6 +160,13 @@ impl<N: House> LiveSession<N> {
 }
 
 impl<'a, N: House> Adding<'a, N> {
+    /// How many slots join.
+    pub fn slots(&self) -> usize
+        ensures { result ≡ length self.now.items }
+    {
+        self.plan.items.len()
+    }
+
     /// The number of the item that joins next, `None` where all have a slot.
     pub fn next_item(&self) -> Option<u32>
         ensures { result ≡ slice_get self.now.items self.now.joined }

@@ -1,7 +1,8 @@
 //! What a session shows to callers.
 ghost use Rattle.std.specs.Prelude.{◌≡◌, [], IfOk, IfSome, IsTrue, IsSome, OnErr};
 ghost use mathlib.Core.List.{IsPrefix};
-ghost use Rattle.ls_told.specs.Seen.{SeesMore, Grows};
+ghost use Rattle.ls_value.specs.Each.{Each};
+ghost use Rattle.ls_told.specs.Seen.{SeesMore, Grows, FitsWatch};
 ghost use Rattle.ls_session.specs.Record.{Record};
 ghost use Rattle.ls_live_session.specs.Lives.{Lives, LivesAs, ShowsIt};
 ghost use Rattle.ls_live_session.specs.Sights.{AreOneItems, ShowsAll};
@@ -89,6 +90,7 @@ impl<N: House> LiveSession<N> {
         requires one { AreOneItems self.old.watches sight.old.watches }
         ensures session { self.new ≡ record self.old { watches = self.new.watches } }
         ensures more { SeesMore self.old.watches self.new.watches }
+        ensures fit { Each (FitsWatch N.deed.config) self.new.watches }
         ensures sight { ShowsAll self.new sight.new }
         ensures mine { sight.new.mine ≡ sight.old.mine }
         ensures grows { Grows sight.old sight.new }
@@ -131,6 +133,7 @@ impl<N: House> SessionParts<N> {
         ensures rest { self.new ≡ record self.old { watches = self.new.watches; history = self.new.history } }
         ensures history { self.new.history ≡ self.old.history }
         ensures more { SeesMore self.old.watches.items self.new.watches.items }
+        ensures fit { Each (FitsWatch N.deed.config) self.new.watches.items }
         ensures lives { (r : Record) → LivesAs N.deed.config self.old.number self.old.history.list
             self.old.watches.items self.old.subs.items self.old.session r
             → LivesAs N.deed.config self.old.number self.old.history.list self.new.watches.items self.old.subs.items

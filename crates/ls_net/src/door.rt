@@ -61,10 +61,10 @@ fn listener_at<R: Net<Listener = TcpListener, Stream = TcpStream>>(
     Ok((listener, port))
 }
 
-/// Who is there, if anyone.
-fn next_at(listener: &TcpListener) -> Result<Option<TcpPipe>> {
+/// The connection of who is there, if anyone.
+fn next_at(listener: &TcpListener) -> Result<Option<TcpStream>> {
     match listener.accept() {
-        Ok((stream, _)) => Ok(Some(TcpPipe::over(stream)?)),
+        Ok((stream, _)) => Ok(Some(stream)),
         Err(error) => {
             if is_later(&error) {
                 Ok(None)
@@ -72,6 +72,22 @@ fn next_at(listener: &TcpListener) -> Result<Option<TcpPipe>> {
                 Err(error)
             }
         }
+    }
+}
+
+/// The client who is there, if any.
+fn client_at(listener: &TcpListener) -> Result<Option<Visitor>> {
+    match next_at(listener)? {
+        Some(stream) => Ok(Some(Visitor::Client(TcpPipe::over(stream)?))),
+        None => Ok(None),
+    }
+}
+
+/// The feed that is there, if any.
+fn feed_at(listener: &TcpListener) -> Result<Option<Visitor>> {
+    match next_at(listener)? {
+        Some(stream) => Ok(Some(Visitor::Feed(TcpPipe::over_feed(stream)?))),
+        None => Ok(None),
     }
 }
 
@@ -86,14 +102,14 @@ impl Listeners {
     /// Who is there, if anyone: feeds are looked for first, or clients.
     fn next(&self, feeds_first: bool) -> Result<Option<Visitor>> {
         if feeds_first {
-            if let Some(pipe) = next_at(&self.feeds)? {
-                return Ok(Some(Visitor::Feed(pipe)));
+            if let Some(feed) = feed_at(&self.feeds)? {
+                return Ok(Some(feed));
             }
         }
-        if let Some(pipe) = next_at(&self.clients)? {
-            return Ok(Some(Visitor::Client(pipe)));
+        if let Some(client) = client_at(&self.clients)? {
+            return Ok(Some(client));
         }
-        Ok(next_at(&self.feeds)?.map(Visitor::Feed))
+        feed_at(&self.feeds)
     }
 }
 

@@ -19,4 +19,4 @@ mod pipe;
 
 pub use clock::SysClock;
 pub use door::TcpDoor;
-pub use pipe::{ROOM_MS, TcpPipe};
+pub use pipe::{BYTE_MS, ROOM_MS, TcpPipe};

@@ -12,6 +12,10 @@ use std::time::Duration;
 /// longer than this does a client that stopped reading hold a thread with one write.
 pub const ROOM_MS: u64 = 5_000;
 
+/// How long a read of a feed waits for a byte at most, in ms. A feed's bytes wake its thread; this is only how often the
+/// thread of a feed that says nothing looks at the time.
+pub const BYTE_MS: u64 = 1_000;
+
 /// Whether the call may be made again: it would have had to wait, or a signal interrupted it.
 pub(crate) fn is_later(error: &Error) -> bool
     ensures { IsTrue result ↔ IsLater (error_kind error.now) }
@@ -21,28 +25,45 @@ pub(crate) fn is_later(error: &Error) -> bool
 
 /// A TCP connection. It tells nothing of its bytes.
 ///
-/// A read doesn't wait: where no byte is there it is `NotYet`. A write waits for room, at most `ROOM_MS`; after that it
-/// is `Failed`, as it is after every other error. Bytes are sent at once (`set_nodelay`). The connection is closed
-/// when the pipe is dropped.
+/// A client's read doesn't wait, and a feed's read waits for a byte, at most `BYTE_MS`: where none is there it is
+/// `NotYet`. A write waits for room, at most `ROOM_MS`; after that it is `Failed`, as it is after every other error.
+/// Bytes are sent at once (`set_nodelay`). The connection is closed when the pipe is dropped.
 #[derive(Drop)]
 pub struct TcpPipe {
     stream: TcpStream,
+    waits_for_bytes: bool,
     read_faults: u64,
     idles: u64,
     write_faults: u64,
 }
 
 impl TcpPipe {
-    /// A pipe over this connection, with each count 0. `Err` where the system doesn't let its options be set; the
+    /// A pipe over a client's connection, with each count 0. `Err` where the system doesn't let its options be set; the
     /// connection is then closed.
     pub fn over(stream: TcpStream) -> Result<TcpPipe>
         ensures { IfOk result (λ p. (p.read_faults ≡ 0) × (p.idles ≡ 0) × (p.write_faults ≡ 0)) }
     {
+        TcpPipe::set_up(stream, false)
+    }
+
+    /// A pipe over a feed's connection, whose reads wait for a byte, with each count 0. `Err` as of `over`.
+    pub fn over_feed(stream: TcpStream) -> Result<TcpPipe>
+        ensures { IfOk result (λ p. (p.read_faults ≡ 0) × (p.idles ≡ 0) × (p.write_faults ≡ 0)) }
+    {
+        TcpPipe::set_up(stream, true)
+    }
+
+    /// A pipe whose reads wait for a byte, or don't.
+    fn set_up(stream: TcpStream, waits_for_bytes: bool) -> Result<TcpPipe>
+        ensures { IfOk result (λ p. (p.read_faults ≡ 0) × (p.idles ≡ 0) × (p.write_faults ≡ 0)) }
+    {
         stream.set_nodelay(true)?;
+        stream.set_read_timeout(Some(Duration::from_millis(BYTE_MS)))?;
         stream.set_write_timeout(Some(Duration::from_millis(ROOM_MS)))?;
-        stream.set_nonblocking(true)?;
+        stream.set_nonblocking(!waits_for_bytes)?;
         Ok(TcpPipe {
             stream,
+            waits_for_bytes,
             read_faults: 0,
             idles: 0,
             write_faults: 0,
@@ -83,10 +104,14 @@ impl Source for TcpPipe {
     }
 }
 
-/// Writes what there is room for. Where there is none it waits, at most `ROOM_MS`.
-fn write_waiting(stream: &mut TcpStream, piece: &[u8]) -> Result<usize>
+/// Writes what there is room for. Where there is none it waits, at most `ROOM_MS`. Whether the stream blocks anyway is
+/// said, and stays so.
+fn write_waiting(stream: &mut TcpStream, blocks: bool, piece: &[u8]) -> Result<usize>
     ensures { IfOk result (λ count. count ≤ length piece.now) }
 {
+    if blocks {
+        return stream.write(piece);
+    }
     match stream.write(piece) {
         Err(error) => {
             if !is_later(&error) {
@@ -113,7 +138,7 @@ impl Sink for TcpPipe {
     }
 
     fn write(&mut self, piece: &[u8]) -> Put {
-        match write_waiting(&mut self.stream, piece) {
+        match write_waiting(&mut self.stream, self.waits_for_bytes, piece) {
             Ok(count) if count > 0 || piece.is_empty() => Put::Taken(count),
             _ => {
                 self.write_faults = self.write_faults.saturating_add(1);

@@ -57,6 +57,8 @@ completed status.NoMemory script read rest written ended held held' u r w is who
 completed (status.BadScript line) script read rest written ended held held' u r w is whole appends out =
     let first = first_of_all (lines_of ended read) (lines_of true script) line written (lines_begin script read rest ended is whole) out in
     inl (first.0, written_all held held' written (output_of empty (lines_of true script)) first.1 appends)
+completed status.DoorFault script read rest written ended held held' u r w is whole appends out = absurd out
+completed (status.BadConfig line) script read rest written ended held held' u r w is whole appends out = absurd out
 
 ran_whole : (a : Status) (left left' held held' : Option (List ℕ)) → (a ≡ status.Usage → ⊥) → (a ≡ status.ReadFault → ⊥)
     → (a ≡ status.WriteFault → ⊥) → Ran a left left' held held' → Completes a left held held'

@@ -38,6 +38,8 @@ Outcome status.ReadFault read written ended = (ended ≡ false) × DoesAll (line
 Outcome status.WriteFault read written ended = IsPrefix written (output_of empty (lines_of ended read))
 Outcome status.NoMemory read written ended = IsPrefix written (output_of empty (lines_of ended read))
 Outcome (status.BadScript line) read written ended = StopsAt line (lines_of ended read) written
+Outcome status.DoorFault read written ended = ⊥
+Outcome (status.BadConfig line) read written ended = ⊥
 
 -- some bytes were read and some were written, as the status says; the source is at its end where ended
 pub record Ran (result : Status) (left left' held held' : Option (List ℕ)) : Type 0 where
@@ -87,6 +89,8 @@ number_at (status.BadScript line) = 3
 number_at status.ReadFault = 4
 number_at status.WriteFault = 5
 number_at status.NoMemory = 6
+number_at status.DoorFault = 7
+number_at (status.BadConfig line) = 8
 
 -- what is shown of a fault
 abbrev pub fault_text : Status → List ℕ
@@ -96,3 +100,5 @@ fault_text status.ReadFault = codes "read fault"
 fault_text status.WriteFault = codes "write fault"
 fault_text status.NoMemory = codes "out of memory"
 fault_text (status.BadScript line) = codes "bad script line " ++ decimal line
+fault_text status.DoorFault = codes "door fault"
+fault_text (status.BadConfig line) = codes "bad config line " ++ decimal line

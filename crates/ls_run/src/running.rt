@@ -41,6 +41,15 @@ pub enum Status {
         /// Its number in the script, from 1.
         line: u64,
     },
+
+    /// The door of a server didn't listen. No run of a script ends so.
+    DoorFault,
+
+    /// A line of a server's config is outside the format. No run of a script ends so.
+    BadConfig {
+        /// Its number in the config, from 1.
+        line: u64,
+    },
 }
 
 impl Status {
@@ -55,6 +64,8 @@ impl Status {
             Status::ReadFault => 4,
             Status::WriteFault => 5,
             Status::NoMemory => 6,
+            Status::DoorFault => 7,
+            Status::BadConfig { line: _ } => 8,
         }
     }
 }
@@ -74,6 +85,8 @@ impl fmt::Display for Status {
             Status::WriteFault => write!(f, "write fault"),
             Status::NoMemory => write!(f, "out of memory"),
             Status::BadScript { line } => write!(f, "bad script line {line}"),
+            Status::DoorFault => write!(f, "door fault"),
+            Status::BadConfig { line } => write!(f, "bad config line {line}"),
         }
     }
 }

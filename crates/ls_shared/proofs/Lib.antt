@@ -1,7 +1,13 @@
 mod Items
 mod Once
 mod Shapes
-mod Grown
+pub mod Grown
+mod Rounds
+mod NoCuts
+mod Quiet
 mod Turning
 mod Turned
+mod Asking
 mod Taken
+mod Changing
+mod Adds

@@ -8,6 +8,7 @@ use Rattle.ls_event.specs.declared.event.Entry.{Entry}
 use Rattle.ls_event.specs.declared.item.ItemDef.{ItemDef}
 use Rattle.ls_record.specs.Records.{LiveSlot, Life, Alive, Ending, Closed, is_due, is_to_loop, is_unsent, is_bound}
 use Rattle.ls_register.specs.declared.told.Told.{Told}
+use Rattle.ls_register.specs.declared.told.Told.TheVariants.{Gave}
 use Rattle.ls_session.specs.declared.session.Ask.{Ask as Asking}
 use Rattle.ls_session.specs.declared.session.Session.{Session as Kept}
 use Rattle.ls_session.specs.declared.session.Turn.{Turn}
@@ -20,12 +21,13 @@ use Rattle.ls_told.specs.Spoken.{spoken_of}
 use Rattle.ls_told.specs.Heard.{heard, counts_as}
 use Rattle.ls_told.specs.Seen.{Watched}
 use Rattle.ls_told.specs.Requests.{HasBound}
-use Rattle.ls_told.specs.Turns.{HasEnded, IsUnbound, IsSpent}
+use Rattle.ls_told.specs.Turns.{HasEnded, IsSilent, IsSpent, IsUnbound, probe_text}
 use Rattle.ls_live_session.specs.Speaking.{SubSeen}
 use Rattle.ls_live_session.specs.Lives.{Lives, LivesAs, GivesNext, StaysStill, given, speaks}
 use Rattle.ls_live_session.specs.Giving.{Gives as GivesTurn}
 use Rattle.ls_live_session.specs.Taking.{IsAskedFrom, Replies}
-use Rattle.ls_shared.specs.Taking.{GaveLast, EndsTurn}
+use Rattle.ls_shared.specs.Asking.{QuietRound}
+use Rattle.ls_shared.specs.Taking.{EndsTurn, GaveLast, GaveProbe, GivesNone, IsQuietTurn}
 use Rattle.ls_shared.proofs.Grown.{newer_there}
 
 -- a property of both branches
@@ -125,38 +127,48 @@ module _ (config : List ItemDef) (number epoch now : ℕ) (before es : List Told
       by_answer turn.Spent is = subst (IsPrefix before) (sym (g.stays (λ s. absurd (let x : turn.Send ≡ turn.Spent = sym s ∙ is in cc)))) (prefix_self before)
 
   -- an answer that ends the turn
-  pub gave_ends : (t : Turn) → answer ≡ t → ((ask : Asking) → t ≡ turn.Ask ask → ⊥) → EndsTurn number epoch now before es text t
-  gave_ends turn.Send is asks = record { before = before; begins = prefix_self before; gave = inl (g.sent is) }
-  gave_ends (turn.Ask ask) is asks = absurd (asks ask refl)
-  gave_ends turn.Idle is asks =
-      subst (StaysStill number epoch) (sym (g.stays (λ s. absurd (let x : turn.Send ≡ turn.Idle = sym s ∙ is in cc)))) (g.idle is)
-  gave_ends (turn.NotDue at) is asks =
-      subst (StaysStill number epoch) (sym (g.stays (λ s. absurd (let x : turn.Send ≡ turn.NotDue at = sym s ∙ is in cc)))) (g.not_due at is)
-  gave_ends (turn.Ended code) is asks =
+  pub gave_ends : (held : List Watched) (t : Turn) → answer ≡ t → ((ask : Asking) → t ≡ turn.Ask ask → ⊥)
+      → (t ≡ turn.Idle → QuietRound config number es held ws (counts_as now es) None)
+      → ((at : ℕ) → t ≡ turn.NotDue at → QuietRound config number es held ws (counts_as now es) (Some at))
+      → EndsTurn config number epoch now held before es ws text t
+  gave_ends held turn.Send is asks idle late = record { before = before; begins = prefix_self before; gave = inl (g.sent is) }
+  gave_ends held (turn.Ask ask) is asks idle late = absurd (asks ask refl)
+  gave_ends held turn.Idle is asks idle late =
+      record {
+        still = subst (StaysStill number epoch) (sym (g.stays (λ s. absurd (let x : turn.Send ≡ turn.Idle = sym s ∙ is in cc)))) (g.idle is);
+        quiet = idle refl;
+      }
+  gave_ends held (turn.NotDue at) is asks idle late =
+      record {
+        still =
+            subst (StaysStill number epoch) (sym (g.stays (λ s. absurd (let x : turn.Send ≡ turn.NotDue at = sym s ∙ is in cc)))) (g.not_due at is);
+        quiet = late at refl;
+      }
+  gave_ends held (turn.Ended code) is asks idle late =
       subst (HasEnded number code) (sym (g.stays (λ s. absurd (let x : turn.Send ≡ turn.Ended code = sym s ∙ is in cc)))) (g.ended code is)
-  gave_ends (turn.Superseded e) is asks =
+  gave_ends held (turn.Superseded e) is asks idle late =
       let still = g.stays (λ s. absurd (let x : turn.Send ≡ turn.Superseded e = sym s ∙ is in cc)) in
       let said = g.superseded e is in (
         said.0,
         newer_there number epoch e es g.lives.told.counts said.0 (said.1 ∙ ap (λ (l : List Told). length (heard number l).streams) (sym still)),
       )
-  gave_ends turn.Unbound is asks =
+  gave_ends held turn.Unbound is asks idle late =
       subst (IsUnbound number) (sym (g.stays (λ s. absurd (let x : turn.Send ≡ turn.Unbound = sym s ∙ is in cc)))) (g.unbound is)
-  gave_ends turn.Spent is asks =
+  gave_ends held turn.Spent is asks idle late =
       subst (IsSpent number) (sym (g.stays (λ s. absurd (let x : turn.Send ≡ turn.Spent = sym s ∙ is in cc)))) (g.spent is)
 
 -- a turn that ends so ends so behind a shorter history too
-pub ends_later : (number epoch now : ℕ) (old mid new : List Told) (text : List ℕ) (t : Turn) → IsPrefix old mid
-    → EndsTurn number epoch now mid new text t → EndsTurn number epoch now old new text t
-ends_later number epoch now old mid new text turn.Send begins e =
+pub ends_later : (config : List ItemDef) (number epoch now : ℕ) (held : List Watched) (old mid new : List Told) (ws : List Watched) (text : List ℕ) (t : Turn)
+    → IsPrefix old mid → EndsTurn config number epoch now held mid new ws text t → EndsTurn config number epoch now held old new ws text t
+ends_later config number epoch now held old mid new ws text turn.Send begins e =
     record { before = e.before; begins = prefix_trans old mid e.before begins e.begins; gave = e.gave }
-ends_later number epoch now old mid new text (turn.Ask ask) begins e = e
-ends_later number epoch now old mid new text turn.Idle begins e = e
-ends_later number epoch now old mid new text (turn.NotDue at) begins e = e
-ends_later number epoch now old mid new text (turn.Ended code) begins e = e
-ends_later number epoch now old mid new text (turn.Superseded newest) begins e = e
-ends_later number epoch now old mid new text turn.Unbound begins e = e
-ends_later number epoch now old mid new text turn.Spent begins e = e
+ends_later config number epoch now held old mid new ws text (turn.Ask ask) begins e = e
+ends_later config number epoch now held old mid new ws text turn.Idle begins e = e
+ends_later config number epoch now held old mid new ws text (turn.NotDue at) begins e = e
+ends_later config number epoch now held old mid new ws text (turn.Ended code) begins e = e
+ends_later config number epoch now held old mid new ws text (turn.Superseded newest) begins e = e
+ends_later config number epoch now held old mid new ws text turn.Unbound begins e = e
+ends_later config number epoch now held old mid new ws text turn.Spent begins e = e
 
 -- a slot that was asked told, or not
 module _ (config : List ItemDef) (number : ℕ) (before es : List Told) (ws : List Watched) (subs : List SubSeen) (k : Kept) where
@@ -191,3 +203,39 @@ pub lives_same : (config : List ItemDef) (number number' : ℕ) (es : List Told)
     → number' ≡ number → ws' ≡ ws → subs' ≡ subs → Lives config number es ws subs k → Lives config number' es ws' subs' k
 lives_same config number number' es ws ws' subs subs' k n w s lives =
     subst (λ (t : ℕ × List Watched × List SubSeen). Lives config t.0 es t.1 t.2 k) (λ i. (sym n i, sym w i, sym s i)) lives
+
+-- a turn that gives nothing, or PROBE in its place
+pub quiet_ends : (config : List ItemDef) (number number' epoch now : ℕ) (held : List Watched) (old mid new : List Told) (ws ws' ws2 : List Watched) (text : List ℕ)
+    (quiet t : Turn) → number' ≡ number → ws' ≡ ws → ws2 ≡ ws' → IsPrefix old mid → EndsTurn config number epoch now held mid mid ws text quiet
+    → (EndsTurn config number' epoch now held mid mid ws' text quiet → EndsTurn config number' epoch now held mid new ws' text t)
+    → EndsTurn config number epoch now held old new ws2 text t
+quiet_ends config number number' epoch now held old mid new ws ws' ws2 text quiet t n w w2 begins none probe =
+    let there = probe (subst (λ (q : ℕ × List Watched). EndsTurn config q.0 epoch now held mid mid q.1 text quiet) (λ i. (sym n i, sym w i)) none) in
+    ends_later config number epoch now held old mid new ws2 text t begins
+    (subst (λ (q : ℕ × List Watched). EndsTurn config q.0 epoch now held mid new q.1 text t) (λ i. (n i, sym w2 i)) there)
+
+pub probe_ends : (config : List ItemDef) (number epoch now : ℕ) (held : List Watched) (es new : List Told) (ws : List Watched) (text : List ℕ) (quiet : Turn)
+    → IsQuietTurn quiet → IsSilent epoch (counts_as now es) es → text ≡ probe_text → new ≡ es ++ Gave epoch probe_text (counts_as now es) ∷ []
+    → EndsTurn config number epoch now held es es ws text quiet → EndsTurn config number epoch now held es new ws text turn.Send
+probe_ends config number epoch now held es new ws text quiet is silent text_is lines none =
+    record { before = es; begins = prefix_self es; gave = inr (by_turn quiet is none) }
+  where
+    given_so : (wait : Option ℕ) → GivesNone config number epoch now held es ws wait → GaveProbe config number epoch now held es new ws text
+    given_so wait g =
+        record {
+          wait = wait;
+          none = g;
+          silent = silent;
+          text_is = text_is;
+          lines = lines ∙ ap (λ (t : List ℕ). es ++ Gave epoch t (counts_as now es) ∷ []) (sym text_is);
+        }
+
+    by_turn : (t : Turn) → IsQuietTurn t → EndsTurn config number epoch now held es es ws text t → GaveProbe config number epoch now held es new ws text
+    by_turn turn.Send is g = absurd is
+    by_turn (turn.Ask ask) is g = absurd is
+    by_turn turn.Idle is g = given_so None g
+    by_turn (turn.NotDue at) is g = given_so (Some at) g
+    by_turn (turn.Ended code) is g = absurd is
+    by_turn (turn.Superseded e) is g = absurd is
+    by_turn turn.Unbound is g = absurd is
+    by_turn turn.Spent is g = absurd is

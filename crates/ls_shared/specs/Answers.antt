@@ -1,4 +1,10 @@
 -- What the calls on the sessions of a server say of what was seen of them and of the register (this project's profile).
+use Rattle.ls_request.specs.declared.request.Add.{Add}
+use Rattle.ls_request.specs.declared.request.Op.{Op}
+use Rattle.ls_request.specs.declared.request.Op.TheVariants as op
+use Rattle.ls_record.specs.Acting.{asks_of}
+use Rattle.ls_record.specs.Records.{Session}
+use Rattle.ls_live_session.specs.Lives.{Finds}
 use Rattle.std.specs.Prelude.{◌≡◌, ◌≤◌, ◌<◌, ◌⊎◌, ℕ, List, [], ◌∷◌, ◌++◌, length, Bool, true, false, not, Option, None, Some}
 use Rattle.std.specs.Prelude.{nat_le}
 use mathlib.Core.List.{IsPrefix}
@@ -9,21 +15,21 @@ use Rattle.ls_request.specs.declared.request.Create.{Create}
 use Rattle.ls_record.specs.Cases.{first_code}
 use Rattle.ls_record.specs.declared.TheConstants.{MOST_SESSIONS}
 use Rattle.ls_register.specs.declared.made.Made.{Made}
-use Rattle.ls_register.specs.declared.made.Made.TheVariants.{Session}
+use Rattle.ls_register.specs.declared.made.Made.TheVariants.{Claimed, Session as Opened}
 use Rattle.ls_register.specs.declared.told.Told.{Told}
 use Rattle.ls_register.specs.declared.told.Told.TheVariants.{Bound, Rate, Unbound}
-use Rattle.ls_register.specs.Sessions.{live_of, is_live, are_spent}
+use Rattle.ls_register.specs.Sessions.{live_of, is_live, are_spent, is_spent, free_in}
 use Rattle.ls_session.specs.declared.session.Lost.{Lost}
 use Rattle.ls_session.specs.declared.session.Lost.TheVariants as lost
 use Rattle.ls_session.specs.declared.session.Turn.{Turn}
 use Rattle.ls_session.specs.declared.session.Turn.TheVariants as turn
 use Rattle.ls_live_session.specs.Speaking.{Speaking}
 use Rattle.ls_live_session.specs.Sights.{ShowsAll}
-use Rattle.ls_told.specs.Heard.{heard, counts_as}
-use Rattle.ls_told.specs.Seen.{Testified, Grows, Sends}
-use Rattle.ls_told.specs.Spoken.{next_of, text_of_next}
-use Rattle.ls_told.specs.Requests.{Binds, HasBound}
-use Rattle.ls_told.specs.Turns.{IsStill, IsSilent, HasEnded, IsSpent, IsUnbound, probe_text}
+use Rattle.ls_told.specs.Heard.{counts_as}
+use Rattle.ls_told.specs.Seen.{Testified, Grows, IsTold}
+use Rattle.ls_told.specs.Requests.{AddsSub, Binds, DoneBy, HasBound, op_code, is_spent_for}
+pub use Rattle.ls_told.specs.Turns.{GivesLine}
+use Rattle.ls_told.specs.Turns.{HasEnded, IsIdle, IsNotDue, IsSpent, IsUnbound}
 
 -- whether a set is named that isn't the server's
 abbrev pub is_other : List ℕ → Option (List ℕ) → Bool
@@ -55,7 +61,7 @@ pub record Opens (set : List ℕ) (c : Create) (now : ℕ) (old new : List Made)
     : Type 0 where
   pub is : Begins c now session epoch seen
   pub before : List Made
-  pub made : new ≡ before ++ Session session seen.table ∷ []
+  pub made : new ≡ before ++ Opened session seen.table ∷ []
   pub begins : IsPrefix old before
   pub none : create_code set c before ≡ None
   pub lives : is_live new session ≡ true
@@ -84,29 +90,15 @@ pub record BindsOn (b : Bind) (now epoch : ℕ) (old new : Testified) : Type 0 w
   pub begins : IsPrefix old.later before
   pub bound : Binds old.number b now epoch before new.lines
 
--- a stream is alive, where nothing waits to be given on it and it gave nothing for its keep-alive
-pub record IsStillProbe (number epoch tick : ℕ) (es : List Told) (text : List ℕ) : Type 0 where
-  pub text_is : text ≡ probe_text
-  pub silent : IsSilent epoch tick es
-  pub still : IsStill number epoch es
-
--- a line was given: END, one that is owed, LOOP, or the next numbered one, the first of them that there is; or PROBE
-pub record GivesLine (config : List ItemDef) (epoch now : ℕ) (old new : Testified) (text : List ℕ) : Type 0 where
-  pub tick : ℕ
-  pub sends : Sends old new epoch text tick
-  pub begins : IsPrefix old.later sends.before
-  pub tick_is : tick ≡ counts_as now sends.before
-  pub newest : length (heard old.number sends.before).streams ≡ epoch
-  pub bound : (heard old.number sends.before).unbound ≡ None
-  pub what : (text_of_next (next_of (heard old.number sends.before)) ≡ Some text)
-      ⊎ IsStillProbe old.number epoch tick sends.before text
-
 -- a turn's answer
 abbrev pub Turns : List ItemDef → ℕ → ℕ → Testified → Testified → List ℕ → Turn → Type 0
 Turns config epoch now old new text turn.Send = GivesLine config epoch now old new text
 Turns config epoch now old new text (turn.Ask ask) = ⊥
-Turns config epoch now old new text turn.Idle = (new.mine ≡ old.mine) × IsStill old.number epoch new.lines
-Turns config epoch now old new text (turn.NotDue at) = (new.mine ≡ old.mine) × IsStill old.number epoch new.lines
+Turns config epoch now old new text turn.Idle =
+    (new.mine ≡ old.mine) × IsIdle config old.number epoch new.lines new.watches old.watches
+Turns config epoch now old new text (turn.NotDue at) =
+    (new.mine ≡ old.mine)
+    × IsNotDue config old.number epoch (counts_as now new.lines) at new.lines new.watches old.watches
 Turns config epoch now old new text (turn.Ended code) = (new.mine ≡ old.mine) × HasEnded old.number code new.lines
 Turns config epoch now old new text (turn.Superseded e) = (new.mine ≡ old.mine) × (epoch < e) × HasBound e new.lines
 Turns config epoch now old new text turn.Unbound = (new.mine ≡ old.mine) × IsUnbound old.number new.lines
@@ -118,3 +110,36 @@ Loses epoch now old new lost.Unbound =
     (before : List Told) × IsPrefix old.later before × (new.later ≡ before ++ Unbound (counts_as now before) ∷ [])
 Loses epoch now old new (lost.Superseded e) = (epoch < e) × HasBound e new.later
 Loses epoch now old new lost.NotBound = IsUnbound old.number new.later
+
+-- an operation was done to a session that a caller saw all of: nothing stood against it
+pub record Changes (config : List ItemDef) (o : Op) (now : ℕ) (live : Speaking) (old new : Testified) : Type 0 where
+  pub finds : Finds config live.number live.lines live.watches o None
+  pub watches : new.watches ≡ live.watches
+  pub done : DoneBy config live.number (counts_as now live.lines) live.lines new old.register o
+
+-- room for the slots of a subscription was claimed, where the register wasn't spent, nor was the session's history
+pub record HasRoom (config : List ItemDef) (a : Add) (es : List Told) (free : ℕ) (old new : List Made) : Type 0 where
+  pub room : List Made
+  pub begins : IsPrefix old room
+  pub free_is : free ≡ free_in room
+  pub left : is_spent es ≡ false
+  pub unspent : is_spent room ≡ false
+  pub claimed : new ≡ room ++ Claimed (length (asks_of config a)) ∷ []
+
+-- a subscription was added to a session that a caller saw all of: nothing stood against it when the register was this one
+pub record AddsOn (config : List ItemDef) (a : Add) (now : ℕ) (live : Speaking) (old new : Testified) : Type 0 where
+  pub room : List Made
+  pub room_then : IsPrefix old.register room × IsPrefix room new.register
+  pub earlier : Session
+  pub was : IsTold config live.number live.lines new.watches earlier
+  pub none : op_code config (free_in room) (is_spent_for (op.Add a) live.lines room) earlier (op.Add a) ≡ None
+  pub done : AddsSub config live.number a (counts_as now live.lines) live.lines new old.register
+
+-- an operation asks for slots
+abbrev pub AsksSlots : Op → Type 0
+AsksSlots (op.Add a) = Unit {0}
+AsksSlots (op.Delete sub) = ⊥
+AsksSlots (op.Reconf sub frequency) = ⊥
+AsksSlots (op.Constrain bandwidth) = ⊥
+AsksSlots op.ForceRebind = ⊥
+AsksSlots op.Destroy = ⊥

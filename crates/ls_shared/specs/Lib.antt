@@ -1,3 +1,4 @@
 pub mod Offers
 pub mod Answers
+pub mod Asking
 pub mod Taking

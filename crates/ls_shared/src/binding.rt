@@ -3,7 +3,8 @@ ghost use Rattle.std.specs.Prelude.{◌≡◌, ◌≤◌, ◌<◌, ℕ, Some, If
 ghost use mathlib.Core.List.{IsPrefix};
 ghost use Rattle.ls_value.specs.declared.limits.TheConstants.{GREATEST_TICK};
 ghost use Rattle.ls_subs.specs.declared.plan.Refusal.TheVariants as Refusal;
-ghost use Rattle.ls_told.specs.Seen.{Grows, LawfulTold, SeesMore};
+ghost use Rattle.ls_value.specs.Each.{Each};
+ghost use Rattle.ls_told.specs.Seen.{FitsWatch, Grows, LawfulTold, SeesMore};
 ghost use Rattle.ls_told.specs.Requests.{HasBound, OnlyLater, bind_code_of};
 ghost use Rattle.ls_live_session.specs.Sights.{SeesOf};
 ghost use Rattle.ls_shared.specs.Answers.{BindsOn, Loses, Reaches, SeesOn};
@@ -168,6 +169,7 @@ impl<N: House> Shared<N> {
         ensures reached { OnOk result (Reaches live.old live.new sight.old sight.new) }
         ensures rest { live.new ≡ record live.old { watches = live.new.watches } }
         ensures more { SeesMore live.old.watches live.new.watches }
+        ensures fit { OnOk result (Each (FitsWatch N.deed.config) live.new.watches) }
         ensures err { OnErr result (sight.new ≡ sight.old) }
     {
         self.expect(rt, live, sight);

@@ -1,15 +1,16 @@
 //! What the sessions of a server give.
-ghost use Rattle.std.specs.Prelude.{◌≡◌, ◌≤◌, ◌<◌, IfOk, IfSome, OnOk, OnErr, length};
+ghost use Rattle.std.specs.Prelude.{◌≡◌, ◌≤◌, ◌<◌, ℕ, List, None, IfOk, IfSome, IsTrue, IsFalse, OnOk, OnErr, length};
 ghost use mathlib.Core.List.{IsPrefix};
 ghost use Rattle.ls_value.specs.declared.limits.TheConstants.{GREATEST_TICK, GREATEST_NUMBER};
 ghost use Rattle.ls_record.specs.Records.{Alive};
-ghost use Rattle.ls_session.specs.Record.{Record, Question};
+ghost use Rattle.ls_session.specs.Record.{Record, Question, passed_over};
 ghost use Rattle.ls_told.specs.Heard.{heard};
-ghost use Rattle.ls_told.specs.Seen.{Grows, LawfulTold, SeesMore};
+ghost use Rattle.ls_told.specs.Seen.{Grows, LawfulTold, SeesMore, Watched, seen_of};
 ghost use Rattle.ls_told.specs.Requests.{HasBound};
-ghost use Rattle.ls_live_session.specs.Lives.{Lives, StaysStill};
+ghost use Rattle.ls_live_session.specs.Lives.{Lives, LivesAs, HasNothing, StaysStill};
 ghost use Rattle.ls_live_session.specs.Taking.{IsAskedFrom};
 ghost use Rattle.ls_shared.specs.Answers.{SeesOn, Turns};
+ghost use Rattle.ls_shared.specs.Asking.{AsksRound, GoesRound};
 ghost use Rattle.ls_shared.specs.Taking.{EndsTurn, IsQuietTurn};
 
 use crate::shared::Shared;
@@ -25,10 +26,12 @@ use std::sync::Wait;
 impl<N: House> Shared<N> {
     /// A turn of the session of which `seen` is, at a tick, in ms, of at most [`GREATEST_TICK`](ls_value::GREATEST_TICK),
     /// for the stream of an epoch, of which `seen` has the Bound: at most one line is given, and `into` holds it. Each
-    /// slot that is asked has first what its item has. Where there is nothing to give and the last line was given as
-    /// long ago as the keep-alive, or longer, PROBE is given. The turn is never a question. `seen` then has what stands
-    /// under the session's lock. After `NoMemory` slots may have moved past cuts that make no line. The gate is passed
-    /// while the session's lock is held. The call may wait.
+    /// slot that is asked has first what its item has. Of an item that has nothing new since its slot had nothing to
+    /// tell, the lock isn't taken. `Idle` and `NotDue` come where no slot has a line by all that `seen` had of its item,
+    /// and more; `at` is the first tick, in ms, at which something that is pending is due. Where it is so and the last
+    /// line was given as long ago as the keep-alive, or longer, PROBE is given. The turn is never a question. `seen` then
+    /// has what stands under the session's lock. After `NoMemory` slots may have moved past cuts that make no line. The
+    /// gate is passed while the session's lock is held. The call may wait.
     pub fn take<R: Wait, G: Gate>(
         &self,
         rt: &R,
@@ -100,8 +103,34 @@ impl<N: House> Shared<N> {
         }
     }
 
-    /// A turn of a session in parts: its round is asked until there is a line, or nothing.
+    /// A turn of a session in parts: its round is asked from the beginning, until there is a line, or nothing.
     fn turns<R: Wait>(
+        &self,
+        rt: &R,
+        parts: &mut SessionParts<N>,
+        epoch: u64,
+        now: u64,
+        into: &mut LineBuf,
+    ) -> Result<Turn, NoMemory>
+        requires tick { now ≤ GREATEST_TICK }
+        requires bound { HasBound epoch parts.old.history.list }
+        requires lives { Lives N.deed.config parts.old.number parts.old.history.list parts.old.watches.items
+            parts.old.subs.items parts.old.session }
+        ensures rest { (parts.new.number ≡ parts.old.number) × (parts.new.place ≡ parts.old.place)
+            × (parts.new.history.table ≡ parts.old.history.table) }
+        ensures lives { Lives N.deed.config parts.new.number parts.new.history.list parts.new.watches.items
+            parts.new.subs.items parts.new.session }
+        ensures items { SeesMore parts.old.watches.items parts.new.watches.items }
+        ensures begins { IsPrefix parts.old.history.list parts.new.history.list }
+        ensures turn { IfOk result (EndsTurn N.deed.config parts.old.number epoch now parts.old.watches.items
+            parts.old.history.list parts.new.history.list parts.new.watches.items into.new) }
+    {
+        begin_round(parts, now, into);
+        self.steps(rt, parts, epoch, now, into)
+    }
+
+    /// The steps of a turn, up to the one that ends it.
+    fn steps<R: Wait>(
         &self,
         rt: &R,
         parts: &mut SessionParts<N>,
@@ -112,14 +141,16 @@ impl<N: House> Shared<N> {
         requires tick { now ≤ GREATEST_TICK }
         requires lives { Lives N.deed.config parts.old.number parts.old.history.list parts.old.watches.items
             parts.old.subs.items parts.old.session }
+        requires goes { GoesRound N.deed.config parts.old.number parts.old.history.list parts.old.watches.items
+            parts.old.watches.items parts.old.subs.items parts.old.session }
         ensures rest { (parts.new.number ≡ parts.old.number) × (parts.new.place ≡ parts.old.place)
             × (parts.new.history.table ≡ parts.old.history.table) }
         ensures lives { Lives N.deed.config parts.new.number parts.new.history.list parts.new.watches.items
             parts.new.subs.items parts.new.session }
         ensures items { SeesMore parts.old.watches.items parts.new.watches.items }
         ensures begins { IsPrefix parts.old.history.list parts.new.history.list }
-        ensures turn { IfOk result
-            (EndsTurn parts.old.number epoch now parts.old.history.list parts.new.history.list into.new) }
+        ensures turn { IfOk result (EndsTurn N.deed.config parts.old.number epoch now parts.old.watches.items
+            parts.old.history.list parts.new.history.list parts.new.watches.items into.new) }
     {
         for _ in rt.forever() {
             match self.step(rt, parts, epoch, now, into)? {
@@ -148,8 +179,14 @@ impl<N: House> Shared<N> {
             parts.new.subs.items parts.new.session }
         ensures items { SeesMore parts.old.watches.items parts.new.watches.items }
         ensures begins { IsPrefix parts.old.history.list parts.new.history.list }
-        ensures turn { IfOk result (λ ended. IfSome ended
-            (EndsTurn parts.old.number epoch now parts.old.history.list parts.new.history.list into.new)) }
+        ensures goes { IfOk result (λ ended. ended ≡ None → (held : List Watched) → GoesRound N.deed.config parts.old.number
+            parts.old.history.list held parts.old.watches.items parts.old.subs.items parts.old.session
+            → GoesRound N.deed.config parts.new.number parts.new.history.list held parts.new.watches.items
+            parts.new.subs.items parts.new.session) }
+        ensures turn { IfOk result (λ ended. IfSome ended (λ t. (held : List Watched) → GoesRound N.deed.config
+            parts.old.number parts.old.history.list held parts.old.watches.items parts.old.subs.items parts.old.session
+            → EndsTurn N.deed.config parts.old.number epoch now held parts.old.history.list parts.new.history.list
+            parts.new.watches.items into.new t)) }
     {
         match parts.give(epoch, now, into) {
             Turn::Ask(ask) => {
@@ -162,8 +199,8 @@ impl<N: House> Shared<N> {
         }
     }
 
-    /// Asks the slot of a session's question what it has to tell, and answers the question. Where the item doesn't have
-    /// the slot, it waits for good.
+    /// Answers a session's question by what its slot has to tell. Where the slot had nothing and its item has nothing new,
+    /// that is seen without the item's lock.
     fn ask<R: Wait>(
         &self,
         rt: &R,
@@ -182,6 +219,41 @@ impl<N: House> Shared<N> {
             parts.new.subs.items parts.new.session }
         ensures items { SeesMore parts.old.watches.items parts.new.watches.items }
         ensures begins { IsPrefix parts.old.history.list parts.new.history.list }
+        ensures goes { OnOk result ((held : List Watched) → AsksRound N.deed.config parts.old.number parts.old.history.list held
+            parts.old.watches.items parts.old.subs.items parts.old.session ask now
+            → GoesRound N.deed.config parts.new.number parts.new.history.list held parts.new.watches.items
+            parts.new.subs.items parts.new.session) }
+    {
+        if rests(parts, ask) {
+            return Ok(());
+        }
+        self.ask_item(rt, parts, ask, now)
+    }
+
+    /// Asks the slot of a session's question what it has to tell, under its item's lock, and answers the question. Where
+    /// the item doesn't have the slot, it waits for good.
+    fn ask_item<R: Wait>(
+        &self,
+        rt: &R,
+        parts: &mut SessionParts<N>,
+        ask: Ask,
+        now: u64,
+    ) -> Result<(), NoMemory>
+        requires tick { now ≤ GREATEST_TICK }
+        requires room { length parts.old.history.list < GREATEST_NUMBER }
+        requires alive { (heard parts.old.number parts.old.history.list).life ≡ Alive }
+        requires asked { (r : Record) × (q : Question) × IsAskedFrom N.deed.config parts.old.number parts.old.history.list parts.old.watches.items
+            parts.old.subs.items parts.old.session r q ask now }
+        ensures rest { (parts.new.number ≡ parts.old.number) × (parts.new.place ≡ parts.old.place)
+            × (parts.new.history.table ≡ parts.old.history.table) }
+        ensures lives { Lives N.deed.config parts.new.number parts.new.history.list parts.new.watches.items
+            parts.new.subs.items parts.new.session }
+        ensures items { SeesMore parts.old.watches.items parts.new.watches.items }
+        ensures begins { IsPrefix parts.old.history.list parts.new.history.list }
+        ensures goes { OnOk result ((held : List Watched) → AsksRound N.deed.config parts.old.number parts.old.history.list held
+            parts.old.watches.items parts.old.subs.items parts.old.session ask now
+            → GoesRound N.deed.config parts.new.number parts.new.history.list held parts.new.watches.items
+            parts.new.subs.items parts.new.session) }
     {
         let Some(lock) = self.items.get(ask.slot.item as usize) else {
             wait_for_good(rt);
@@ -197,6 +269,44 @@ impl<N: House> Shared<N> {
             Err(NoMemory) => Err(NoMemory),
         }
     }
+}
+
+/// The round of a session's slots begins anew, by a turn for no stream, which gives nothing. So whatever it asked before
+/// counts for nothing.
+fn begin_round<N: House>(parts: &mut SessionParts<N>, now: u64, into: &mut LineBuf)
+    requires tick { now ≤ GREATEST_TICK }
+    requires bound { (epoch : ℕ) × HasBound epoch parts.old.history.list }
+    requires lives { Lives N.deed.config parts.old.number parts.old.history.list parts.old.watches.items
+        parts.old.subs.items parts.old.session }
+    ensures rest { parts.new ≡ record parts.old { session = parts.new.session; history = parts.new.history } }
+    ensures same { (parts.new.history.list ≡ parts.old.history.list)
+        × (parts.new.history.table ≡ parts.old.history.table) }
+    ensures goes { GoesRound N.deed.config parts.old.number parts.old.history.list parts.old.watches.items
+        parts.old.watches.items parts.old.subs.items parts.new.session }
+{
+    let _ = parts.give(0, now, into);
+}
+
+/// Answers the question of a slot that had nothing to tell, where its item has nothing new; else the question stands. It
+/// takes no lock.
+fn rests<N: House>(parts: &mut SessionParts<N>, ask: Ask) -> bool
+    ensures rest { parts.new ≡ record parts.old { session = parts.new.session; watches = parts.new.watches } }
+    ensures same { parts.new.watches.items ≡ parts.old.watches.items }
+    ensures rests { IsTrue result → (r : Record) (q : Question) (now : ℕ) → IsAskedFrom N.deed.config parts.old.number
+        parts.old.history.list parts.old.watches.items parts.old.subs.items parts.old.session r q ask now
+        → LivesAs N.deed.config parts.old.number parts.old.history.list parts.old.watches.items parts.old.subs.items
+        parts.new.session (passed_over r)
+        × HasNothing (seen_of parts.old.watches.items q.live.item) q.live.slot
+        × (length (seen_of parts.old.watches.items q.live.item) ≤ q.live.slot.last) }
+    ensures stays { IsFalse result → (r : Record) → LivesAs N.deed.config parts.old.number parts.old.history.list
+        parts.old.watches.items parts.old.subs.items parts.old.session r
+        → LivesAs N.deed.config parts.old.number parts.old.history.list parts.old.watches.items parts.old.subs.items
+        parts.new.session r }
+{
+    let Some(events) = parts.count(ask.slot.item) else {
+        return false;
+    };
+    parts.rest_quiet(ask, events)
 }
 
 /// PROBE, where a stream gave nothing for its keep-alive, in place of an answer that gives nothing.
@@ -216,7 +326,10 @@ fn probed<N: House>(
     ensures table { parts.new.history.table ≡ parts.old.history.table }
     ensures lives { Lives N.deed.config parts.new.number parts.new.history.list parts.new.watches.items
         parts.new.subs.items parts.new.session }
-    ensures ends { EndsTurn parts.old.number epoch now parts.old.history.list parts.new.history.list into.new result }
+    ensures ends { (held : List Watched) → EndsTurn N.deed.config parts.old.number epoch now held parts.old.history.list
+        parts.old.history.list parts.old.watches.items into.new quiet
+        → EndsTurn N.deed.config parts.old.number epoch now held parts.old.history.list parts.new.history.list
+        parts.old.watches.items into.new result }
     ensures begins { IsPrefix parts.old.history.list parts.new.history.list }
 {
     if parts.probe(epoch, now, into) {

@@ -1,6 +1,7 @@
 -- What a put does to what went out and to the counts (this project's profile: one line, and its CR LF).
 use Rattle.std.specs.Prelude.{◌≡◌, ℕ, ◌<◌, ◌≤◌, List, [], ◌∷◌, ◌++◌, length, take, Result, Ok, Err, ⊤, None, Some}
 use Rattle.std.specs.declared.option.Option.{Option}
+use Rattle.std.specs.Borrow.{GName}
 use Rattle.std.specs.Io.KnownBytes.{Appends, Keeps}
 use Rattle.ls_outside.specs.Causes.{one_more}
 use Rattle.ls_talk.specs.declared.line_out.PutRefused.{PutRefused}
@@ -18,6 +19,15 @@ pub record Counts : Type 0 where
 -- of what only lines are put to
 abbrev pub no_counts : Counts
 no_counts = record { faults = 0; idles = 0; closes = 0; leaves = 0 }
+
+-- what was lent: the reference, and what was behind it then
+pub record Lender : Type 0 where
+  pub name : GName
+  pub held : Option (List ℕ)
+
+-- of what holds no reference
+abbrev pub no_lender : Option Lender
+no_lender = None
 
 -- a line as it goes out: its text and CR LF
 abbrev pub line_bytes : List ℕ → List ℕ

@@ -1,8 +1,7 @@
 -- What an answer of `message` and of `between` says of the counts, the log and the bytes.
-use Rattle.std.specs.Prelude.{◌≡◌, ℕ, ◌≤◌, List, [], ◌∷◌, length, ⊤, ◌⊎◌}
+use Rattle.std.specs.Prelude.{◌≡◌, ℕ, ◌≤◌, List, [], ◌∷◌, length, Bool, true, false, ⊤, ◌⊎◌}
 use Rattle.std.specs.declared.option.Option.{Option}
 use Rattle.std.specs.Str.{IsUtf8}
-use Rattle.std.specs.Io.KnownBytes.{Appends}
 use Rattle.ls_outside.specs.Causes.{one_more}
 use Rattle.ls_talk.specs.Lines.{Counts, Logs}
 use Rattle.ls_talk.specs.declared.talk.TheConstants.{LONGEST_MESSAGE}
@@ -40,6 +39,12 @@ abbrev pub LogsAnswer : Option (List Happening) → Option (List Happening) → 
 LogsAnswer old new incoming.NoMemory = Logs old new []
 LogsAnswer old new answer = Logs old new (happening.Answer answer ∷ [])
 
+-- all that was held back is written and no write failed, or one failed
+pub record LetsGo (whole : Bool) (f g : ℕ) : Type 0 where
+  pub later : f ≤ g
+  pub all : whole ≡ true → g ≡ f
+  pub part : whole ≡ false → g ≡ one_more f
+
 -- what an answer of `between` makes of the count of leaves: it rises by one with `Left` alone
 abbrev pub CountsBetween : Between → ℕ → ℕ → Type 0
 CountsBetween between.Go l m = m ≡ l
@@ -54,6 +59,6 @@ pub record HasBetweenCause (answer : Between) (c d : Counts) (f g : ℕ) : Type 
   pub later : c.leaves ≤ d.leaves
   pub counts : CountsBetween answer c.leaves d.leaves
 
--- known bytes and a told log stay, and some may be added
-abbrev pub Adds : Option (List ℕ) → Option (List ℕ) → Option (List Happening) → Option (List Happening) → Type 0
-Adds held held2 log log2 = ((bytes : List ℕ) × Appends held held2 bytes) × ((more : List Happening) × Logs log log2 more)
+-- a told log stays, and some may be added
+abbrev pub LogsMore : Option (List Happening) → Option (List Happening) → Type 0
+LogsMore log log2 = (more : List Happening) × Logs log log2 more

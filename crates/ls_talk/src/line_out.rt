@@ -2,7 +2,7 @@
 ghost use Rattle.std.specs.Prelude.{◌≡◌, ℕ, List};
 ghost use Rattle.std.specs.declared.option.Option.{Option};
 ghost use Rattle.std.specs.Str.{IsUtf8};
-ghost use Rattle.ls_talk.specs.Lines.{Counts, PutsOf, LogsPut, HasPutCause};
+ghost use Rattle.ls_talk.specs.Lines.{Counts, Lender, PutsOf, LogsPut, HasPutCause, no_lender};
 ghost use Rattle.ls_talk.specs.declared.talk.Happening.{Happening};
 
 use ls_value::NoMemory;
@@ -42,6 +42,10 @@ pub trait LineOut {
     /// The other counts, where it has them. No put changes them.
     ghost counts: { Self → Counts };
 
+    /// What it borrowed, where it holds a reference to what the bytes go to, and what that held then. No call changes
+    /// this: so who lent it knows what is behind the reference afterwards.
+    ghost lender: { Self → Option Lender } = { λ _. no_lender };
+
     /// How many puts have failed, or 2^64 - 1 where that is less; where messages come over it, also how many writes of
     /// theirs. It never falls.
     fn put_faults(&self) -> u64
@@ -58,5 +62,6 @@ pub trait LineOut {
         ensures bytes { PutsOf (held self.old) (held self.new) result text.now }
         ensures log { LogsPut (log self.old) (log self.new) result text.now }
         ensures cause { HasPutCause result (faults self.old) (faults self.new) }
-        ensures counts { counts self.new ≡ counts self.old };
+        ensures counts { counts self.new ≡ counts self.old }
+        ensures lender { lender self.new ≡ lender self.old };
 }

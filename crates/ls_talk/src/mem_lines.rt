@@ -2,8 +2,9 @@
 ghost use Rattle.std.specs.Prelude.{◌≡◌, ◌≤◌, ◌++◌, ◌∷◌, [], length, IfOk, OnOk, OnErr, Some, None};
 ghost use Rattle.std.specs.Str.{IsUtf8};
 ghost use Rattle.ls_outside.specs.Memory.{next_call};
-ghost use Rattle.ls_talk.specs.Lines.{no_counts, line_bytes, PutsOf, LogsPut, HasPutCause};
-ghost use Rattle.ls_talk.specs.Talks.{HasBetweenCause, Adds};
+ghost use Rattle.ls_talk.specs.Lines.{no_counts, no_lender, line_bytes, PutsOf, LogsPut, HasPutCause};
+ghost use Rattle.std.specs.Io.KnownBytes.{Keeps};
+ghost use Rattle.ls_talk.specs.Talks.{HasBetweenCause, LogsMore};
 ghost use Rattle.ls_talk.specs.InMemory.{going, IsPutBy, lines_after};
 
 use crate::calls::Calls;
@@ -168,6 +169,7 @@ impl LineOut for MemLines {
         ensures log { LogsPut None None result text.now }
         ensures cause { HasPutCause result self.old.faults self.new.faults }
         ensures counts { no_counts ≡ no_counts }
+        ensures lender { no_lender ≡ no_lender }
         ensures answer { IsPutBy (next_call self.old.calls) text.now result }
         ensures after { self.new ≡ lines_after self.old text.now result }
     {
@@ -190,7 +192,9 @@ impl Wire for MemLines {
 
     fn between(&mut self, _: u64) -> Between
         ensures cause { HasBetweenCause result no_counts no_counts self.old.faults self.new.faults }
-        ensures adds { Adds (Some self.old.held) (Some self.new.held) None None }
+        ensures keeps { Keeps (Some self.old.held) (Some self.new.held) }
+        ensures lender { no_lender ≡ no_lender }
+        ensures log { LogsMore None None }
         ensures same { self.new ≡ self.old }
     {
         Between::Go

@@ -4,7 +4,7 @@ ghost use Rattle.std.specs.Str.{IsUtf8};
 ghost use Rattle.std.specs.Io.KnownBytes.{Keeps};
 ghost use Rattle.ls_outside.specs.Causes.{one_more};
 ghost use Rattle.ls_outside.specs.Memory.{next_call};
-ghost use Rattle.ls_talk.specs.Lines.{no_counts, LogsPut, HasPutCause, PutsOf};
+ghost use Rattle.ls_talk.specs.Lines.{no_counts, no_lender, LogsPut, HasPutCause, PutsOf};
 ghost use Rattle.ls_talk.specs.Talks.{IsMessage, HasMessageCause, LogsAnswer};
 ghost use Rattle.ls_talk.specs.InMemory.{given, next_or, answer_by, answered, messages_after, IsPutBy};
 ghost use Rattle.ls_talk.specs.declared.talk.Incoming.TheVariants as incoming;
@@ -212,6 +212,11 @@ impl Talk for PlainTalk {
             Err(NoMemory) => Incoming::NoMemory,
         }
     }
+
+    /// Nothing is held back.
+    fn let_go(&mut self) -> bool {
+        true
+    }
 }
 
 /// A talk in memory whose reads and puts go by lists, for tests. Contracts see its log, the messages to come, how the
@@ -355,6 +360,7 @@ impl LineOut for MemTalk {
         ensures log { LogsPut (Some self.old.plain.log) (Some self.new.plain.log) result text.now }
         ensures cause { HasPutCause result self.old.put_faults self.new.put_faults }
         ensures counts { self.new.counts ≡ self.old.counts }
+        ensures lender { no_lender ≡ no_lender }
         ensures answer { IsPutBy (next_call self.old.puts) text.now result }
         ensures puts { self.new.puts ≡ drop 1 self.old.puts }
         ensures reads { (self.new.reads ≡ self.old.reads) × (self.new.plain.messages ≡ self.old.plain.messages) }
@@ -406,5 +412,10 @@ impl Talk for MemTalk {
             Ok(answer) => answer,
             Err(NoMemory) => Incoming::NoMemory,
         }
+    }
+
+    /// Nothing is held back.
+    fn let_go(&mut self) -> bool {
+        true
     }
 }

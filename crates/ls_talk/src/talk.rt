@@ -1,7 +1,8 @@
 //! What messages come over.
-ghost use Rattle.std.specs.Prelude.{◌≡◌};
+ghost use Rattle.std.specs.Prelude.{◌≡◌, []};
 ghost use Rattle.std.specs.Io.KnownBytes.{Keeps};
-ghost use Rattle.ls_talk.specs.Talks.{IsMessage, HasMessageCause, LogsAnswer};
+ghost use Rattle.ls_talk.specs.Lines.{Logs};
+ghost use Rattle.ls_talk.specs.Talks.{IsMessage, HasMessageCause, LetsGo, LogsAnswer};
 
 use crate::line_out::LineOut;
 use ls_value::Bytes;
@@ -73,5 +74,14 @@ pub trait Talk: LineOut {
         ensures cause { HasMessageCause result (Self.counts self.old) (Self.counts self.new)
             (Self.faults self.old) (Self.faults self.new) }
         ensures log { LogsAnswer (Self.log self.old) (Self.log self.new) result }
+        ensures bytes { Keeps (Self.held self.old) (Self.held self.new) };
+
+    /// Writes what it held back of the lines and answers that were put, so that several go out in one write. Answers
+    /// whether all of it was written: if not, `put_faults` rises by one. Whoever sleeps, or has nothing more to put, lets
+    /// go first.
+    fn let_go(&mut self) -> bool
+        ensures cause { LetsGo result (Self.faults self.old) (Self.faults self.new) }
+        ensures counts { Self.counts self.new ≡ Self.counts self.old }
+        ensures log { Logs (Self.log self.old) (Self.log self.new) [] }
         ensures bytes { Keeps (Self.held self.old) (Self.held self.new) };
 }

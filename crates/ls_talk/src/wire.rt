@@ -1,6 +1,7 @@
 //! What a stream goes over.
 ghost use Rattle.std.specs.Prelude.{◌≡◌};
-ghost use Rattle.ls_talk.specs.Talks.{HasBetweenCause, Adds};
+ghost use Rattle.std.specs.Io.KnownBytes.{Keeps};
+ghost use Rattle.ls_talk.specs.Talks.{HasBetweenCause, LogsMore};
 
 use crate::line_out::LineOut;
 
@@ -14,7 +15,8 @@ pub enum Between {
     Left,
 }
 
-/// What a stream's lines go over. Between two lines it does what else there is to do on the connection.
+/// What a stream's lines go over. Between two lines it does what else there is to do on the connection. What it holds
+/// are the bytes of the lines that were put to it; what is written between them is not among these.
 pub trait Wire: LineOut {
     /// How many times the peer left the stream, or 2^64 - 1 where that is less. It never falls.
     fn leaves(&self) -> u64
@@ -25,5 +27,7 @@ pub trait Wire: LineOut {
     fn between(&mut self, now: u64) -> Between
         ensures cause { HasBetweenCause result (Self.counts self.old) (Self.counts self.new)
             (Self.faults self.old) (Self.faults self.new) }
-        ensures adds { Adds (Self.held self.old) (Self.held self.new) (Self.log self.old) (Self.log self.new) };
+        ensures keeps { Keeps (Self.held self.old) (Self.held self.new) }
+        ensures lender { Self.lender self.new ≡ Self.lender self.old }
+        ensures log { LogsMore (Self.log self.old) (Self.log self.new) };
 }

@@ -1,7 +1,7 @@
 -- What a WebSocket over a pipe holds, and what its calls do to it (RFC 6455, sections 5 and 6).
 use Rattle.std.specs.Prelude.{◌≡◌, ◌<◌, ◌⊎◌, ℕ, List, [], refl, Bool, Ok, Err, ⊤}
 use Rattle.std.specs.declared.option.Option.{Option}
-use Rattle.std.specs.Coded.{Coded, code_by, coded×, coded_ℕ, coded_bool}
+use Rattle.std.specs.Coded.{Coded, code_by, coded×, coded_list, coded_ℕ, coded_bool}
 use Rattle.tungstenite.specs.Connection.{write_step}
 use Rattle.tungstenite.specs.Content.{text}
 use Rattle.tungstenite.specs.Socket.{Socket, socket_code, Reads, Writes, content_of, kind_of, byte_count}
@@ -13,26 +13,38 @@ use Rattle.ls_talk.specs.declared.talk.TheConstants.{LONGEST_MESSAGE}
 use Rattle.ls_talk.specs.declared.talk.Incoming.{Incoming}
 use Rattle.ls_talk.specs.declared.talk.Incoming.TheVariants as incoming
 
+-- a pipe, and what is held back of the bytes that go to it
+pub record Held (C : Type 0) : Type 0 where
+  pub pipe : C
+  pub unsent : List ℕ
+
 -- a wire: its socket over the pipe, its counts, and whether memory was refused to a message
 pub record WireState (C : Type 0) : Type 0 where
-  pub socket : Socket C
+  pub socket : Socket (Held C)
   pub put_faults : ℕ
   pub counts : Counts
   pub is_starved : Bool
 
 module _ {C : Type 0} where
+  abbrev pub nothing_held : C → Held C
+  nothing_held c = record { pipe = c; unsent = [] }
+
+  abbrev pub held_code : Coded C → Coded (Held C)
+  held_code pipe =
+      code_by (C × List ℕ) (coded× pipe (coded_list coded_ℕ)) (λ h. (h.pipe, h.unsent))
+      (λ p. record { pipe = p.0; unsent = p.1 }) (λ _. refl)
+
   abbrev pub wire_code : Coded C → Coded (WireState C)
   wire_code pipe =
-      code_by (Socket C × (ℕ × (ℕ × (ℕ × (ℕ × (ℕ × Bool))))))
-      (coded× (socket_code pipe) (coded× coded_ℕ (coded× coded_ℕ (coded× coded_ℕ (coded× coded_ℕ (coded× coded_ℕ coded_bool))))))
+      code_by (Socket (Held C) × (ℕ × (ℕ × (ℕ × (ℕ × (ℕ × Bool))))))
+      (coded× (socket_code (held_code pipe)) (coded× coded_ℕ (coded× coded_ℕ (coded× coded_ℕ (coded× coded_ℕ (coded× coded_ℕ coded_bool))))))
       (λ w. (w.socket, (w.put_faults, (w.counts.faults, (w.counts.idles, (w.counts.closes, (w.counts.leaves, w.is_starved)))))))
       (λ p. record { socket = p.0; put_faults = p.1.0; counts = record { faults = p.1.1.0; idles = p.1.1.1.0; closes = p.1.1.1.1.0; leaves = p.1.1.1.1.1.0 }; is_starved = p.1.1.1.1.1.1 })
       (λ _. refl)
 
-  -- one text message of this line, whole, went out after what waited, and nothing waits
-  abbrev pub SendsLine : (C → Option (List ℕ)) → Socket C → Socket C → List ℕ → Type 0
-  SendsLine held old new line =
-      Writes held old new (write_step old.conn (text (line_bytes line))) × (new.output ≡ [])
+  -- one text message of this line, whole, went out or waits, after what waited
+  abbrev pub SendsLine : (Held C → Option (List ℕ)) → Socket (Held C) → Socket (Held C) → List ℕ → Type 0
+  SendsLine held old new line = Writes held old new (write_step old.conn (text (line_bytes line)))
 
   -- no message is there yet: the frames that were read gave none, and the socket goes on from there
   abbrev pub WaitsOf : (C → Option (List ℕ)) → Socket C → Socket C → Type 0

@@ -13,6 +13,7 @@
 //! ```text
 //! let mut wire = WsWire::over_after(alloc, conn, rest);
 //! if let Incoming::Text(request) = wire.message() { .. wire.put(b"REQOK,1")? .. }
+//! wire.let_go();
 //! ```
 //!
 //! It reads no head and writes no reply to a handshake (`ls_http` does), opens no socket, and knows no request. Frames,

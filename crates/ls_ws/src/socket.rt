@@ -1,6 +1,7 @@
 //! One message out, and one in, over a socket.
 ghost use Rattle.std.specs.Prelude.{◌≡◌, [], Ok, OnOk, IfOk, IfErr, IfSome};
 ghost use Rattle.std.specs.Str.{IsUtf8};
+ghost use Rattle.std.specs.Io.KnownBytes.{append_known};
 ghost use Rattle.tungstenite.specs.Connection.{write_step};
 ghost use Rattle.tungstenite.specs.Content.{text as text_content};
 ghost use Rattle.tungstenite.specs.Socket.{Reads, Writes, content_of};
@@ -55,22 +56,21 @@ pub(crate) fn message_of(alloc: Global, text: &[u8]) -> Result<Message, NoMemory
     Ok(Message::text(alloc, line.as_str())?)
 }
 
-/// Sends one text message of a line.
+/// Puts one text message of a line into what goes out, or is held back.
 pub(crate) fn send<C: Pipe + Drop>(
     socket: &mut WebSocket<Stream<C>, NoMask>,
     alloc: Global,
     text: &[u8],
 ) -> Result<(), Refused>
     requires { IsUtf8 text.now }
-    ensures sent { OnOk result (Writes (λ s. C.held s.pipe) socket.old socket.new
+    ensures sent { OnOk result (Writes (λ s. append_known (C.held s.pipe) s.unsent) socket.old socket.new
         (write_step socket.old.conn (text_content (line_bytes text.now)))) }
-    ensures empty { OnOk result (socket.new.output ≡ []) }
     ensures memory { IfErr result (λ why. why ≡ Refused.NoMemory → socket.new ≡ socket.old) }
 {
     let Ok(message) = message_of(alloc, text) else {
         return Err(Refused::NoMemory);
     };
-    match socket.send(message) {
+    match socket.write(message) {
         Ok(()) => Ok(()),
         Err(error) => Err(refused_by(error)),
     }
@@ -185,15 +185,19 @@ pub(crate) fn receive<C: Pipe + Drop>(
     match answer {
         Some(answer) => Ok(answer),
         None => {
-            send_close(socket);
+            flush(socket);
             Err(Missed::Closed)
         }
     }
 }
 
-/// Sends what waits, as the answer to a close: whether it goes out makes no difference to a connection that is closed.
-fn send_close<C: Pipe + Drop>(socket: &mut WebSocket<Stream<C>, NoMask>) {
-    if let Err(error) = socket.flush() {
-        refused_by(error);
+/// Writes what is held back, as the answer to a close, and answers whether all of it was written.
+pub(crate) fn flush<C: Pipe + Drop>(socket: &mut WebSocket<Stream<C>, NoMask>) -> bool {
+    match socket.flush() {
+        Ok(()) => true,
+        Err(error) => {
+            refused_by(error);
+            false
+        }
     }
 }

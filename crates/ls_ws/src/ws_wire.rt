@@ -1,17 +1,17 @@
 //! A WebSocket as a talk.
 ghost use Rattle.std.specs.Prelude.{◌≡◌, [], None, Err, OnOk, ◌⊎◌, false, true};
 ghost use Rattle.std.specs.Str.{IsUtf8};
-ghost use Rattle.std.specs.Io.KnownBytes.{Keeps};
+ghost use Rattle.std.specs.Io.KnownBytes.{Keeps, append_known};
 ghost use Rattle.tungstenite.specs.Socket.{IsFresh};
 ghost use Rattle.tungstenite.specs.Config.{HasLimitsOf};
 ghost use Rattle.ls_outside.specs.Causes.{Rose};
-ghost use Rattle.ls_talk.specs.Lines.{no_counts, PutsOf, LogsPut, HasPutCause};
+ghost use Rattle.ls_talk.specs.Lines.{no_counts, no_lender, PutsOf, LogsPut, HasPutCause};
 ghost use Rattle.ls_talk.specs.Talks.{IsMessage, HasMessageCause, LogsAnswer};
 ghost use Rattle.ls_talk.specs.declared.line_out.PutRefused.TheVariants as refused;
 ghost use Rattle.ls_talk.specs.declared.talk.Incoming.TheVariants as incoming;
-ghost use Rattle.ls_ws.specs.Wires.{SendsLine, ReadsOf, WaitsOf};
+ghost use Rattle.ls_ws.specs.Wires.{SendsLine, ReadsOf, WaitsOf, nothing_held};
 
-use crate::socket::{Missed, Refused, receive, send};
+use crate::socket::{Missed, Refused, flush, receive, send};
 use crate::stream::Stream;
 use ls_outside::Pipe;
 use ls_talk::{Incoming, LineOut, PutRefused, Talk};
@@ -24,7 +24,8 @@ const READ_SIZE: usize = 4096;
 
 /// A WebSocket over a pipe, after its handshake, on the server's side. Each line goes out as a text message of its own,
 /// with its CR LF; each message that comes is read whole, of however many frames. Pings and closes are answered by the
-/// socket, with the next call.
+/// socket, with the next call. Lines are held back until `let_go`, or until 16 KiB of them are, so that several go out in
+/// one write.
 ///
 /// It tells neither bytes nor a log. It counts by itself, since of a pipe that a socket has had nothing is known but
 /// what the pipe's own counts say.
@@ -48,7 +49,7 @@ impl<C> Model for WsWire<C> {
 
     ghost view = { λ w. record {
       socket = record {
-        stream = w.socket.stream.pipe;
+        stream = record { pipe = w.socket.stream.pipe; unsent = w.socket.stream.unsent };
         conn = w.socket.conn;
         input = w.socket.input;
         output = w.socket.output;
@@ -63,7 +64,7 @@ impl<C: Pipe + Drop> WsWire<C> {
     /// A wire over a pipe from which the handshake was read, to its end and no further, and which its reply was written
     /// to. The socket's limits are 64 MiB a message and 16 MiB a frame.
     pub fn over(alloc: Global, conn: C) -> WsWire<C>
-        ensures fresh { IsFresh result.socket conn Role.Server }
+        ensures fresh { IsFresh result.socket (nothing_held conn) Role.Server }
         ensures limits { HasLimitsOf result.socket.conn.config None }
         ensures counts { (result.counts ≡ no_counts) × (result.put_faults ≡ 0) × (result.is_starved ≡ false) }
     {
@@ -72,13 +73,15 @@ impl<C: Pipe + Drop> WsWire<C> {
 
     /// The same, where these bytes were read from the pipe past the handshake: they are read first.
     pub fn over_after(alloc: Global, conn: C, rest: Vec<u8>) -> WsWire<C>
-        ensures fresh { IsFresh (record result.socket { input = [] }) conn Role.Server }
+        ensures fresh { IsFresh (record result.socket { input = [] }) (nothing_held conn) Role.Server }
         ensures input { result.socket.input ≡ rest.items }
         ensures limits { HasLimitsOf result.socket.conn.config None }
         ensures counts { (result.counts ≡ no_counts) × (result.put_faults ≡ 0) × (result.is_starved ≡ false) }
     {
-        let stream = Stream { pipe: conn };
-        let config = WebSocketConfig::default().read_buffer_size(READ_SIZE);
+        let stream = Stream::over(alloc, conn);
+        let config = WebSocketConfig::default()
+            .read_buffer_size(READ_SIZE)
+            .write_buffer_size(0);
         WsWire {
             alloc,
             socket: WebSocket::from_partially_read(
@@ -99,14 +102,14 @@ impl<C: Pipe + Drop> WsWire<C> {
 
     /// The pipe, as it stands.
     pub fn pipe(&self) -> &C
-        ensures { result.now ≡ self.now.socket.stream }
+        ensures { result.now ≡ self.now.socket.stream.pipe }
     {
         &self.socket.get_ref().pipe
     }
 
-    /// The pipe. Bytes that were read from it and are no message yet are lost.
+    /// The pipe. Bytes that were read from it and are no message yet are lost, and so are those that are held back.
     pub fn into_pipe(self) -> C
-        ensures { result ≡ self.socket.stream }
+        ensures { result ≡ self.socket.stream.pipe }
     {
         let WsWire { socket, .. } = self;
         socket.into_inner().pipe
@@ -126,7 +129,7 @@ impl<C: Pipe + Drop> LineOut for WsWire<C> {
         self.put_faults
     }
 
-    /// Sends one text message of a line and its CR LF.
+    /// Sends one text message of a line and its CR LF, or holds it back.
     ///
     /// # Errors
     ///
@@ -138,7 +141,9 @@ impl<C: Pipe + Drop> LineOut for WsWire<C> {
         ensures log { LogsPut None None result text.now }
         ensures cause { HasPutCause result self.old.put_faults self.new.put_faults }
         ensures counts { self.new.counts ≡ self.old.counts }
-        ensures sent { OnOk result (SendsLine (λ c. C.held c) self.old.socket self.new.socket text.now) }
+        ensures lender { no_lender ≡ no_lender }
+        ensures sent { OnOk result (SendsLine (λ k. append_known (C.held k.pipe) k.unsent)
+            self.old.socket self.new.socket text.now) }
         ensures memory { result ≡ Err refused.NoMemory → self.new ≡ self.old }
     {
         match send(&mut self.socket, self.alloc, text) {
@@ -174,15 +179,15 @@ impl<C: Pipe + Drop> Talk for WsWire<C> {
         ensures cause { HasMessageCause result self.old.counts self.new.counts self.old.put_faults self.new.put_faults }
         ensures log { LogsAnswer None None result }
         ensures bytes { Keeps None None }
-        ensures reads { ReadsOf (λ c. C.unread c) self.old.socket self.new.socket result }
+        ensures reads { ReadsOf (λ k. C.unread k.pipe) self.old.socket self.new.socket result }
         ensures starved { self.old.is_starved ≡ true → (result ≡ incoming.NoMemory) × (self.new ≡ self.old) }
         ensures starves { result ≡ incoming.NoMemory → self.new.is_starved ≡ true }
-        ensures waits { result ≡ incoming.NotYet → WaitsOf (λ c. C.unread c) self.old.socket self.new.socket }
+        ensures waits { result ≡ incoming.NotYet → WaitsOf (λ k. C.unread k.pipe) self.old.socket self.new.socket }
         ensures idle { result ≡ incoming.NotYet
-            → Rose (C.waits self.old.socket.stream) (C.waits self.new.socket.stream) }
+            → Rose (C.waits self.old.socket.stream.pipe) (C.waits self.new.socket.stream.pipe) }
         ensures failed { result ≡ incoming.Failed
-            → Rose (C.Source.faults self.old.socket.stream) (C.Source.faults self.new.socket.stream)
-            ⊎ Rose (C.Sink.faults self.old.socket.stream) (C.Sink.faults self.new.socket.stream) }
+            → Rose (C.Source.faults self.old.socket.stream.pipe) (C.Source.faults self.new.socket.stream.pipe)
+            ⊎ Rose (C.Sink.faults self.old.socket.stream.pipe) (C.Sink.faults self.new.socket.stream.pipe) }
     {
         if self.starved {
             return Incoming::NoMemory;
@@ -210,5 +215,13 @@ impl<C: Pipe + Drop> Talk for WsWire<C> {
                 Incoming::Failed
             }
         }
+    }
+
+    fn let_go(&mut self) -> bool {
+        if flush(&mut self.socket) {
+            return true;
+        }
+        self.put_faults = self.put_faults.saturating_add(1);
+        false
     }
 }

@@ -1,44 +1,60 @@
 //! A push server for the protocol TLCP 2.1: the program.
 //!
-//! `main` has the command line and the real input and output, and hands them to `run` of ls_run: words, a `Source` and
-//! a `Sink` in, a `Status` out. What `run` promises is said there. It serves no network: a script stands for the feeds
-//! and the clients.
+//! `main` has the command line, the real input and output, the system's clock, a door over TCP and a spawner of threads,
+//! and hands them to `run` of ls_program: words and objects in, a `Status` out. What `run` promises is said there.
 #![tactic(auto)]
 
 ghost use Rattle.std.specs.Prelude.{◌≡◌, ◌∷◌, ◌↔◌, [], IsTrue, map};
 ghost use Rattle.std.specs.String.{string_bytes};
 
+use ls_door::{STACK_BYTES, Spawner};
+use ls_net::{SysClock, TcpDoor};
 use ls_outside::{Put, write_all};
+use ls_program::{Status, run};
 use ls_real::{StdSink, StdSource};
-use ls_run::{Status, run};
 use std::env;
 use std::io::{self, ErrorKind};
+use std::marker::{Send, Sync};
+use std::net::{Net, TcpListener, TcpStream};
 use std::process::ExitCode;
 use std::rt::Runtime;
 use std::sync::Wait;
+use std::thread::Threads;
 
 /// What `--help` shows.
 const HELP: &str = "\
 tlcpd: a push server for the protocol TLCP 2.1
 
 Usage: tlcpd replay
+       tlcpd serve <port> <feed> [<end>]
        tlcpd --help | --version
 
 replay   reads a script from standard input, does its lines one by one,
          and writes what they print to standard output
+serve    reads a config from standard input, listens for clients on <port>
+         and for feeds of this machine on <feed>, and serves until the tick
+         <end>, in ms from its start, or for good where none is given.
+         A port 0 is one that is free: the first line of standard output
+         has both ports.
 
 Example: tlcpd replay <script
+         tlcpd serve 8080 9090 <config
 
-A script is text in UTF-8 whose lines end with LF alone (no CR, no byte-order
-mark). docs/SCRIPT.md has each line, note, request and limit.
+A script and a config are text in UTF-8 whose lines end with LF alone (no CR, no
+byte-order mark). docs/SCRIPT.md has each line of a script, each note, request
+and limit. docs/SERVE.md has all of a server: its config, feeds, requests and
+limits.
 
-Status   0  the script was read to its end, and each line was done
+Status   0  the script was read to its end, and each line was done; or the
+            server came to its end
          2  the words are no command
          3  a line is outside the grammar, or names what isn't declared
          4  a read failed
          5  a write failed
          6  memory was refused
-Standard error has the cause, with the line's number at 3.
+         7  a port can't be listened on
+         8  a line of the config is outside the format
+Standard error has the cause, with the line's number at 3 and 8.
 ";
 
 /// What `--version` shows.
@@ -74,7 +90,17 @@ fn read_words<R: Runtime + AllocGlobal>(rt: &R) -> io::Result<Vec<String>> {
 }
 
 /// Runs the program by the words of the command line. Words that aren't text are none of a command.
-fn start<R: Runtime + AllocGlobal + Wait>(rt: &R) -> Status {
+fn start<
+    R: Runtime
+        + AllocGlobal
+        + Threads
+        + Wait
+        + Net<Listener = TcpListener, Stream = TcpStream>
+        + Copy
+        + Send
+        + Sync
+        + 'static,
+>(rt: &R) -> Status {
     let words = match read_words(rt) {
         Ok(words) => words,
         Err(error) if error.kind() == ErrorKind::OutOfMemory => return Status::NoMemory,
@@ -88,7 +114,19 @@ fn start<R: Runtime + AllocGlobal + Wait>(rt: &R) -> Status {
         };
     }
     let mut source = StdSource::new(rt.reader());
-    run(rt, rt.alloc(), &words, &mut source, &mut sink)
+    let mut clock = SysClock::new(*rt);
+    let mut door = TcpDoor::new(*rt);
+    let mut spawner = Spawner::threads(rt.alloc(), STACK_BYTES);
+    run(
+        rt,
+        rt.alloc(),
+        &words,
+        &mut source,
+        &mut sink,
+        &mut clock,
+        &mut door,
+        &mut spawner,
+    )
 }
 
 fn main(rt: HostRuntime) -> ExitCode {

@@ -1,39 +1,41 @@
-use Rattle.std.proofs.Common.{◌≡◌, ℕ, ◌∙◌, sym, ap, subst, List, Option, IfSome}
+use Rattle.std.proofs.Common.{◌≡◌, ℕ, ◌∙◌, sym, ap, subst, List}
+use Rattle.std.specs.Result.{IfOk}
 use mathlib.Core.List.{IsPrefix}
-use Rattle.ls_chron.proofs.Beginnings.{prefix_trans}
-use Rattle.ls_session.specs.declared.session.Turn.{Turn}
-use Rattle.ls_told.proofs.Watching.{sees_twice}
+use Rattle.ls_register.specs.declared.told.Told.{Told}
+use Rattle.ls_told.specs.Seen.{Watched, SeesMore}
+use Rattle.ls_live_session.specs.Speaking.{SubSeen}
+use Rattle.ls_shared.specs.Asking.{GoesRound}
 use Rattle.ls_shared.specs.Taking.{EndsTurn}
-use Rattle.ls_shared.proofs.Turning.{ends_later}
 use Rattle.ls_shared.proofs.shared.Shared.turns.Goals as goal
 
-pub returns-in_err-turn-clause-items : goal.returns-in_err-turn-clause-items
-returns-in_err-turn-clause-items g c =
-    sees_twice c.args.parts.now.watches.items c.loop.parts.watches.items c.step.new.parts.watches.items c.loop.invariant.6 c.step.ensures.items
+pub steps-requires-clause-goes : goal.steps-requires-clause-goes
+steps-requires-clause-goes g c =
+    subst (λ (t : ℕ × List Told × List Watched × List SubSeen). GoesRound g.N.House.deed.config t.0 t.1 t.2 t.2 t.3 c.begin_round.new.parts.session)
+    (λ i. (
+      sym (ap (λ p. p.number) c.begin_round.ensures.rest) i,
+      sym c.begin_round.ensures.same.0 i,
+      sym (ap (λ p. p.watches.items) c.begin_round.ensures.rest) i,
+      sym (ap (λ p. p.subs.items) c.begin_round.ensures.rest) i,
+    )) c.begin_round.ensures.goes
 
-pub returns-in-Some-2-clause-items : goal.returns-in-Some-2-clause-items
-returns-in-Some-2-clause-items g c =
-    sees_twice c.args.parts.now.watches.items c.loop.parts.watches.items c.step.new.parts.watches.items c.loop.invariant.6 c.step.ensures.items
+pub steps-requires-clause-lives : goal.steps-requires-clause-lives
+steps-requires-clause-lives g c = let goes = steps-requires-clause-goes g c in (goes.r, goes.lives)
 
-pub returns-in-Some-2-clause-turn : goal.returns-in-Some-2-clause-turn
-returns-in-Some-2-clause-turn g c =
+pub returns-clause-items : goal.returns-clause-items
+returns-clause-items g c =
+    subst (λ (ws : List Watched). SeesMore ws c.steps.new.parts.watches.items) (ap (λ p. p.watches.items) c.begin_round.ensures.rest) c.steps.ensures.items
+
+pub returns-clause-begins : goal.returns-clause-begins
+returns-clause-begins g c =
+    subst (λ (es : List Told). IsPrefix es c.steps.new.parts.history.list) c.begin_round.ensures.same.0 c.steps.ensures.begins
+
+pub returns-clause-turn : goal.returns-clause-turn
+returns-clause-turn g c =
     subst
-    (λ (n : ℕ). EndsTurn n c.args.epoch c.args.now c.args.parts.now.history.list c.step.new.parts.history.list c.step.new.into c.in-Some-2.turn)
-    c.loop.invariant.2
-    (ends_later c.loop.parts.number c.args.epoch c.args.now c.args.parts.now.history.list c.loop.parts.history.list c.step.new.parts.history.list
-    c.step.new.into c.in-Some-2.turn c.loop.invariant.7
-    (subst
-    (λ (o : Option Turn). IfSome o (EndsTurn c.loop.parts.number c.args.epoch c.args.now c.loop.parts.history.list c.step.new.parts.history.list
-    c.step.new.into)) c.in-Some-2.is c.in_ok-turn.ensures.turn))
-
-pub loop-preserved : goal.loop-preserved
-loop-preserved g c = (
-  tt,
-  tt,
-  c.step.ensures.rest.0 ∙ c.loop.invariant.2,
-  c.step.ensures.rest.1 ∙ c.loop.invariant.3,
-  c.step.ensures.rest.2 ∙ c.loop.invariant.4,
-  c.step.ensures.lives,
-  sees_twice c.args.parts.now.watches.items c.loop.parts.watches.items c.step.new.parts.watches.items c.loop.invariant.6 c.step.ensures.items,
-  prefix_trans c.args.parts.now.history.list c.loop.parts.history.list c.step.new.parts.history.list c.loop.invariant.7 c.step.ensures.begins,
-)
+    (λ (t : ℕ × List Told × List Watched). IfOk c.steps.result (EndsTurn g.N.House.deed.config t.0 c.args.epoch c.args.now t.2 t.1
+    c.steps.new.parts.history.list c.steps.new.parts.watches.items c.steps.new.into))
+    (λ i. (
+      ap (λ p. p.number) c.begin_round.ensures.rest i,
+      c.begin_round.ensures.same.0 i,
+      ap (λ p. p.watches.items) c.begin_round.ensures.rest i,
+    )) c.steps.ensures.turn

@@ -1,0 +1,29 @@
+-- The last member of a list.
+use Rattle.std.proofs.Common.{◌≡◌, ℕ, List, [], ◌∷◌, ◌++◌, refl, sym, ap, subst, ◌∙◌}
+use Rattle.ls_told.specs.Seen.{Testified}
+use Rattle.ls_conn.specs.Lasting.{HasLast, LastBecomes}
+
+head_is : (x y : Testified) (xs ys : List Testified) → x ∷ xs ≡ y ∷ ys → x ≡ y
+head_is x y xs ys e = cc
+
+tail_is : (x y : Testified) (xs ys : List Testified) → x ∷ xs ≡ y ∷ ys → xs ≡ ys
+tail_is x y xs ys e = cc
+
+none_last : (xs : List Testified) (x : Testified) → [] ≡ xs ++ x ∷ [] → ⊥
+none_last [] x e = cc
+none_last (y ∷ ys) x e = cc
+
+-- two lists that are one have one last member, and one front
+pub one_last : (xs ys : List Testified) (x y : Testified) → xs ++ x ∷ [] ≡ ys ++ y ∷ [] → x ≡ y
+one_last [] [] x y e = head_is x y [] [] e
+one_last [] (b ∷ ys) x y e = absurd (none_last ys y (tail_is x b [] (ys ++ y ∷ []) e))
+one_last (a ∷ xs) [] x y e = absurd (none_last xs x (sym (tail_is a y (xs ++ x ∷ []) [] e)))
+one_last (a ∷ xs) (b ∷ ys) x y e = one_last xs ys x y (tail_is a b (xs ++ x ∷ []) (ys ++ y ∷ []) e)
+
+-- what holds of the last one
+pub last_holds : (ts front : List Testified) (t : Testified) (P : Testified → Type 0) → HasLast ts P → ts ≡ front ++ t ∷ [] → P t
+last_holds ts front t P h are = subst P (one_last h.front front h.last t (sym h.are ∙ are)) h.holds
+
+-- there is one
+pub has_none : (ts : List Testified) (P : Testified → Type 0) → HasLast ts P → ts ≡ [] → ⊥
+has_none ts P h is = none_last h.front h.last (sym is ∙ h.are)

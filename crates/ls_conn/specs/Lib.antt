@@ -1,0 +1,3 @@
+pub mod Streaming
+pub mod Acting
+pub mod Lasting

@@ -1,0 +1,6 @@
+pub mod Pieces
+pub mod Answering
+pub mod Unread
+pub mod Sending
+pub mod Streams
+pub mod Whole

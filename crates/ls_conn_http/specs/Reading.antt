@@ -1,0 +1,50 @@
+-- How much of a request came (RFC 9112, sections 2 to 6; this project's profile).
+use Rattle.std.specs.Prelude.{◌≡◌, ◌⊎◌, ◌<◌, ◌≤◌, ◌+◌, ℕ, List, length, take, drop, Bool, Some}
+use mathlib.Core.List.{IsPrefix}
+use Rattle.ls_http.specs.declared.head.Head.{Head}
+use Rattle.ls_http.specs.declared.head.Head.TheVariants as head
+use Rattle.ls_http.specs.declared.head.HeadRefused.TheVariants as refused
+use Rattle.ls_http.specs.Reading.{IsFound, IsRefused, IsWaiting}
+use Rattle.ls_conn.specs.declared.ended.ConnEnd.{ConnEnd}
+use Rattle.ls_conn.specs.declared.ended.ConnEnd.TheVariants as end
+
+-- this head stands in the first of these bytes, so long
+pub record BeginsWith (read : List ℕ) (h : Head) (len : ℕ) : Type 0 where
+  pub first : List ℕ
+  pub begins : IsPrefix first read
+  pub found : IsFound first (Some (h, len))
+
+-- so does the head of a request, which names a body of so many bytes
+abbrev pub HasHead : List ℕ → List ℕ → Bool → ℕ → ℕ → Type 0
+HasHead read name version len size = BeginsWith read (head.Post name version size) len
+
+-- a whole request was read: its head, its body, and maybe more, which isn't looked at
+pub record IsWhole (read name : List ℕ) (version : Bool) (body : List ℕ) : Type 0 where
+  pub len : ℕ
+  pub head_is : HasHead read name version len (length body)
+  pub fits : len + length body ≤ length read
+  pub body_is : body ≡ take (length body) (drop len read)
+
+-- no whole request was read, and what was read may still become one
+abbrev pub IsShort : List ℕ → Type 0
+IsShort read =
+    IsWaiting read
+    ⊎ ((name : List ℕ) × (version : Bool) × (len size : ℕ) × HasHead read name version len size
+    × (length read < len + size))
+
+-- a head is refused: with the status of the table, or, until it is served, since it asks for the upgrade to WebSocket
+abbrev pub HasStatus : List ℕ → ℕ → Type 0
+HasStatus read status =
+    IsRefused read (refused.Status status)
+    ⊎ ((key : List ℕ) × (len : ℕ) × BeginsWith read (head.Upgrade key) len × (status ≡ 404))
+
+-- why no whole request was read, and no reply but a refusal is due
+abbrev pub Unserved : ConnEnd → List ℕ → Type 0
+Unserved end.Served read = ⊥
+Unserved (end.Refused status) read = HasStatus read status
+Unserved end.PeerLeft read = IsShort read
+Unserved end.TooSlow read = IsShort read
+Unserved end.ReadFault read = IsShort read
+Unserved end.WriteFault read = ⊥
+Unserved end.Stopped read = IsShort read
+Unserved end.NoMemory read = Unit {0}

@@ -1,0 +1,22 @@
+//! A client's connection over HTTP, from its first byte to its end.
+//!
+//! One request is served on a connection: its head is read, then its body, and its answer is written, or its stream
+//! until that ends. A head that is refused is answered with its status. The upgrade to WebSocket isn't served yet: it is
+//! refused with 404.
+//!
+//! ```text
+//! let report = serve_one(&rt, alloc, &mut conn, &shared, &mut clock, &OpenGate, u64::MAX);
+//! ```
+//!
+//! It opens no connection and starts no thread: whoever serves several clients calls it once for each.
+#![tactic(auto)]
+
+mod bodies;
+mod cross;
+mod intake;
+mod opening;
+mod replying;
+mod serving;
+
+pub use ls_conn::{ConnEnd, ConnReport, MOST_IDLES};
+pub use serving::serve_one;

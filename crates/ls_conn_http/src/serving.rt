@@ -1,0 +1,222 @@
+//! A connection from its first byte to its end.
+ghost use Rattle.std.specs.Prelude.{◌≡◌, ◌≤◌, ◌+◌, [], ℕ, IfSome, List, None, length, take, drop};
+ghost use Rattle.std.specs.Io.KnownBytes.{IsAtEnd};
+ghost use Rattle.ls_outside.specs.Causes.{Rose, RoseBy};
+ghost use Rattle.ls_record.specs.Acting.{is_opening};
+ghost use Rattle.ls_register.specs.declared.made.Made.{Made};
+ghost use Rattle.ls_conn.specs.Acting.{known};
+ghost use Rattle.ls_conn.specs.declared.ended.ConnEnd.TheVariants as end_is;
+ghost use Rattle.ls_conn_http.specs.Bodies.{IsReply, ReplyBy};
+ghost use Rattle.ls_conn_http.specs.Replying.{RepliesBy, WritesRefusal};
+ghost use Rattle.ls_conn_http.specs.Serving.{Served};
+
+use crate::bodies::without_end;
+use crate::intake::{Came, Intake, Post, body_of, read_first};
+use crate::opening::reply_opening;
+use crate::replying::{refuse, reply_control, reply_version};
+use ls_conn::{ConnEnd, ConnReport, MOST_IDLES, Seen};
+use ls_outside::{Clock, Gate, Pipe, Sink};
+use ls_register::{House, View};
+use ls_shared::Shared;
+use ls_value::same_bytes;
+use std::alloc::Global;
+use std::sync::Wait;
+
+/// Whether a name is that of a request for a session or a stream.
+fn is_opening(name: &[u8]) -> bool
+    ensures { result ≡ is_opening name.now }
+{
+    same_bytes(name, b"create_session") || same_bytes(name, b"bind_session")
+}
+
+/// Replies to a request that was read.
+fn reply<N: House, R: Wait, C: Pipe, K: Clock, G: Gate>(
+    rt: &R,
+    alloc: Global,
+    conn: &mut C,
+    shared: &Shared<N>,
+    clock: &mut K,
+    gate: &G,
+    until: u64,
+    name: &[u8],
+    version: bool,
+    body: &[u8],
+    view: &mut View<N>,
+    seen: &mut Seen<N>,
+) -> ConnEnd
+    requires none { seen.old ≡ [] }
+    ensures writes { RepliesBy result (C.held conn.old) (C.held conn.new)
+        (λ whole text. IsReply N.deed whole name.now version body.now text (known view.old seen.old)
+        (known view.new seen.new)) }
+    ensures stopped { result ≡ ConnEnd.Stopped → until ≤ K.told clock.new }
+    ensures fault { result ≡ ConnEnd.WriteFault → Rose (C.Sink.faults conn.old) (C.Sink.faults conn.new) }
+{
+    if version {
+        reply_current(
+            rt, alloc, conn, shared, clock, gate, until, name, body, view, seen,
+        )
+    } else {
+        reply_version(alloc, conn, is_opening(name))
+    }
+}
+
+/// Replies to a request of the protocol's version.
+fn reply_current<N: House, R: Wait, C: Pipe, K: Clock, G: Gate>(
+    rt: &R,
+    alloc: Global,
+    conn: &mut C,
+    shared: &Shared<N>,
+    clock: &mut K,
+    gate: &G,
+    until: u64,
+    name: &[u8],
+    body: &[u8],
+    view: &mut View<N>,
+    seen: &mut Seen<N>,
+) -> ConnEnd
+    requires none { seen.old ≡ [] }
+    ensures writes { RepliesBy result (C.held conn.old) (C.held conn.new)
+        (λ whole text. ReplyBy (is_opening name.now) N.deed whole name.now body.now text (known view.old seen.old)
+        (known view.new seen.new)) }
+    ensures stopped { result ≡ ConnEnd.Stopped → until ≤ K.told clock.new }
+    ensures fault { result ≡ ConnEnd.WriteFault → Rose (C.Sink.faults conn.old) (C.Sink.faults conn.new) }
+{
+    if is_opening(name) {
+        let params = without_end(body);
+        reply_opening(
+            rt, alloc, conn, shared, clock, gate, until, name, params, view, seen,
+        )
+    } else {
+        reply_control(rt, alloc, conn, shared, clock, name, body, view, seen)
+    }
+}
+
+/// Serves a request that came whole: does what it asks for, and replies.
+fn serve_post<N: House, R: Wait, C: Pipe, K: Clock, G: Gate>(
+    rt: &R,
+    alloc: Global,
+    conn: &mut C,
+    shared: &Shared<N>,
+    clock: &mut K,
+    gate: &G,
+    until: u64,
+    intake: &Intake,
+    post: &Post,
+) -> ConnReport<N>
+    requires fits { post.now.start + post.now.length ≤ length intake.now.bytes.items }
+    ensures writes { (register : List Made) × RepliesBy result.end (C.held conn.old) (C.held conn.new)
+        (λ whole text. IsReply N.deed whole post.now.name post.now.version
+        (take post.now.length (drop post.now.start intake.now.bytes.items)) text (known register [])
+        (known result.view result.seen)) }
+    ensures stopped { result.end ≡ ConnEnd.Stopped → until ≤ K.told clock.new }
+    ensures fault { result.end ≡ ConnEnd.WriteFault → Rose (C.Sink.faults conn.old) (C.Sink.faults conn.new) }
+{
+    let mut view = shared.view(rt);
+    let mut seen = Seen::new(alloc);
+    let end = reply(
+        rt,
+        alloc,
+        conn,
+        shared,
+        clock,
+        gate,
+        until,
+        post.name.as_bytes(),
+        post.version,
+        body_of(intake, post),
+        &mut view,
+        &mut seen,
+    );
+    ConnReport {
+        end,
+        view,
+        seen,
+        told: None,
+    }
+}
+
+/// Refuses a head with a status.
+fn serve_refusal<N: House, R: Wait, C: Sink>(
+    rt: &R,
+    alloc: Global,
+    conn: &mut C,
+    shared: &Shared<N>,
+    status: u16,
+) -> ConnReport<N>
+    ensures writes { WritesRefusal result.end status (C.held conn.old) (C.held conn.new) }
+    ensures fault { result.end ≡ ConnEnd.WriteFault → Rose (C.faults conn.old) (C.faults conn.new) }
+{
+    let end = refuse(alloc, conn, status);
+    ended(rt, alloc, shared, end)
+}
+
+/// The status of a refusal, where a connection is to end by one.
+fn status_of(end: ConnEnd) -> Option<u16>
+    ensures some { IfSome result (λ status. end ≡ end_is.Refused status) }
+    ensures none { result ≡ None → (status : ℕ) → end ≡ end_is.Refused status → ⊥ }
+{
+    match end {
+        ConnEnd::Refused { status } => Some(status),
+        _ => None,
+    }
+}
+
+/// What came of a connection over which no request was done.
+fn ended<N: House, R: Wait>(
+    rt: &R,
+    alloc: Global,
+    shared: &Shared<N>,
+    end: ConnEnd,
+) -> ConnReport<N>
+    ensures { result.end ≡ end }
+{
+    ConnReport {
+        end,
+        view: shared.view(rt),
+        seen: Seen::new(alloc),
+        told: None,
+    }
+}
+
+/// Serves one request over HTTP to its end: reads its head and its body, does what it asks for, and writes its answer
+/// or its stream (TLCP 2.1, HTTP transport; RFC 9112; this project's profile).
+///
+/// Before each read it asks the clock, and ends at the tick `until`, in ms, or a later one; so does a stream. Where no
+/// byte is there yet, it lets the clock wait 10 ms, and gives up at the 3,000th such read. A head that is refused is
+/// answered with its status. The requests of a control body are done and answered in order, and nothing is written
+/// before the body is whole. A stream that didn't end by itself is lost afterwards. What was seen of sessions, and the
+/// register by which requests were done, are in the report.
+///
+/// Over a pipe that tells, contracts say of each end what was read and what was written: nothing, a refusal, or the reply
+/// to the request that was read, whole or a part from its front. A reply is the lines that answer its requests, each true
+/// of what was seen of its session and of the register; or the lines of a stream, which are those that its session gave
+/// to this caller, all of them and in order.
+pub fn serve_one<N: House, R: Wait, C: Pipe, K: Clock, G: Gate>(
+    rt: &R,
+    alloc: Global,
+    conn: &mut C,
+    shared: &Shared<N>,
+    clock: &mut K,
+    gate: &G,
+    until: u64,
+) -> ConnReport<N>
+    ensures served { Served N.deed result.end (C.unread conn.old) (C.held conn.old) (C.held conn.new)
+        (known result.view result.seen) }
+    ensures read_fault { result.end ≡ ConnEnd.ReadFault → Rose (C.Source.faults conn.old) (C.Source.faults conn.new) }
+    ensures write_fault { result.end ≡ ConnEnd.WriteFault → Rose (C.Sink.faults conn.old) (C.Sink.faults conn.new) }
+    ensures too_slow { result.end ≡ ConnEnd.TooSlow → RoseBy MOST_IDLES (C.waits conn.old) (C.waits conn.new) }
+    ensures stopped { result.end ≡ ConnEnd.Stopped → until ≤ K.told clock.new }
+    ensures left { result.end ≡ ConnEnd.PeerLeft → IsAtEnd (C.unread conn.new) }
+{
+    let mut intake = Intake::new(alloc);
+    match read_first(rt, alloc, conn, clock, until, &mut intake) {
+        Ok(Came::Post(post)) => serve_post(
+            rt, alloc, conn, shared, clock, gate, until, &intake, &post,
+        ),
+        Ok(Came::Upgrade { key: _, start: _ }) => serve_refusal(rt, alloc, conn, shared, 404),
+        Err(end) => match status_of(end) {
+            Some(status) => serve_refusal(rt, alloc, conn, shared, status),
+            None => ended(rt, alloc, shared, end),
+        },
+    }
+}

@@ -1,0 +1,21 @@
+//! A run of the program, from its words to its status.
+//!
+//! `run` has words, a source and a sink, a clock, a door and a spawner, and a `Status` for its end. `replay` plays a
+//! script, as `run` of ls_run does; `serve` runs a server, as `serve` of ls_serve does. Other words are none of a
+//! command:
+//!
+//! ```text
+//! let mut spawner = Spawner::threads(alloc, STACK_BYTES);
+//! let status = run(rt, alloc, &words, &mut source, &mut sink, &mut clock, &mut door, &mut spawner);
+//! ```
+//!
+//! The words don't hold the program's name. The command line and the real objects are the program's own.
+#![tactic(auto)]
+
+mod running;
+mod words;
+
+pub use ls_run::Status;
+pub use ls_serve::Order;
+pub use running::run;
+pub use words::order_of;

@@ -1,0 +1,24 @@
+use Rattle.std.proofs.Common.{rules, ◌≡◌, ℕ, ap, ◌∙◌, sym, subst, List}
+use mathlib.Core.List.{IsPrefix}
+use Rattle.ls_register.specs.declared.made.Made.TheVariants.{Freed, Gone}
+use Rattle.ls_register.specs.Sessions.{Gains}
+use Rattle.ls_shared.proofs.Changing.{gains_two, of_some}
+use Rattle.ls_shared.proofs.shared.Shared.gone.Goals as goal
+
+pub returns-clause-freed : goal.returns-clause-freed
+returns-clause-freed g c =
+    let same : c.in-Ok.slots ≡ c.args.slots = search rules in
+    subst (λ (n : ℕ). Gains (Freed n) c.args.sight.now.register c.show_register-2.new.self.register) same
+    (gains_two (Freed c.in-Ok.slots) (Gone c.number.result) c.args.sight.now.register c.deref_mut-2.result.now c.show_register-2.new.self.register
+    (subst (IsPrefix c.args.sight.now.register) (sym (c.deref_mut-2.ensures.value ∙ c.show_register.ensures.book)) c.show_register.ensures.begins)
+    (ap (λ t. t.register) c.show_register-2.ensures.sight ∙ (c.deref_mut-3.ensures.value
+    ∙ of_some c.gone-row.result _ (sym c.is_some.ensures ∙ c.expect_it.ensures) c.gone-row.ensures.done))).0
+
+pub returns-clause-gone : goal.returns-clause-gone
+returns-clause-gone g c =
+    subst (λ (n : ℕ). Gains (Gone n) c.args.sight.now.register c.show_register-2.new.self.register)
+    (c.number.ensures ∙ ap (λ t. t.number) c.show_register.ensures.sight)
+    (gains_two (Freed c.in-Ok.slots) (Gone c.number.result) c.args.sight.now.register c.deref_mut-2.result.now c.show_register-2.new.self.register
+    (subst (IsPrefix c.args.sight.now.register) (sym (c.deref_mut-2.ensures.value ∙ c.show_register.ensures.book)) c.show_register.ensures.begins)
+    (ap (λ t. t.register) c.show_register-2.ensures.sight ∙ (c.deref_mut-3.ensures.value
+    ∙ of_some c.gone-row.result _ (sym c.is_some.ensures ∙ c.expect_it.ensures) c.gone-row.ensures.done))).1
