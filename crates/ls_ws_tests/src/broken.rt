@@ -3,7 +3,7 @@ use crate::peers::{
     HELLO, has_counts, is_closed, is_control, is_failed, is_text, pipe_of, wire_of,
 };
 use ls_outside::Call;
-use ls_talk::{LineOut, PutRefused, Talk};
+use ls_talk::{LineOut, Talk};
 use ls_value::same_bytes;
 use ls_ws::WsWire;
 use std::alloc::{AllocError, Global};
@@ -69,7 +69,9 @@ fn a_put_that_fails_is_counted(rt: HostRuntime) -> Result<(), Fail> {
     let alloc = rt.alloc();
     let writes = [Call::Part(4), Call::Fail];
     let mut wire = WsWire::over(alloc, pipe_of(alloc, b"", &[], &writes)?);
-    assert!(rt; wire.put(b"Hello") == Err(PutRefused::Failed));
+    assert!(rt; wire.put(b"Hello").is_ok());
+    assert!(rt; has_counts(&wire, 0, 0, 0, 0));
+    assert!(rt; !wire.let_go());
     assert!(rt; has_counts(&wire, 0, 0, 0, 1));
     assert!(rt; same_bytes(wire.pipe().sink.bytes(), b"\x81\x07He"));
     Ok(())

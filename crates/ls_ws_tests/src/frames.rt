@@ -67,6 +67,9 @@ fn lines_are_texts_of_their_own(rt: HostRuntime) -> Result<(), Fail> {
     let mut wire = wire_of(rt.alloc(), b"")?;
     assert!(rt; wire.put(b"Hello").is_ok());
     assert!(rt; wire.put(b"U,1,1,\xc3\xa4").is_ok());
+    // Lines are held back until they are let go.
+    assert!(rt; wire.pipe().sink.bytes().is_empty());
+    assert!(rt; wire.let_go());
     assert!(rt;
         same_bytes(
             wire.pipe().sink.bytes(),
