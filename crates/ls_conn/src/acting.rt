@@ -230,7 +230,8 @@ fn operated<N: House, R: Wait>(
     }
 }
 
-/// Binds a stream of a session.
+/// Binds a stream of a session. It isn't inlined, for the sake of the stack of a session that is opened.
+#[inline(never)]
 fn bind_session<N: House, R: Wait>(
     rt: &R,
     alloc: Global,
@@ -302,7 +303,8 @@ fn session_for(own: Option<u64>, named: Option<u64>) -> Option<u64>
     }
 }
 
-/// Does a control request.
+/// Does a control request. It isn't inlined, for the sake of the stack of a session that is opened.
+#[inline(never)]
 fn do_control<N: House, R: Wait>(
     rt: &R,
     alloc: Global,

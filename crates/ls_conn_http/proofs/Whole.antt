@@ -8,11 +8,12 @@ use Rattle.ls_outside.specs.Pipes.{Holding}
 use Rattle.ls_register.specs.Deeds.{Deed}
 use Rattle.ls_register.specs.declared.made.Made.{Made}
 use Rattle.ls_http.specs.Replies.{refusal_text}
+use Rattle.ls_http.specs.declared.head.Head.TheVariants as head
 use Rattle.ls_conn.specs.Acting.{Known, known}
 use Rattle.ls_conn.specs.declared.ended.ConnEnd.{ConnEnd}
 use Rattle.ls_conn.specs.declared.ended.ConnEnd.TheVariants as end
 use Rattle.ls_conn_http.specs.Bodies.{IsReply}
-use Rattle.ls_conn_http.specs.Reading.{HasHead, HasStatus, IsWhole, Unserved}
+use Rattle.ls_conn_http.specs.Reading.{BeginsWith, HasHead, HasStatus, IsWhole, Unserved, WasUpgraded}
 use Rattle.ls_conn_http.specs.Replying.{RepliesBy, WritesRefusal}
 use Rattle.ls_conn_http.specs.Serving.{Outcome, Served}
 use Rattle.ls_conn.specs.declared.ended.TheConstants.{MOST_IDLES}
@@ -158,3 +159,11 @@ rose_none w = omega arith
 
 pub slow_is : (i j w v f g : ℕ) → Counts i j w v f g → i ≡ 0 → j ≡ MOST_IDLES → RoseBy MOST_IDLES w v
 slow_is i j w v f g c none all = subst (λ (n : ℕ). RoseBy n w v) all (c.counted w (subst (λ (n : ℕ). RoseBy n w w) (sym none) (rose_none w)))
+
+-- a handshake that was read
+pub upgraded : (unread left : Option (List ℕ)) (read key : List ℕ) (start : ℕ) → Reads unread left [] read → BeginsWith read (head.Upgrade key) start → WasUpgraded unread
+upgraded unread left read key start reads has = (left, read, key, start, read_all unread left read reads, has)
+
+-- a count that rose since a later moment
+pub rose_since : (n a b c : ℕ) → a ≤ b → RoseBy n b c → RoseBy n a c
+rose_since n a b c le rose = omega (arith, le, rose)

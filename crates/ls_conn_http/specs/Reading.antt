@@ -1,5 +1,6 @@
 -- How much of a request came (RFC 9112, sections 2 to 6; this project's profile).
-use Rattle.std.specs.Prelude.{◌≡◌, ◌⊎◌, ◌<◌, ◌≤◌, ◌+◌, ℕ, List, length, take, drop, Bool, Some}
+use Rattle.std.specs.Prelude.{◌≡◌, ◌⊎◌, ◌<◌, ◌≤◌, ◌+◌, ℕ, List, length, take, drop, Bool, Option, Some}
+use Rattle.std.specs.Io.KnownBytes.{Consumes}
 use mathlib.Core.List.{IsPrefix}
 use Rattle.ls_http.specs.declared.head.Head.{Head}
 use Rattle.ls_http.specs.declared.head.Head.TheVariants as head
@@ -32,11 +33,23 @@ IsShort read =
     ⊎ ((name : List ℕ) × (version : Bool) × (len size : ℕ) × HasHead read name version len size
     × (length read < len + size))
 
--- a head is refused: with the status of the table, or, until it is served, since it asks for the upgrade to WebSocket
+-- a head is refused with the status of the table
 abbrev pub HasStatus : List ℕ → ℕ → Type 0
-HasStatus read status =
-    IsRefused read (refused.Status status)
-    ⊎ ((key : List ℕ) × (len : ℕ) × BeginsWith read (head.Upgrade key) len × (status ≡ 404))
+HasStatus read status = IsRefused read (refused.Status status)
+
+-- a handshake was read: the bytes that were taken from those that a pipe had to give begin with its head (RFC 6455,
+-- section 4.2.1)
+abbrev pub WasUpgraded : Option (List ℕ) → Type 0
+WasUpgraded unread =
+    (left : Option (List ℕ)) × (read key : List ℕ) × (len : ℕ) × Consumes unread left read
+    × BeginsWith read (head.Upgrade key) len
+
+-- a handshake was read, and the connection ended as a WebSocket does: not with a request that was served, nor with a
+-- head that was refused
+pub record Upgraded (ending : ConnEnd) (unread : Option (List ℕ)) : Type 0 where
+  pub was : WasUpgraded unread
+  pub not_served : ending ≡ end.Served → ⊥
+  pub not_refused : (status : ℕ) → ending ≡ end.Refused status → ⊥
 
 -- why no whole request was read, and no reply but a refusal is due
 abbrev pub Unserved : ConnEnd → List ℕ → Type 0

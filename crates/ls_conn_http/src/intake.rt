@@ -13,12 +13,12 @@ ghost use Rattle.ls_conn_http.specs.Taking.{Counts, Reads, StopsReading};
 use ls_conn::{ConnEnd, MOST_IDLES};
 use ls_http::{Head, HeadRefused, read_head};
 use ls_outside::{Clock, Got, Pipe, Source};
-use ls_value::{Bytes, Text};
+use ls_value::{Bytes, NoMemory, Text};
 use std::alloc::Global;
 use std::sync::Wait;
 
-/// How many bytes are read at once, at most.
-const PIECE: usize = 4096;
+/// How many bytes are read at once, at most. A stream holds the room of one read, so it is no larger than most requests.
+const PIECE: usize = 1024;
 
 /// How many ms are waited where no byte is there yet.
 const PAUSE: u64 = 10;
@@ -290,4 +290,13 @@ pub(crate) fn body_of<'a>(intake: &'a Intake, post: &Post) -> &'a [u8]
     ensures { result.now ≡ take post.now.length (drop post.now.start intake.now.bytes.items) }
 {
     &intake.bytes[post.start..post.start + post.length]
+}
+
+/// The bytes that came past a handshake, of those that were read.
+pub(crate) fn rest_of(alloc: Global, intake: Intake, start: usize) -> Result<Vec<u8>, NoMemory>
+    requires { start ≤ length intake.bytes.items }
+    ensures { IfOk result (λ rest. rest.items ≡ drop start intake.bytes.items) }
+{
+    let rest = Vec::from_slice(alloc, &intake.bytes[start..])?;
+    Ok(rest)
 }

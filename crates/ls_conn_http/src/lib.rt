@@ -1,8 +1,8 @@
 //! A client's connection over HTTP, from its first byte to its end.
 //!
 //! One request is served on a connection: its head is read, then its body, and its answer is written, or its stream
-//! until that ends. A head that is refused is answered with its status. The upgrade to WebSocket isn't served yet: it is
-//! refused with 404.
+//! until that ends. A head that is refused is answered with its status. After the head of a handshake the connection is a
+//! WebSocket.
 //!
 //! ```text
 //! let report = serve_one(&rt, alloc, &mut conn, &shared, &mut clock, &OpenGate, u64::MAX);

@@ -132,6 +132,9 @@ fn conn_end(end: StreamEnd, whole: bool) -> ConnEnd
 }
 
 /// Gives the stream of an epoch of the one session that was seen, over HTTP, and loses it where it didn't end by itself.
+///
+/// It isn't inlined, so that the stack of a stream isn't under that of the request which opens it.
+#[inline(never)]
 fn give_stream<N: House, R: Wait, C: Pipe, K: Clock, G: Gate>(
     rt: &R,
     alloc: Global,

@@ -1,5 +1,5 @@
 //! A connection from its first byte to its end.
-ghost use Rattle.std.specs.Prelude.{◌≡◌, ◌≤◌, ◌+◌, [], ℕ, IfSome, List, None, length, take, drop};
+ghost use Rattle.std.specs.Prelude.{◌≡◌, ◌≤◌, ◌+◌, ◌⊎◌, [], ℕ, IfSome, List, None, length, take, drop};
 ghost use Rattle.std.specs.Io.KnownBytes.{IsAtEnd};
 ghost use Rattle.ls_outside.specs.Causes.{Rose, RoseBy};
 ghost use Rattle.ls_record.specs.Acting.{is_opening};
@@ -7,18 +7,21 @@ ghost use Rattle.ls_register.specs.declared.made.Made.{Made};
 ghost use Rattle.ls_conn.specs.Acting.{known};
 ghost use Rattle.ls_conn.specs.declared.ended.ConnEnd.TheVariants as end_is;
 ghost use Rattle.ls_conn_http.specs.Bodies.{IsReply, ReplyBy};
+ghost use Rattle.ls_conn_http.specs.Reading.{Upgraded, WasUpgraded};
 ghost use Rattle.ls_conn_http.specs.Replying.{RepliesBy, WritesRefusal};
 ghost use Rattle.ls_conn_http.specs.Serving.{Served};
 
 use crate::bodies::without_end;
-use crate::intake::{Came, Intake, Post, body_of, read_first};
+use crate::intake::{Came, Intake, Post, body_of, read_first, rest_of};
 use crate::opening::reply_opening;
 use crate::replying::{refuse, reply_control, reply_version};
 use ls_conn::{ConnEnd, ConnReport, MOST_IDLES, Seen};
 use ls_outside::{Clock, Gate, Pipe, Sink};
 use ls_register::{House, View};
 use ls_shared::Shared;
-use ls_value::same_bytes;
+use ls_upgrade::upgrade;
+use ls_value::{NoMemory, same_bytes};
+use ls_wake::Wakes;
 use std::alloc::Global;
 use std::sync::Wait;
 
@@ -178,20 +181,51 @@ fn ended<N: House, R: Wait>(
     }
 }
 
+/// Answers a handshake, and serves the WebSocket that follows. What was read is given back before. It isn't inlined, so
+/// that a WebSocket's stack isn't under that of a request over HTTP.
+#[inline(never)]
+fn serve_socket<N: House, R: Wait, C: Pipe + Wakes, K: Clock, G: Gate>(
+    rt: &R,
+    alloc: Global,
+    conn: &mut C,
+    shared: &Shared<N>,
+    clock: &mut K,
+    gate: &G,
+    until: u64,
+    intake: Intake,
+    key: &[u8],
+    start: usize,
+) -> ConnReport<N>
+    requires fits { start ≤ length intake.bytes.items }
+    ensures not_served { result.end ≡ ConnEnd.Served → ⊥ }
+    ensures not_refused { (status : ℕ) → result.end ≡ end_is.Refused status → ⊥ }
+    ensures read_fault { result.end ≡ ConnEnd.ReadFault → Rose (C.Source.faults conn.old) (C.Source.faults conn.new) }
+    ensures write_fault { result.end ≡ ConnEnd.WriteFault → Rose (C.Sink.faults conn.old) (C.Sink.faults conn.new) }
+    ensures too_slow { result.end ≡ ConnEnd.TooSlow → RoseBy MOST_IDLES (C.waits conn.old) (C.waits conn.new) }
+    ensures stopped { result.end ≡ ConnEnd.Stopped → until ≤ K.told clock.new }
+{
+    match rest_of(alloc, intake, start) {
+        Ok(rest) => upgrade(rt, alloc, conn, key, rest, shared, clock, gate, until),
+        Err(NoMemory) => ended(rt, alloc, shared, ConnEnd::NoMemory),
+    }
+}
+
 /// Serves one request over HTTP to its end: reads its head and its body, does what it asks for, and writes its answer
 /// or its stream (TLCP 2.1, HTTP transport; RFC 9112; this project's profile).
 ///
 /// Before each read it asks the clock, and ends at the tick `until`, in ms, or a later one; so does a stream. Where no
 /// byte is there yet, it lets the clock wait 10 ms, and gives up at the 3,000th such read. A head that is refused is
 /// answered with its status. The requests of a control body are done and answered in order, and nothing is written
-/// before the body is whole. A stream that didn't end by itself is lost afterwards. What was seen of sessions, and the
-/// register by which requests were done, are in the report.
+/// before the body is whole. A stream that didn't end by itself is lost afterwards. After the head of a handshake the
+/// connection is a WebSocket, as [`upgrade`] serves it. What was seen of sessions, and the register by which requests
+/// were done, are in the report.
 ///
-/// Over a pipe that tells, contracts say of each end what was read and what was written: nothing, a refusal, or the reply
-/// to the request that was read, whole or a part from its front. A reply is the lines that answer its requests, each true
-/// of what was seen of its session and of the register; or the lines of a stream, which are those that its session gave
-/// to this caller, all of them and in order.
-pub fn serve_one<N: House, R: Wait, C: Pipe, K: Clock, G: Gate>(
+/// Over a pipe that tells, contracts say of each end what was read and what was written, unless a handshake was read:
+/// nothing, a refusal, or the reply to the request that was read, whole or a part from its front. A reply is the lines
+/// that answer its requests, each true of what was seen of its session and of the register; or the lines of a stream,
+/// which are those that its session gave to this caller, all of them and in order. After a handshake contracts say how
+/// the connection may end, with the cause of each fault, and nothing of what was written.
+pub fn serve_one<N: House, R: Wait, C: Pipe + Wakes, K: Clock, G: Gate>(
     rt: &R,
     alloc: Global,
     conn: &mut C,
@@ -201,19 +235,30 @@ pub fn serve_one<N: House, R: Wait, C: Pipe, K: Clock, G: Gate>(
     until: u64,
 ) -> ConnReport<N>
     ensures served { Served N.deed result.end (C.unread conn.old) (C.held conn.old) (C.held conn.new)
-        (known result.view result.seen) }
+        (known result.view result.seen) ⊎ Upgraded result.end (C.unread conn.old) }
     ensures read_fault { result.end ≡ ConnEnd.ReadFault → Rose (C.Source.faults conn.old) (C.Source.faults conn.new) }
     ensures write_fault { result.end ≡ ConnEnd.WriteFault → Rose (C.Sink.faults conn.old) (C.Sink.faults conn.new) }
     ensures too_slow { result.end ≡ ConnEnd.TooSlow → RoseBy MOST_IDLES (C.waits conn.old) (C.waits conn.new) }
     ensures stopped { result.end ≡ ConnEnd.Stopped → until ≤ K.told clock.new }
-    ensures left { result.end ≡ ConnEnd.PeerLeft → IsAtEnd (C.unread conn.new) }
+    ensures left { result.end ≡ ConnEnd.PeerLeft → IsAtEnd (C.unread conn.new) ⊎ WasUpgraded (C.unread conn.old) }
 {
     let mut intake = Intake::new(alloc);
     match read_first(rt, alloc, conn, clock, until, &mut intake) {
         Ok(Came::Post(post)) => serve_post(
             rt, alloc, conn, shared, clock, gate, until, &intake, &post,
         ),
-        Ok(Came::Upgrade { key: _, start: _ }) => serve_refusal(rt, alloc, conn, shared, 404),
+        Ok(Came::Upgrade { key, start }) => serve_socket(
+            rt,
+            alloc,
+            conn,
+            shared,
+            clock,
+            gate,
+            until,
+            intake,
+            key.as_slice(),
+            start,
+        ),
         Err(end) => match status_of(end) {
             Some(status) => serve_refusal(rt, alloc, conn, shared, status),
             None => ended(rt, alloc, shared, end),

@@ -3,6 +3,7 @@ ghost use Rattle.std.specs.Prelude.{◌≡◌, ℕ};
 ghost use Rattle.ls_door.specs.Doors.{Ports, Opens, HasHeardCause, HasVisitCause};
 
 use ls_outside::Pipe;
+use ls_wake::Wakes;
 use std::marker::Send;
 
 /// The answer of `listen`.
@@ -34,7 +35,7 @@ pub enum Visit<C> {
 /// A door with two ports, which counts its faults and its idle calls.
 pub trait Door {
     /// What a visitor is spoken with over.
-    type Conn: Pipe + Send + Drop + 'static;
+    type Conn: Pipe + Wakes + Send + Drop + 'static;
 
     /// The count of faults.
     ghost failures: { Self → ℕ };

@@ -1,8 +1,10 @@
 //! A pipe of two ends between threads.
-ghost use Rattle.std.specs.Prelude.{◌≤◌, ◌<◌, IfSome, length, None, refl};
+ghost use Rattle.std.specs.Prelude.{◌≡◌, ◌≤◌, ◌<◌, IfSome, length, None, false, refl};
 
+use ls_bell::Bell;
 use ls_outside::{Got, Pipe, Put, Sink, Source};
 use ls_value::NoMemory;
+use ls_wake::Wakes;
 use std::alloc::Global;
 use std::collections::VecDeque;
 use std::io::{Read, Write};
@@ -163,4 +165,12 @@ impl<R: Wait> Pipe for Duct<R> {
     ghost sink_is_left = { λ d. refl };
 
     ghost source_is_left = { λ d. refl };
+}
+
+impl<R: Wait> Wakes for Duct<R> {
+    fn wake_with(&self, _: &Arc<Bell, Global>) -> bool
+        ensures { result ≡ false }
+    {
+        false
+    }
 }

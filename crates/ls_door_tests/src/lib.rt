@@ -1,5 +1,5 @@
 //! The tests of who comes in and who works for them: doors, spawners, bells and ducts, and the real ones over loopback;
-//! and of a feed over a duct.
+//! of what wakes who waits for bytes; and of a feed over a duct.
 #![tactic(auto)]
 
 #[cfg(test)]
@@ -10,3 +10,5 @@ mod memory;
 mod sockets;
 #[cfg(test)]
 mod threads;
+#[cfg(test)]
+mod wakes;

@@ -56,7 +56,7 @@ fn next_read<S: Source>(source: &mut S, piece: &mut [u8; 8]) -> Got {
 
 #[test]
 fn a_door_lets_clients_and_feeds_in(rt: HostRuntime) {
-    let mut door = TcpDoor::new(rt);
+    let mut door = TcpDoor::new(rt, None);
     assert!(rt; matches!(door.accept(), Visit::Idle) && door.idles() == 1);
     let Heard::Ready { port, feed } = door.listen(0, 0) else {
         panic!(rt; "it doesn't listen")
@@ -76,7 +76,7 @@ fn a_door_lets_clients_and_feeds_in(rt: HostRuntime) {
 
 #[test]
 fn a_pipe_reads_and_writes(rt: HostRuntime) {
-    let mut door = TcpDoor::new(rt);
+    let mut door = TcpDoor::new(rt, None);
     let Heard::Ready { port, .. } = door.listen(0, 0) else {
         panic!(rt; "it doesn't listen")
     };
@@ -110,7 +110,7 @@ fn is_full_at_last(pipe: &mut TcpPipe, piece: &[u8]) -> bool {
 
 #[test]
 fn a_client_that_does_not_read_is_given_up(rt: HostRuntime) -> Result<(), Fail> {
-    let mut door = TcpDoor::new(rt);
+    let mut door = TcpDoor::new(rt, None);
     let Heard::Ready { port, .. } = door.listen(0, 0) else {
         panic!(rt; "it doesn't listen")
     };

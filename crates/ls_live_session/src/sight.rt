@@ -94,7 +94,7 @@ impl<N: House> Sight<N> {
     }
 
     /// The session's bell.
-    pub fn bell(&self) -> &Bell {
+    pub fn bell(&self) -> &Arc<Bell, Global> {
         &self.bell
     }
 

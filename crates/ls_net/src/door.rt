@@ -2,9 +2,12 @@
 ghost use Rattle.std.specs.Prelude.{◌≡◌};
 
 use crate::pipe::{TcpPipe, is_later};
+use crate::watcher::WatchedSockets;
 use ls_door::{Door, Heard, Visit};
+use std::alloc::Global;
 use std::io::Result;
 use std::net::{Net, TcpListener, TcpStream};
+use std::sync::Arc;
 
 /// The addresses from which clients are heard: all of them.
 const EVERYWHERE: &str = "0.0.0.0";
@@ -20,10 +23,11 @@ struct Listeners {
 }
 
 /// A door over TCP: clients from everywhere, feeds from 127.0.0.1 alone. `accept` doesn't wait. It looks for clients
-/// and for feeds in turn, so neither keeps the other out.
+/// and for feeds in turn, so neither keeps the other out. Clients' connections may be watched; feeds' reads wait anyway.
 #[derive(Drop)]
 pub struct TcpDoor<R: Net<Listener = TcpListener, Stream = TcpStream>> {
     rt: R,
+    sockets: Option<Arc<WatchedSockets, Global>>,
     listeners: Option<Listeners>,
     port: u16,
     feed: u16,
@@ -33,12 +37,15 @@ pub struct TcpDoor<R: Net<Listener = TcpListener, Stream = TcpStream>> {
 }
 
 impl<R: Net<Listener = TcpListener, Stream = TcpStream>> TcpDoor<R> {
-    /// A door that doesn't listen yet. Its `accept` is `Idle`.
-    pub fn new(rt: R) -> TcpDoor<R>
-        ensures { (result.faults ≡ 0) × (result.idles ≡ 0) × (result.port ≡ 0) × (result.feed ≡ 0) }
+    /// A door that doesn't listen yet, whose clients are watched with these sockets, if there are any. Its `accept` is
+    /// `Idle`.
+    pub fn new(rt: R, sockets: Option<Arc<WatchedSockets, Global>>) -> TcpDoor<R>
+        ensures watched { result.sockets ≡ sockets }
+        ensures counts { (result.faults ≡ 0) × (result.idles ≡ 0) × (result.port ≡ 0) × (result.feed ≡ 0) }
     {
         TcpDoor {
             rt,
+            sockets,
             listeners: None,
             port: 0,
             feed: 0,
@@ -75,10 +82,18 @@ fn next_at(listener: &TcpListener) -> Result<Option<TcpStream>> {
     }
 }
 
+/// Another hold on the watched sockets. `None` where there are none, or no further hold.
+fn hold_on(sockets: &Option<Arc<WatchedSockets, Global>>) -> Option<Arc<WatchedSockets, Global>> {
+    Arc::try_clone(sockets.as_ref()?).ok()
+}
+
 /// The client who is there, if any.
-fn client_at(listener: &TcpListener) -> Result<Option<Visitor>> {
+fn client_at(
+    listener: &TcpListener,
+    sockets: &Option<Arc<WatchedSockets, Global>>,
+) -> Result<Option<Visitor>> {
     match next_at(listener)? {
-        Some(stream) => Ok(Some(Visitor::Client(TcpPipe::over(stream)?))),
+        Some(stream) => Ok(Some(Visitor::Client(TcpPipe::over(stream, hold_on(sockets))?))),
         None => Ok(None),
     }
 }
@@ -100,13 +115,17 @@ enum Visitor {
 
 impl Listeners {
     /// Who is there, if anyone: feeds are looked for first, or clients.
-    fn next(&self, feeds_first: bool) -> Result<Option<Visitor>> {
+    fn next(
+        &self,
+        sockets: &Option<Arc<WatchedSockets, Global>>,
+        feeds_first: bool,
+    ) -> Result<Option<Visitor>> {
         if feeds_first {
             if let Some(feed) = feed_at(&self.feeds)? {
                 return Ok(Some(feed));
             }
         }
-        if let Some(client) = client_at(&self.clients)? {
+        if let Some(client) = client_at(&self.clients, sockets)? {
             return Ok(Some(client));
         }
         feed_at(&self.feeds)
@@ -164,7 +183,7 @@ impl<R: Net<Listener = TcpListener, Stream = TcpStream> + Drop> Door for TcpDoor
         let feeds_first = self.feeds_next;
         self.feeds_next = !feeds_first;
         let found = match &self.listeners {
-            Some(listeners) => listeners.next(feeds_first),
+            Some(listeners) => listeners.next(&self.sockets, feeds_first),
             None => Ok(None),
         };
         match found {

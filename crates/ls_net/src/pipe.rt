@@ -1,11 +1,17 @@
 //! A connection.
-ghost use Rattle.std.specs.Prelude.{◌≡◌, ◌≤◌, ◌↔◌, IsTrue, IfOk, None, length, refl};
+ghost use Rattle.std.specs.Prelude.{◌≡◌, ◌≤◌, ◌↔◌, IsTrue, IfOk, None, false, length, refl};
 ghost use Rattle.std.specs.IoError.{error_kind};
 ghost use Rattle.ls_net.specs.Sockets.{IsLater};
 
+use crate::watcher::{Seat, WatchedSockets};
+use ls_bell::Bell;
 use ls_outside::{Got, Pipe, Put, Sink, Source};
+use ls_wake::Wakes;
+use std::alloc::Global;
 use std::io::{Error, ErrorKind, Read, Result, Write};
 use std::net::TcpStream;
+use std::os::fd::AsRawFd;
+use std::sync::Arc;
 use std::time::Duration;
 
 /// How long a write waits for room at most, in ms. So long may a network be away without the loss of a stream; and no
@@ -28,9 +34,12 @@ pub(crate) fn is_later(error: &Error) -> bool
 /// A client's read doesn't wait, and a feed's read waits for a byte, at most `BYTE_MS`: where none is there it is
 /// `NotYet`. A write waits for room, at most `ROOM_MS`; after that it is `Failed`, as it is after every other error.
 /// Bytes are sent at once (`set_nodelay`). The connection is closed when the pipe is dropped.
+///
+/// A client's pipe that a watcher watches can have a bell rung when bytes are there (`Wakes`).
 #[derive(Drop)]
 pub struct TcpPipe {
     stream: TcpStream,
+    seat: Seat,
     waits_for_bytes: bool,
     read_faults: u64,
     idles: u64,
@@ -38,24 +47,31 @@ pub struct TcpPipe {
 }
 
 impl TcpPipe {
-    /// A pipe over a client's connection, with each count 0. `Err` where the system doesn't let its options be set; the
-    /// connection is then closed.
-    pub fn over(stream: TcpStream) -> Result<TcpPipe>
-        ensures { IfOk result (λ p. (p.read_faults ≡ 0) × (p.idles ≡ 0) × (p.write_faults ≡ 0)) }
+    /// A pipe over a client's connection, with each count 0, whose socket is one of these, if there are any, once a bell is
+    /// named. `Err` where the system doesn't let its options be set; the connection is then closed.
+    pub fn over(stream: TcpStream, sockets: Option<Arc<WatchedSockets, Global>>) -> Result<TcpPipe>
+        ensures watched { IfOk result (λ p. p.seat.sockets ≡ sockets) }
+        ensures counts { IfOk result (λ p. (p.read_faults ≡ 0) × (p.idles ≡ 0) × (p.write_faults ≡ 0)) }
     {
-        TcpPipe::set_up(stream, false)
+        TcpPipe::set_up(stream, sockets, false)
     }
 
     /// A pipe over a feed's connection, whose reads wait for a byte, with each count 0. `Err` as of `over`.
     pub fn over_feed(stream: TcpStream) -> Result<TcpPipe>
-        ensures { IfOk result (λ p. (p.read_faults ≡ 0) × (p.idles ≡ 0) × (p.write_faults ≡ 0)) }
+        ensures unwatched { IfOk result (λ p. p.seat.sockets ≡ None) }
+        ensures counts { IfOk result (λ p. (p.read_faults ≡ 0) × (p.idles ≡ 0) × (p.write_faults ≡ 0)) }
     {
-        TcpPipe::set_up(stream, true)
+        TcpPipe::set_up(stream, None, true)
     }
 
     /// A pipe whose reads wait for a byte, or don't.
-    fn set_up(stream: TcpStream, waits_for_bytes: bool) -> Result<TcpPipe>
-        ensures { IfOk result (λ p. (p.read_faults ≡ 0) × (p.idles ≡ 0) × (p.write_faults ≡ 0)) }
+    fn set_up(
+        stream: TcpStream,
+        sockets: Option<Arc<WatchedSockets, Global>>,
+        waits_for_bytes: bool,
+    ) -> Result<TcpPipe>
+        ensures watched { IfOk result (λ p. p.seat.sockets ≡ sockets) }
+        ensures counts { IfOk result (λ p. (p.read_faults ≡ 0) × (p.idles ≡ 0) × (p.write_faults ≡ 0)) }
     {
         stream.set_nodelay(true)?;
         stream.set_read_timeout(Some(Duration::from_millis(BYTE_MS)))?;
@@ -63,6 +79,7 @@ impl TcpPipe {
         stream.set_nonblocking(!waits_for_bytes)?;
         Ok(TcpPipe {
             stream,
+            seat: Seat::with(sockets),
             waits_for_bytes,
             read_faults: 0,
             idles: 0,
@@ -152,4 +169,13 @@ impl Pipe for TcpPipe {
     ghost sink_is_left = { λ p. refl };
 
     ghost source_is_left = { λ p. refl };
+}
+
+impl Wakes for TcpPipe {
+    /// A feed's pipe, and a client's that no watcher watches, rings no bell.
+    fn wake_with(&self, bell: &Arc<Bell, Global>) -> bool
+        ensures unwatched { self.now.seat.sockets ≡ None → result ≡ false }
+    {
+        self.seat.take(self.stream.as_raw_fd(), bell)
+    }
 }

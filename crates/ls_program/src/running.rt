@@ -7,11 +7,14 @@ ghost use Rattle.ls_serve.specs.Serving.{StopsAt};
 ghost use Rattle.ls_serve.specs.declared.serving.Order.{Order as ServerOrder};
 ghost use Rattle.ls_program.specs.Commands.{order_of};
 ghost use Rattle.ls_program.specs.Running.{RanServer, RefusesConfig, status_at};
+ghost use Rattle.ls_program.specs.Soaks.{soak_of, RanSoak};
+ghost use Rattle.ls_soak.specs.declared.soaking.SoakOrder.{SoakOrder as Soak};
 
+use crate::soaking::run_alone;
 use crate::words::order_of;
 use ls_door::{Door, Spawner};
 use ls_outside::{Clock, Sink, Source};
-use ls_run::{Status, run as run_script};
+use ls_run::Status;
 use ls_serve::{ServeEnd, serve};
 use std::alloc::Global;
 use std::marker::{Send, Sync};
@@ -36,8 +39,9 @@ fn status_of(end: ServeEnd) -> Status
 ///
 /// `replay` reads a script from the source, does its lines and writes what they print, as `run` of ls_run says. `serve`
 /// with the ports for clients and for feeds, and maybe the tick of the end in ms, reads a config from the source and
-/// serves its items through the door, as `serve` of ls_serve says. Other words are answered `Status::Usage`, and
-/// nothing is read or written.
+/// serves its items through the door, as `serve` of ls_serve says. `soak` with a number and the count of steps draws a
+/// script, runs it and writes what was counted, as `soak` of ls_soak says; it reads nothing. Other words are answered
+/// `Status::Usage`, and nothing is read or written.
 pub fn run<
     R: Threads + Wait + Copy + Send + Sync + 'static,
     S: Source,
@@ -55,10 +59,11 @@ pub fn run<
     spawner: &mut Spawner,
 ) -> Status
     ensures usage { (result ≡ Status.Usage) ↔ ((¬ IsReplay (map string_bytes words.now))
-        × (order_of (map string_bytes words.now) ≡ None)) }
+        × (order_of (map string_bytes words.now) ≡ None)
+        × (soak_of (map string_bytes words.now) ≡ None)) }
 
     // A script, and words of no command.
-    ensures ran { order_of (map string_bytes words.now) ≡ None
+    ensures ran { order_of (map string_bytes words.now) ≡ None → soak_of (map string_bytes words.now) ≡ None
         → Ran result (S.unread source.old) (S.unread source.new) (K.held sink.old) (K.held sink.new) }
     ensures complete { IsReplay (map string_bytes words.now)
         → ¬ Rose (S.faults source.old) (S.faults source.new)
@@ -78,7 +83,13 @@ pub fn run<
         → RefusesConfig result (S.unread source.old) }
     ensures door_fault { result ≡ Status.DoorFault → Rose (D.failures door.old) (D.failures door.new) }
 
-    // Both.
+    // A soak.
+    ensures soaked { (o : Soak) → soak_of (map string_bytes words.now) ≡ Some o
+        → RanSoak result o (K.held sink.old) (K.held sink.new) }
+    ensures unread { (o : Soak) → soak_of (map string_bytes words.now) ≡ Some o
+        → S.unread source.new ≡ S.unread source.old }
+
+    // All.
     ensures read_fault { result ≡ Status.ReadFault → Rose (S.faults source.old) (S.faults source.new)
         ⊎ RoseBy 3000 (S.waits source.old) (S.waits source.new) }
     ensures write_fault { result ≡ Status.WriteFault → Rose (K.faults sink.old) (K.faults sink.new) }
@@ -90,6 +101,6 @@ pub fn run<
             let end = serve(rt, alloc, order, source, sink, clock, door, spawner);
             status_of(end)
         }
-        None => run_script(rt, alloc, words, source, sink),
+        None => run_alone(rt, alloc, words, source, sink),
     }
 }

@@ -32,14 +32,14 @@ fn order_with(port: Option<u16>, feed: Option<u16>, end: Option<u64>) -> Option<
     }
 }
 
-/// The order that the words of a server's command say behind its name, where it has no end.
+/// The order that two ports say. Such a server has no end.
 fn order_for_good(port: &[u8], feed: &[u8]) -> Option<Order>
     ensures { result ≡ order_with (number_in port.now 0 65535) (number_in feed.now 0 65535) None }
 {
     order_with(port_in(port), port_in(feed), None)
 }
 
-/// The order that the words of a server's command say behind its name, where it has an end.
+/// The order that two ports and the tick of the end say.
 fn order_until(port: &[u8], feed: &[u8], end: &[u8]) -> Option<Order>
     ensures { result ≡ order_until port.now feed.now end.now }
 {

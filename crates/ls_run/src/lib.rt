@@ -17,4 +17,5 @@ mod engine;
 mod replay;
 mod running;
 
+pub use engine::{Engine, LineRefused};
 pub use running::{Status, run};

@@ -205,8 +205,9 @@ fn serve_config<
 /// A client is served by `serve_one`, a feed by `serve_feed`, each with a twin of the clock. Where the spawner refuses
 /// the job, a client is answered 503 and a feed closed; where memory is refused for it, the visitor is closed. After
 /// each visitor, and each look for one, the sessions end that were without a stream for too long. Where nobody came, or
-/// a visitor couldn't be let in, the clock waits 10 ms. At the order's end all jobs are waited for, and `stopped` and LF
-/// is written. The server begins with empty histories and no sessions.
+/// a visitor couldn't be let in, the clock waits: 1 ms after a visitor, twice as long after each wait in vain, and 10 ms
+/// at most. At the order's end all jobs are waited for, and `stopped` and LF is written. The server begins with empty
+/// histories and no sessions.
 ///
 /// Contracts say at each end what was read and written. `Stopped` comes only where the clock told the order's end or a
 /// later tick. A config whose source tells it, and which has a line outside the format, is answered `BadConfig` with

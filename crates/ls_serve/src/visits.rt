@@ -9,6 +9,7 @@ use ls_outside::{Clock, OpenGate, Pipe, Put, Sink, write_all};
 use ls_register::House;
 use ls_shared::Shared;
 use ls_value::NoMemory;
+use ls_wake::Wakes;
 use std::alloc::Global;
 use std::marker::{Send, Sync};
 use std::sync::{Arc, Wait};
@@ -42,7 +43,7 @@ fn host_of<N: House, C: Clock + Drop>(
 }
 
 /// Serves a client.
-fn serve_client<N: House, R: Wait, P: Pipe + Drop, C: Clock + Drop>(
+fn serve_client<N: House, R: Wait, P: Pipe + Wakes + Drop, C: Clock + Drop>(
     rt: &R,
     alloc: Global,
     host: Host<N, C>,
@@ -85,7 +86,7 @@ fn refuse<P: Sink>(conn: &mut P) -> Put
 pub(crate) fn admit_client<
     N: House + Send + Sync + 'static,
     R: Threads + Wait + Copy + Send + Sync + 'static,
-    P: Pipe + Send + Drop + 'static,
+    P: Pipe + Wakes + Send + Drop + 'static,
     C: Clock + Send + Drop + 'static,
 >(
     rt: R,

@@ -3,6 +3,7 @@ ghost use Rattle.std.specs.Prelude.{◌≡◌};
 
 use ls_door::{Door, Heard, Visit};
 use ls_outside::Pipe;
+use ls_wake::Wakes;
 use std::marker::Send;
 use std::vec::IntoIter;
 
@@ -29,7 +30,7 @@ impl<C> ListDoor<C> {
     }
 }
 
-impl<C: Pipe + Send + Drop + 'static> Door for ListDoor<C> {
+impl<C: Pipe + Wakes + Send + Drop + 'static> Door for ListDoor<C> {
     type Conn = C;
 
     ghost failures = { λ d. d.faults };

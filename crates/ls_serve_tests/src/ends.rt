@@ -1,4 +1,4 @@
-//! How servers end: by their words, their config, their door, and reads and writes that fail.
+//! How servers end, by their words, their config, their door, and reads and writes that fail; and how soaks end.
 use crate::running::{Calls, Input, ran};
 use ls_door::{Heard, MemDoor, Spawner};
 use ls_outside::Call;
@@ -181,8 +181,98 @@ fn a_server_waits_for_its_end(rt: HostRuntime) -> Result<(), Fail> {
     Ok(())
 }
 
+/// The words of a soak, how writes go, how it ends, and what is written.
+type Soak = (&'static str, &'static [Calls], Status, &'static [u8]);
+
+/// Soaks that are done, and soaks whose writes fail.
+const SOAKS: [Soak; 10] = [
+    (
+        "soak 7 0",
+        &[],
+        Status::Ok,
+        b"steps 0\nlines 6\nupdates 0\n",
+    ),
+    (
+        "soak 7 1",
+        &[],
+        Status::Ok,
+        b"steps 1\nlines 7\nupdates 0\n",
+    ),
+    (
+        "soak 0 100",
+        &[],
+        Status::Ok,
+        b"steps 100\nlines 150\nupdates 3\n",
+    ),
+    (
+        "soak 7 100",
+        &[],
+        Status::Ok,
+        b"steps 100\nlines 176\nupdates 10\n",
+    ),
+    (
+        "soak 999999999999999999 50",
+        &[(Call::Part(1), 9)],
+        Status::Ok,
+        b"steps 50\nlines 90\nupdates 5\n",
+    ),
+    (
+        "soak 1 1000",
+        &[],
+        Status::Ok,
+        b"steps 1000\nlines 1839\nupdates 318\n",
+    ),
+    (
+        "soak 2 1000",
+        &[],
+        Status::Ok,
+        b"steps 1000\nlines 1765\nupdates 249\n",
+    ),
+    ("soak 7 0", &[(Call::Fail, 1)], Status::WriteFault, b""),
+    (
+        "soak 7 0",
+        &[(Call::Part(9), 1), (Call::Fail, 1)],
+        Status::WriteFault,
+        b"steps 0\nl",
+    ),
+    (
+        "soak 7 1",
+        &[(Call::Part(13), 1), (Call::Part(11), 1), (Call::Fail, 1)],
+        Status::WriteFault,
+        b"steps 1\nlines 7\nupdates ",
+    ),
+];
+
+/// Whether a soak ends so. No read would succeed, and the door wouldn't listen.
+fn soak_holds<R: Threads + Wait + Copy + Send + Sync + 'static>(
+    rt: &R,
+    alloc: Global,
+    soak: &Soak,
+) -> Result<bool, AllocError> {
+    let (words, writes, status, written) = *soak;
+    let case = Case {
+        words,
+        config: CONFIG,
+        reads: &[(Call::Fail, 1)],
+        writes,
+        listens: &[Heard::Failed],
+        ticks: &[],
+        status,
+        written,
+    };
+    holds(rt, alloc, &case)
+}
+
+#[test]
+fn a_soak_tells_what_it_counted(rt: HostRuntime) -> Result<(), Fail> {
+    for soak in SOAKS {
+        assert!(rt; soak_holds(&rt, rt.alloc(), &soak)?);
+    }
+    Ok(())
+}
+
 /// Words that are none of a command.
-const NO_COMMAND: [&str; 20] = [
+const NO_COMMAND: [&str; 39] = [
     "",
     "-x",
     "--help",
@@ -203,6 +293,25 @@ const NO_COMMAND: [&str; 20] = [
     "serve 0 0 1000000000000000000",
     "serve 0  0",
     "replay 0",
+    "soak",
+    "soak 7",
+    "soak 7 0 0",
+    "soaks 7 0",
+    "Soak 7 0",
+    " soak 7 0",
+    "soak  7 0",
+    "soak 7 0 ",
+    "soak x 0",
+    "soak 7 x",
+    "soak 07 0",
+    "soak 7 00",
+    "soak +7 0",
+    "soak -1 0",
+    "soak 7 -1",
+    "soak 1000000000000000000 0",
+    "soak 7 1000001",
+    "-h soak 7 0",
+    "soak 7 0 --help",
 ];
 
 /// Whether words are answered as none of a command, and nothing is read or written.

@@ -3,9 +3,10 @@ ghost use Rattle.std.specs.Prelude.{◌≡◌, ◌≤◌, length, None, refl};
 
 use crate::doors::ListDoor;
 use crate::running::{Input, ran, ticks_of};
-use ls_door::{STACK_BYTES, Spawner, Visit};
+use ls_door::{Bell, STACK_BYTES, Spawner, Visit};
 use ls_outside::{Got, Pipe, Put, Sink, Source};
 use ls_program::Status;
+use ls_wake::Wakes;
 use std::alloc::{AllocError, Global};
 use std::marker::{Send, Sync};
 use std::sync::atomic::{AtomicU64, Ordering};
@@ -115,6 +116,12 @@ impl Pipe for Visitor {
     ghost sink_is_left = { λ p. refl };
 
     ghost source_is_left = { λ p. refl };
+}
+
+impl Wakes for Visitor {
+    fn wake_with(&self, _: &Arc<Bell, Global>) -> bool {
+        false
+    }
 }
 
 /// The two visitors.

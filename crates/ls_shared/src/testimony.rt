@@ -45,7 +45,7 @@ impl<N: House> Testimony<N> {
     }
 
     /// What rings where the session may have something to give. It takes no lock and no memory.
-    pub fn bell(&self) -> &Bell {
+    pub fn bell(&self) -> &Arc<Bell, Global> {
         self.sight.bell()
     }
 

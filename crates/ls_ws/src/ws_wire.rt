@@ -13,10 +13,13 @@ ghost use Rattle.ls_ws.specs.Wires.{SendsLine, ReadsOf, WaitsOf, nothing_held};
 
 use crate::socket::{Missed, Refused, flush, receive, send};
 use crate::stream::Stream;
+use ls_bell::Bell;
 use ls_outside::Pipe;
 use ls_talk::{Incoming, LineOut, PutRefused, Talk};
+use ls_wake::Wakes;
 use std::alloc::Global;
 use std::marker::Model;
+use std::sync::Arc;
 use tungstenite::{NoMask, Role, WebSocket, WebSocketConfig};
 
 /// How many bytes a socket asks its pipe for at a time.
@@ -223,5 +226,12 @@ impl<C: Pipe + Drop> Talk for WsWire<C> {
         }
         self.put_faults = self.put_faults.saturating_add(1);
         false
+    }
+}
+
+impl<C: Pipe + Wakes + Drop> Wakes for WsWire<C> {
+    /// The pipe rings the bell.
+    fn wake_with(&self, bell: &Arc<Bell, Global>) -> bool {
+        self.pipe().wake_with(bell)
     }
 }

@@ -1,0 +1,11 @@
+pub mod Logging
+pub mod Cutting
+pub mod Pieces
+pub mod Going
+pub mod Opened
+pub mod Replying
+pub mod Taking
+pub mod Single
+pub mod Whole
+pub mod Counting
+pub mod Hearings

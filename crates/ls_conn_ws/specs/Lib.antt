@@ -1,0 +1,7 @@
+pub mod Messages
+pub mod Streams
+pub mod Serving
+pub mod Causes
+pub mod Giving
+pub mod Answering
+pub mod Hearing

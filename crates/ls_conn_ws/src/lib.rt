@@ -1,0 +1,23 @@
+//! A client's connection over a WebSocket, from its handshake to its end.
+//!
+//! [`serve_ws`] serves one: each text message has requests, which are done and answered in order, and a create or a bind
+//! that is accepted opens the connection's stream, whose lines are given one by one (TLCP 2.1, WebSocket transport):
+//!
+//! ```text
+//! wsok                            WSOK
+//! create_session                  CONOK,S1,50000,5000,*
+//! LS_user=u                       SERVNAME,tlcpd  ..
+//! ```
+//!
+//! Requests and lines take turns: while both wait, one message is read, and one line given. Where neither waits, the
+//! session's bell wakes the connection, which is rung at messages too where the socket can have that. It reads no head and
+//! writes no reply to a handshake, and opens no socket.
+#![tactic(auto)]
+
+mod answering;
+mod cross;
+mod message;
+mod running;
+mod serving;
+
+pub use serving::serve_ws;

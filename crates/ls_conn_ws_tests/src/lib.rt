@@ -1,0 +1,19 @@
+//! Tests of connections over WebSocket.
+#![tactic(auto)]
+
+#[cfg(test)]
+mod clients;
+#[cfg(test)]
+mod frames;
+#[cfg(test)]
+mod heads;
+#[cfg(test)]
+mod messages;
+#[cfg(test)]
+mod rung;
+#[cfg(test)]
+mod serving;
+#[cfg(test)]
+mod streams;
+#[cfg(test)]
+mod upgrades;

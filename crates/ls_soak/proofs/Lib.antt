@@ -1,0 +1,3 @@
+pub mod GoodLines
+pub mod PrintedLines
+pub mod Playing
