@@ -1,5 +1,7 @@
 -- The last member of a list.
-use Rattle.std.proofs.Common.{◌≡◌, ℕ, List, [], ◌∷◌, ◌++◌, refl, sym, ap, subst, ◌∙◌}
+use Rattle.std.proofs.Common.{◌≡◌, ◌<◌, ◌↔◌, ℕ, List, [], ◌∷◌, ◌++◌, length, refl, sym, ap, subst, ◌∙◌, append-nil, arith}
+use Rattle.std.proofs.Common.{true, false, Option, None, Some, IsSome, MatchOption}
+use Rattle.std.specs.Option.{option_to_list}
 use Rattle.ls_told.specs.Seen.{Testified}
 use Rattle.ls_conn.specs.Lasting.{HasLast, LastBecomes}
 
@@ -27,3 +29,16 @@ last_holds ts front t P h are = subst P (one_last h.front front h.last t (sym h.
 -- there is one
 pub has_none : (ts : List Testified) (P : Testified → Type 0) → HasLast ts P → ts ≡ [] → ⊥
 has_none ts P h is = none_last h.front h.last (sym is ∙ h.are)
+
+-- none was there, where the last one was to be taken out and wasn't
+pub none_there : (ts : List Testified) (count : ℕ) → (IsSome {T = Testified} None ↔ (0 < count)) → count ≡ length ts → ts ≡ []
+none_there [] count some is = refl
+none_there (t ∷ ts) count some is = absurd (let x : false ≡ true = some.1 (omega (arith, is)) in cc)
+
+-- the last one was taken out, where there is one
+pub popped : (ts front : List Testified) (count : ℕ) (r : Option Testified) → ts ≡ front ++ option_to_list r → (IsSome r ↔ (0 < count))
+    → count ≡ length ts → MatchOption r ((ts ≡ []) × (front ≡ [])) (λ t. ts ≡ front ++ t ∷ [])
+popped ts front count None are some is =
+    let none : ts ≡ [] = none_there ts count some is in
+    (none, sym (append-nil front) ∙ sym are ∙ none)
+popped ts front count (Some t) are some is = are

@@ -250,7 +250,9 @@ fn read_body<R: Wait, C: Pipe, K: Clock>(
     }
 }
 
-/// Reads what comes first: a request with its body, or a handshake.
+/// Reads what comes first: a request with its body, or a handshake. It isn't inlined, so that its stack isn't under that
+/// of what is served.
+#[inline(never)]
 #[tactic(auto, using(crate::proofs::Pieces::reads_on, crate::proofs::Pieces::counts_on))]
 pub(crate) fn read_first<R: Wait, C: Pipe, K: Clock>(
     rt: &R,

@@ -94,7 +94,9 @@ fn reply_current<N: House, R: Wait, C: Pipe, K: Clock, G: Gate>(
     }
 }
 
-/// Serves a request that came whole: does what it asks for, and replies.
+/// Serves a request that came whole: does what it asks for, and replies. It isn't inlined, so that its stack isn't under
+/// that of a WebSocket.
+#[inline(never)]
 fn serve_post<N: House, R: Wait, C: Pipe, K: Clock, G: Gate>(
     rt: &R,
     alloc: Global,
@@ -138,7 +140,8 @@ fn serve_post<N: House, R: Wait, C: Pipe, K: Clock, G: Gate>(
     }
 }
 
-/// Refuses a head with a status.
+/// Refuses a head with a status. It isn't inlined, for the same reason.
+#[inline(never)]
 fn serve_refusal<N: House, R: Wait, C: Sink>(
     rt: &R,
     alloc: Global,

@@ -65,7 +65,7 @@ has_opened [] = false
 has_opened (None ∷ outs) = true
 has_opened (Some text ∷ outs) = has_opened outs
 
--- the lines of the stream that was opened last, behind these ones of the stream before
+-- the lines of the stream that was opened last, after these ones of the stream before
 abbrev pub given_after : List (List ℕ) → List Piece → List (List ℕ)
 given_after texts [] = texts
 given_after texts (Gives text ∷ pieces) = given_after (texts ++ text ∷ []) pieces

@@ -143,6 +143,7 @@ impl<N: House> Watch<N> {
         ensures begins { IsPrefix self.old.list self.new.list }
         ensures has { IfSome pass.old.place (λ p. self.old.at ≡ p.at → IsPrefix pass.old.list self.new.list) }
         ensures one { (self.new.list ≡ self.old.list) ⊎ (self.new.list ≡ pass.old.list) }
+        ensures other { option_map_or (λ p. self.old.at == p.at) pass.old.place false ≡ false → self.new ≡ self.old }
     {
         if self.is_pass(register, pass) {
             self.take_pass(pass);

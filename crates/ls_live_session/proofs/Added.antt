@@ -20,7 +20,7 @@ use Rattle.ls_request.specs.declared.request.Op.TheVariants as op
 use Rattle.ls_request.specs.Ranges.{AddFits, IsOrdinal}
 use Rattle.ls_lawful.proofs.Asked.{asked_is}
 use Rattle.ls_lawful.proofs.Requested.{IsAdd}
-use Rattle.ls_record.specs.Acting.{asks_of, add_refusals}
+use Rattle.ls_record.specs.Acting.{asks_of, group_of, add_refusals}
 use Rattle.ls_record.specs.Cases.{first_code}
 use Rattle.ls_record.specs.Cutting.{Ask}
 use Rattle.ls_record.specs.Lines.{Begins, line_text}
@@ -28,11 +28,13 @@ use Rattle.ls_record.specs.declared.TheConstants.{MOST_UNSENT}
 use Rattle.ls_record.specs.Records.{Item, LiveSlot, Session, change, shape_in, is_alive, is_of, is_used, numbered, definitions}
 use Rattle.ls_record.proofs.Asking.{can_join}
 use Rattle.atomic_table.specs.Seated.{TableId}
+use Rattle.ls_register.specs.Begun.{BegunSeen}
 use Rattle.ls_register.specs.Places.{Placed}
 use Rattle.ls_register.specs.declared.told.Told.{Told}
 use Rattle.ls_register.specs.declared.told.Told.TheVariants.{Numbered}
 use Rattle.ls_live.specs.Live.{HeldItem}
-use Rattle.ls_seated.specs.Seats.{SeatSeen, IsAt}
+use Rattle.ls_seated.specs.Seats.{SeatSeen, IsAt, first_cursor}
+use Rattle.ls_seated.specs.declared.planned.Planned.{Planned}
 use Rattle.ls_seated.specs.declared.planned.JoinRefused.{JoinRefused}
 use Rattle.ls_subs.specs.declared.plan.AddPlan.{AddPlan}
 use Rattle.ls_subs.specs.declared.plan.PlanItem.{PlanItem}
@@ -45,7 +47,7 @@ use Rattle.ls_told.specs.Spoken.{Spoken}
 use Rattle.ls_told.specs.Heard.{heard}
 use Rattle.ls_told.proofs.Appended.{heard_one, latest_rises}
 use Rattle.ls_told.specs.Joining.{joins_as}
-use Rattle.ls_told.specs.Requests.{op_code, is_spent, plain, IsAsked, AreAsked}
+use Rattle.ls_told.specs.Requests.{op_code, is_spent, plain, begins_with, IsAsked, AreAsked}
 use Rattle.ls_told.specs.Seen.{Watched, seen_of, items_seen, FitsWatch, showing, SeesMore}
 use Rattle.ls_told.specs.Keeping.{KeepsTold}
 use Rattle.ls_told.proofs.Joined.{keeps_added}
@@ -53,12 +55,12 @@ use Rattle.ls_told.proofs.Watching.{definitions_seen, sees_changed, sees_appende
 use Rattle.ls_live_session.specs.declared.history.CutOf.{CutOf}
 use Rattle.ls_live_session.specs.Speaking.{SubSeen}
 use Rattle.ls_live_session.specs.Lives.{HasSeat, FitsHistory, LivesAs, Lives}
-use Rattle.ls_live_session.specs.Adding.{AddingSeen, AreSitting, IsAdding, AddsTo, IsFirst, NoneBefore, AddsWatch, JoinsNow, JoinsOne, JoinsNone}
+use Rattle.ls_live_session.specs.Adding.{AddingSeen, AreSitting, IsAdding, AddsTo, IsFirst, NoneBefore, AddsWatch, JoinsNow, JoinsOne, JoinsNone, slot_begun}
 use Rattle.ls_live_session.proofs.Bounds.{length_one}
 use Rattle.ls_live_session.proofs.Living.{latest_at}
 use Rattle.ls_live_session.proofs.Seeing.{lives_seen_at, lives_watched}
 use Rattle.ls_live_session.proofs.Sitting.{slot_seen, sitting_watched, sitting_next, sitters, sitters_joined, sitters_watched}
-use Rattle.ls_live_session.proofs.Sitting.{all_still, sitters_seated}
+use Rattle.ls_live_session.proofs.Sitting.{all_still, sitters_seated, settled_sitters, asks_places, begun_sitters}
 
 -- an element that is read
 pub read_at : {A : Type 0} (xs : List A) (i : ℕ) (x : A) → i < length xs → x ≡ get_or xs i x → slice_get xs i ≡ Some x
@@ -204,6 +206,9 @@ adding_next config number es old new subs k a free plan seats numbers r place i 
             at = slot_at q at.is;
             last = j.last;
             quiet = j.quiet;
+            asked = ap (λ (x : Planned). rows_asked x.snapshot) j.plan ∙ at.is.snapshot;
+            cursor = j.cursor ∙ ap (λ (m : Mode). first_cursor m (length i.history) (rows_asked p.snapshot)) at.is.mode
+                ∙ ap (λ (o : Option ℕ). first_cursor q.mode (length i.history) o) at.is.snapshot;
           }) d.sitting;
       numbers_are = ap (λ (ns : List ℕ). ns ++ t.number ∷ []) d.numbers_are ∙ sym (map_last seats);
     })
@@ -342,6 +347,10 @@ adds a f = record { some = f.sub.0; most = f.sub.1; size = sized a.size f.size }
 pub unspent : (es : List Told) → is_spent es ≡ false → length es < GREATEST_NUMBER
 unspent es left = leb-false GREATEST_NUMBER (length es) left
 
+-- with what a subscription begins that has these seats
+abbrev pub begun_with : List (List ℕ) → List SeatSeen → BegunSeen
+begun_with schema seats = record { schema = schema; slots = map slot_begun seats }
+
 -- a session to which the subscription was added
 module _ (config : List ItemDef) (number : ℕ) (es : List Told) (ws : List Watched) (subs : List SubSeen) (k : Kept) (a : Add) (free : ℕ)
     (plan : AddPlan) (seats : List SeatSeen) (numbers : List ℕ) (r : Record) (tick : ℕ) (k2 : Kept)
@@ -350,7 +359,7 @@ module _ (config : List ItemDef) (number : ℕ) (es : List Told) (ws : List Watc
   vs = sitters (items_seen config ws) a.sub 1 (asks_of config a) seats
 
   abbrev pub later : List Told
-  later = (es ++ plain plan.begins tick ∷ []) ++ plain plan.configures tick ∷ []
+  later = (es ++ begins_with plan.begins (begun_with a.schema seats) tick ∷ []) ++ plain plan.configures tick ∷ []
 
   abbrev pub after : Record
   after = begun_again (numbered (with_plan config a vs) r.session) r
@@ -377,9 +386,13 @@ module _ (config : List ItemDef) (number : ℕ) (es : List Told) (ws : List Watc
         joined = sitters_joined (items_seen config ws) a.sub 1 (asks_of config a) seats asked;
         watched = sitters_watched config ws a.sub 1 (asks_of config a) seats d.sitting;
         begins = d.plan_is.begins;
-        begins_plain = refl;
+        begins_plain = record { slot = refl; before = refl; upto = refl; at = refl };
         configures = d.plan_is.configures;
-        configures_plain = refl;
+        configures_plain = record { plain = record { slot = refl; before = refl; upto = refl; at = refl }; begun = refl };
+        alive = (not_refused config free r.session a d.none).0;
+        begun = begun_with a.schema seats;
+        begun_is = refl;
+        settled = settled_sitters config ws a.sub 1 (asks_of config a) seats a.schema (asks_places config a (group_of config a.group)) d.sitting;
       }) d.lives.told
 
   pub added_lives : tick ≤ GREATEST_TICK → length es < GREATEST_NUMBER → StandsSession k2 after → LivesAs config number later ws groups k2 after
@@ -399,7 +412,7 @@ module _ (config : List ItemDef) (number : ℕ) (es : List Told) (ws : List Watc
       }
     where
       first : Told
-      first = plain plan.begins tick
+      first = begins_with plan.begins (begun_with a.schema seats) tick
 
       second : Told
       second = plain plan.configures tick
@@ -420,10 +433,14 @@ module _ (config : List ItemDef) (number : ℕ) (es : List Told) (ws : List Watc
   pub added_to : length es < GREATEST_NUMBER → AddsTo config number a free tick es later ws
   added_to left =
       record {
-        lines = append_assoc es (plain plan.begins tick ∷ []) (plain plan.configures tick ∷ [])
-            ∙ ap (λ (t : List ℕ). es ++ plain t tick ∷ plain plan.configures tick ∷ []) d.plan_is.begins
-            ∙ ap (λ (t : List ℕ). es ++ plain (line_text [] (Begins a.sub (length (asks_of config a)) (length a.schema)
-            (keys_of_asks config (asks_of config a)))) tick ∷ plain t tick ∷ []) d.plan_is.configures;
+        begun = begun_with a.schema seats;
+        schema = refl;
+        begins = begun_sitters config ws a.sub 1 (asks_of config a) seats
+            (all_declared config a.sub 1 (asks_of config a) plan.items.items d.plan_is.items d.may) asked d.sitting;
+        lines = append_assoc es (begins_with plan.begins (begun_with a.schema seats) tick ∷ []) (plain plan.configures tick ∷ [])
+            ∙ ap (λ (t : List ℕ). es ++ begins_with t (begun_with a.schema seats) tick ∷ plain plan.configures tick ∷ []) d.plan_is.begins
+            ∙ ap (λ (t : List ℕ). es ++ begins_with (line_text [] (Begins a.sub (length (asks_of config a)) (length a.schema)
+            (keys_of_asks config (asks_of config a)))) (begun_with a.schema seats) tick ∷ plain t tick ∷ []) d.plan_is.configures;
         earlier = r.session;
         was = d.lives.told;
         none = add_none config free false r.session a d.none;
@@ -455,13 +472,21 @@ module _ (config : List ItemDef) (number : ℕ) (es : List Told) (ws : List Watc
             (subst (λ (m : ℕ). AddsTo config number a free m es later ws) same (added_to left)),
       )
 
--- a line of no slot
+-- a line of no slot, and the one with which a subscription begins
 pub told_plain : (es : List Told) (text text' : List ℕ) (cut : CutOf) (tick : ℕ) → cut ≡ record { slot = None; before = 0; upto = 0; at = 0 } → text ≡ text'
-    → es ++ Numbered (record { text = text; slot = cut.slot; before = cut.before; upto = cut.upto; at = cut.at; tick = tick }) ∷ []
+    → es ++ Numbered (record { text = text; slot = cut.slot; before = cut.before; upto = cut.upto; at = cut.at; begun = None; tick = tick }) ∷ []
     ≡ es ++ plain text' tick ∷ []
 told_plain es text text' cut tick none same =
-    ap (λ (u : CutOf). es ++ Numbered (record { text = text; slot = u.slot; before = u.before; upto = u.upto; at = u.at; tick = tick }) ∷ []) none
+    ap (λ (u : CutOf). es ++ Numbered (record { text = text; slot = u.slot; before = u.before; upto = u.upto; at = u.at; begun = None; tick = tick }) ∷ []) none
     ∙ ap (λ (t : List ℕ). es ++ plain t tick ∷ []) same
+
+pub told_begun : (es : List Told) (text text' : List ℕ) (b : BegunSeen) (schema schema' : List (List ℕ)) (seats : List SeatSeen) (tick : ℕ)
+    → b ≡ begun_with schema seats → schema ≡ schema' → text ≡ text'
+    → es ++ begins_with text b tick ∷ [] ≡ es ++ begins_with text' (begun_with schema' seats) tick ∷ []
+told_begun es text text' b schema schema' seats tick is same said =
+    ap (λ (x : BegunSeen). es ++ begins_with text x tick ∷ []) is
+    ∙ ap (λ (s : List (List ℕ)). es ++ begins_with text (begun_with s seats) tick ∷ []) same
+    ∙ ap (λ (t : List ℕ). es ++ begins_with t (begun_with schema' seats) tick ∷ []) said
 
 -- after the next item was asked to let its slot join
 pub adding_item : (config : List ItemDef) (number : ℕ) (es : List Told) (old new : List Watched) (subs : List SubSeen) (k : Kept) (a : Add) (free : ℕ)
@@ -535,6 +560,7 @@ pub joins_now : (config : List ItemDef) (ws : List Watched) (place sub rank rank
       list = [];
       last = length i.history;
       quiet = false;
+      cursor = first_cursor p.mode (length i.history) (rows_asked p.snapshot);
     }
     → IsAt i.shape i.history t.plan [] (joined (plan_of i.shape i.history p.mode p.n) i.history (rows_asked p.snapshot))
     → JoinsNow config ws (set ws place new) place sub rank i p t
@@ -553,6 +579,8 @@ joins_now config ws place sub rank rank' i p old new t first read more is fits s
       list = ap (λ (u : SeatSeen). u.list) seat;
       last = ap (λ (u : SeatSeen). u.last) seat;
       quiet = ap (λ (u : SeatSeen). u.quiet) seat;
+      plan = ap (λ (u : SeatSeen). u.plan) seat;
+      cursor = ap (λ (u : SeatSeen). u.cursor) seat;
       at = at;
     }
 

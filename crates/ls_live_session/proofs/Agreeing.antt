@@ -7,7 +7,7 @@ use Rattle.ls_value.specs.Each.{Each}
 use Rattle.ls_event.specs.declared.event.Entry.{Entry}
 use Rattle.ls_event.specs.declared.item.ItemDef.{ItemDef}
 use Rattle.ls_event.specs.Shapes.{shape_of}
-use Rattle.ls_live.specs.Live.{IsSeenOf}
+use Rattle.ls_live.specs.Live.{IsSeenOf, Pass}
 use Rattle.ls_record.specs.Records.{shape_in}
 use Rattle.ls_record.specs.Records.{Session}
 use Rattle.ls_register.specs.Places.{Placed}
@@ -19,7 +19,7 @@ use Rattle.ls_event.specs.Publishes.{IsHistory}
 use Rattle.ls_told.proofs.Watching.{sees_twice, sees_appended, keeps_seen}
 use Rattle.ls_register.specs.declared.made.Made.TheVariants as made
 use Rattle.ls_live_session.proofs.Living.{entry_later}
-use Rattle.ls_live_session.specs.Sights.{IsOneItem, AreOneItems, SeesOf, SeesOn, FitsAt, IsSight, GaveAt}
+use Rattle.ls_live_session.specs.Sights.{IsOneItem, AreOneItems, SeesOf, SeesOn, MeetsPass, MeetEach, FitsAt, IsSight, GaveAt}
 
 -- each place is the set one or another
 pub by_place : (i k : ℕ) → (k ≡ i) ⊎ (k ≢ i)
@@ -344,3 +344,29 @@ take_pushed (suc n) (x ∷ xs) (y ∷ ys) w is count =
     let first : x ≡ y = cc in
     let rest : take n xs ≡ ys = cc in
     ap (λ (z : Watched). z ∷ take n (xs ++ w ∷ [])) first ∙ ap (λ (l : List Watched). y ∷ l) (take_pushed n xs ys w rest (omega (arith, count)))
+
+-- the first ones have met a pass, and the others are as before
+abbrev pub FirstMeet : ℕ → Pass → List Watched → List Watched → Type 0
+FirstMeet i p ws xs = (k : ℕ) (w v : Watched) → k < i → slice_get ws k ≡ Some w → slice_get xs k ≡ Some v → MeetsPass p w v
+
+abbrev pub OthersStay : ℕ → List Watched → List Watched → Type 0
+OthersStay i ws xs = (k : ℕ) → i ≤ k → slice_get xs k ≡ slice_get ws k
+
+pub meet_next : (p : Pass) (ws xs : List Watched) (i : ℕ) (b : Watched) → i < length xs
+    → ((w : Watched) → slice_get xs i ≡ Some w → MeetsPass p w b) → FirstMeet i p ws xs → OthersStay i ws xs
+    → FirstMeet (i + 1) p ws (set xs i b)
+meet_next p ws xs i b low this first stay = λ k w v below was is. by_side k w v was is (split_below k i below)
+  where
+    by_side : (k : ℕ) (w v : Watched) → slice_get ws k ≡ Some w → slice_get (set xs i b) k ≡ Some v → (k ≡ i) ⊎ (k < i) → MeetsPass p w v
+    by_side k w v was is (inl e) =
+        let x : Some b ≡ Some v = sym (subst (λ (n : ℕ). slice_get (set xs i b) n ≡ Some b) (sym e) (set_there xs i b low)) ∙ is in
+        let same : b ≡ v = cc in
+        subst (λ (y : Watched). MeetsPass p w y) same (this w (stay i (omega arith) ∙ (ap (λ (n : ℕ). slice_get ws n) (sym e) ∙ was)))
+    by_side k w v was is (inr l) = first k w v l was (sym (set_other xs i k b (λ e. omega (arith, l, e))) ∙ is)
+
+pub stay_next : (ws xs : List Watched) (i : ℕ) (b : Watched) → OthersStay i ws xs → OthersStay (i + 1) ws (set xs i b)
+stay_next ws xs i b stay = λ k far. set_other xs i k b (λ e. omega (arith, far, e)) ∙ stay k (omega (arith, far))
+
+pub all_meet : (p : Pass) (ws xs : List Watched) (n : ℕ) → length xs ≤ n → length xs ≡ length ws → FirstMeet n p ws xs → MeetEach p ws xs
+all_meet p ws xs n low count first =
+    record { count = count; each = λ k w v was is. first k w v (omega (arith, low, below_length xs k v is)) was is }

@@ -12,7 +12,7 @@ use Rattle.ls_event.specs.Cuts.{cut, is_pending}
 use Rattle.ls_event.specs.Publishes.{IsHistory}
 use Rattle.ls_event.specs.Shapes.{Shape}
 use Rattle.ls_mirror.specs.Client.{What}
-use Rattle.ls_record.specs.Came.{came_by}
+use Rattle.ls_record.specs.Came.{came_by, upto_of}
 use Rattle.ls_record.specs.Light.{IsLight}
 use Rattle.ls_record.specs.Lines.{Line, Tells, line_text, text_at}
 use Rattle.ls_record.specs.Records.{LiveSlot, Alive, is_alive, is_due, shape_in}
@@ -39,14 +39,14 @@ use Rattle.ls_told.specs.Seen.{Watched, seen_of}
 use Rattle.ls_turns.specs.declared.slot_ref.SlotRef.{SlotRef}
 use Rattle.ls_live_session.specs.Speaking.{SubSeen}
 use Rattle.ls_live_session.specs.Lives.{LivesAs, IsSeatOf, HasSeat, HasNothing}
-use Rattle.ls_live_session.specs.Taking.{SeatAt, IsFound, IsCaught, IsAskedFrom, IsWhole, Replies, reached, caught_up, asked_now, reply_of, reply_by, seat_set}
+use Rattle.ls_live_session.specs.Taking.{SeatAt, IsFound, IsCaught, IsAskedFrom, IsWhole, Replies, reached, caught_up, asked_now, reply_of, reply_by, seat_set, told_to, seat_after}
 use Rattle.ls_live_session.proofs.CaughtUp.{get_changed}
 use Rattle.ls_live_session.proofs.Living.{lives_passed_over}
 use Rattle.ls_live_session.proofs.Moving.{SeatMoves, get_set, groups_stay}
 use Rattle.ls_told.specs.Seen.{FitsWatch, showing}
 use Rattle.ls_told.proofs.Watching.{seen_first}
 use Rattle.ls_record.specs.Records.{change}
-use Rattle.ls_live_session.proofs.Replied.{lives_caught, lives_quiet, moving_seat, lives_waited, lives_silent, lives_line, line_last}
+use Rattle.ls_live_session.proofs.Replied.{lives_caught, lives_quiet, moving_seat, lives_waited, lives_silent, lives_line, line_last, told_upto}
 use Rattle.ls_live_session.specs.Leaving.{HasLast}
 use Rattle.ls_session.specs.Record.{answered_by}
 use Rattle.ls_session.proofs.Replies.{tells_short}
@@ -249,6 +249,17 @@ module _ (config : List ItemDef) (number : ℕ) (es : List Told) (ws : List Watc
       cut_is_light q.live.slot.plan.shape i.item.history q.live.slot q.live.wanted.places taken
       (subst (λ (p : Shape). IsHistory p i.item.history) (sym own.shape) whole.history) refl kept.stands.allowed kept.stands.narrow is
 
+  -- its numbers are those that its seat keeps
+  pub came_at : (t u : SeatSeen) (new : List SubSeen) (taken : Taken) (what : What) → SeatMoves subs new q.live.sub q.live.rank t u
+      → (t.cursor ≡ (came_by q.live.slot taken what).before) × (told_to t.cursor taken ≡ (came_by q.live.slot taken what).upto)
+      × (t.last ≡ (came_by q.live.slot taken what).at)
+  came_at t u new taken what m =
+      let own = moving_seat config ws subs new q.live t u m (each_at (HasSeat config ws subs) r.asked q.live r.session.board.round here asked.lives.seated) in (
+        own.cursor,
+        ap (λ (n : ℕ). told_to n taken) own.cursor ∙ sym (told_upto q.live.slot taken),
+        own.last,
+      )
+
   -- what it takes of the session's answer
   abbrev pub line_of : Taken → What → List ℕ
   line_of taken what = line_text r.session.board.lines (Tells q.live.sub q.live.rank r.tick (came_by q.live.slot taken what))
@@ -259,15 +270,15 @@ module _ (config : List ItemDef) (number : ℕ) (es : List Told) (ws : List Watc
   whole_last : q.live.slot.last ≡ length (seen_of ws q.live.item)
   whole_last = whole.last ∙ ap (λ (h : List Entry). length h) (sym whole.seen)
 
-  seen_moves : (t : SeatSeen) (new : List SubSeen)
-      → SeatMoves subs new q.live.sub q.live.rank t (record t { list = t.list ++ length i.item.history ∷ []; quiet = false })
-      → SeatMoves subs new q.live.sub q.live.rank t (record t { list = t.list ++ length (seen_of ws q.live.item) ∷ []; quiet = false })
-  seen_moves t new m =
-      subst (λ (h : List Entry). SeatMoves subs new q.live.sub q.live.rank t (record t { list = t.list ++ length h ∷ []; quiet = false })) (sym whole.seen) m
+  seen_moves : (t : SeatSeen) (new : List SubSeen) (taken : Taken)
+      → SeatMoves subs new q.live.sub q.live.rank t (seat_after t (length i.item.history) taken)
+      → SeatMoves subs new q.live.sub q.live.rank t (seat_after t (length (seen_of ws q.live.item)) taken)
+  seen_moves t new taken m =
+      subst (λ (h : List Entry). SeatMoves subs new q.live.sub q.live.rank t (seat_after t (length h) taken)) (sym whole.seen) m
 
   -- its cut makes no line
   pub replies_silent : (k2 : Kept) (t : SeatSeen) (new : List SubSeen) (taken : Taken)
-      → SeatMoves subs new q.live.sub q.live.rank t (record t { list = t.list ++ length i.item.history ∷ []; quiet = false })
+      → SeatMoves subs new q.live.sub q.live.rank t (seat_after t (length i.item.history) taken)
       → q.due ≡ true → cut i.item.history q.live.slot ≡ Some taken → what_of r.session.board.lines q.live taken ≡ None
       → StandsSession k2 (answered r q.live taken) → Replies config number es es ws new k2 r q i.item.history false
   replies_silent k2 t new taken m due is silent stands =
@@ -275,7 +286,7 @@ module _ (config : List ItemDef) (number : ℕ) (es : List Told) (ws : List Watc
         reply = reply.Taken taken;
         reply_is = sym (λ j. reply_by (due j) (is j) (is_pending i.item.history q.live.slot));
         lives =
-            lives_silent config number es ws subs new k r q.live here k2 t taken asked.lives whole_last (seen_cut taken is) (seen_moves t new m)
+            lives_silent config number es ws subs new k r q.live here k2 t taken asked.lives whole_last (seen_cut taken is) (seen_moves t new taken m)
             silent stands;
         told_is = sym (ap is_some silent);
         line = λ b. absurd (let x : false ≡ true = b in cc);
@@ -284,20 +295,20 @@ module _ (config : List ItemDef) (number : ℕ) (es : List Told) (ws : List Watc
 
   -- its cut makes a line
   pub lives_told : (k2 : Kept) (t : SeatSeen) (new : List SubSeen) (taken : Taken) (what : What) (line : NumberedLine)
-      → SeatMoves subs new q.live.sub q.live.rank t (record t { list = t.list ++ length i.item.history ∷ []; quiet = false })
+      → SeatMoves subs new q.live.sub q.live.rank t (seat_after t (length i.item.history) taken)
       → length es < GREATEST_NUMBER → cut i.item.history q.live.slot ≡ Some taken
       → what_of r.session.board.lines q.live taken ≡ Some what → StandsSession k2 (answered r q.live taken)
-      → line.text ≡ line_of taken what → TellsOf line q.live.sub q.live.rank r.tick
+      → line.text ≡ line_of taken what → TellsOf line q.live.sub q.live.rank r.tick (came_by q.live.slot taken what)
       → LivesAs config number (es ++ Numbered line ∷ []) ws new k2 (answered r q.live taken)
   lives_told k2 t new taken what line m low is tells stands text of =
       lives_line config number es ws subs new k r q.live here k2 t taken what line asked.lives low whole_last (seen_cut taken is)
-      (seen_moves t new m) tells stands text of
+      (seen_moves t new taken m) tells stands text of
 
   pub replies_line : (k2 : Kept) (t : SeatSeen) (new : List SubSeen) (taken : Taken) (what : What) (line : NumberedLine) (es2 : List Told)
-      → SeatMoves subs new q.live.sub q.live.rank t (record t { list = t.list ++ length i.item.history ∷ []; quiet = false })
+      → SeatMoves subs new q.live.sub q.live.rank t (seat_after t (length i.item.history) taken)
       → length es < GREATEST_NUMBER → q.due ≡ true → cut i.item.history q.live.slot ≡ Some taken
       → what_of r.session.board.lines q.live taken ≡ Some what → StandsSession k2 (answered r q.live taken)
-      → line.text ≡ line_of taken what → TellsOf line q.live.sub q.live.rank r.tick → es2 ≡ es ++ Numbered line ∷ []
+      → line.text ≡ line_of taken what → TellsOf line q.live.sub q.live.rank r.tick (came_by q.live.slot taken what) → es2 ≡ es ++ Numbered line ∷ []
       → Replies config number es es2 ws new k2 r q i.item.history true
   replies_line k2 t new taken what line es2 m low due is tells stands text of lines =
       record {
@@ -309,6 +320,7 @@ module _ (config : List ItemDef) (number : ℕ) (es : List Told) (ws : List Watc
         told_is = sym (ap is_some tells);
         line = λ b. record {
           line = line;
+          came = came_by q.live.slot taken what;
           lines = lines;
           of = of;
           text = text ∙ subst (λ (o : Option What). line_of taken what
@@ -320,16 +332,16 @@ module _ (config : List ItemDef) (number : ℕ) (es : List Told) (ws : List Watc
 
   -- the line is the last one of the session
   pub told_last : (k2 : Kept) (t : SeatSeen) (new : List SubSeen) (taken : Taken) (what : What)
-      → SeatMoves subs new q.live.sub q.live.rank t (record t { list = t.list ++ length i.item.history ∷ []; quiet = false })
+      → SeatMoves subs new q.live.sub q.live.rank t (seat_after t (length i.item.history) taken)
       → length es < GREATEST_NUMBER → (heard number es).life ≡ Alive → q.live.sub < 2 ^ 32 → q.live.rank < 2 ^ 32
       → cut i.item.history q.live.slot ≡ Some taken → what_of r.session.board.lines q.live taken ≡ Some what
       → StandsSession k2 (answered r q.live taken) → HasLast k2 (line_of taken what)
   told_last k2 t new taken what m low life sub rank is tells stands =
       let slot : SlotRef = ref_of q.live in
-      let line : NumberedLine = record { text = line_of taken what; slot = Some slot; before = 0; upto = 0; at = 0; tick = r.tick } in
-      let of : TellsOf line q.live.sub q.live.rank r.tick =
-      record { slot = slot; is = refl; sub_is = refl; rank_is = refl; tick_is = refl } in
-      let u : SeatSeen = record t { list = t.list ++ length i.item.history ∷ []; quiet = false } in
+      let line : NumberedLine = record { text = line_of taken what; slot = Some slot; before = q.live.slot.cursor; upto = upto_of q.live.slot taken; at = q.live.slot.last; begun = None; tick = r.tick } in
+      let of : TellsOf line q.live.sub q.live.rank r.tick (came_by q.live.slot taken what) =
+      record { slot = slot; is = refl; sub_is = refl; rank_is = refl; tick_is = refl; before = refl; upto = refl; at = refl; begun = refl } in
+      let u : SeatSeen = seat_after t (length i.item.history) taken in
       let alive : is_alive r.session.life ≡ true = ap is_alive (ap (λ (p : Spoken). p.life) asked.lives.told.told ∙ life) in
       line_last config number es (es ++ Numbered line ∷ []) ws subs new k k2 r q.live taken what asked.lives
       (lives_told k2 t new taken what line m low is tells stands refl of) tells alive

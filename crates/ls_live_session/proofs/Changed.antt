@@ -28,6 +28,7 @@ use Rattle.ls_stream.specs.Standing.{IsShort}
 use Rattle.ls_told.specs.Seen.{Watched}
 use Rattle.ls_told.specs.Keeping.{KeepsTold}
 use Rattle.ls_told.specs.Requests.{plain, is_spent}
+use Rattle.ls_told.specs.Telling.{IsPlain}
 use Rattle.ls_told.proofs.Appended.{latest_rises}
 use Rattle.ls_subs.proofs.Rounds.{without_used}
 use Rattle.ls_told.proofs.Keeps.{keeps_removed, keeps_reconfigured}
@@ -84,7 +85,10 @@ text_last lines l =
 
 -- the entry of a line without a slot
 abbrev pub plain_line : List ℕ → ℕ → NumberedLine
-plain_line text tick = record { text = text; slot = None; before = 0; upto = 0; at = 0; tick = tick }
+plain_line text tick = record { text = text; slot = None; before = 0; upto = 0; at = 0; begun = None; tick = tick }
+
+plain_is : (text : List ℕ) (tick : ℕ) → IsPlain (plain_line text tick)
+plain_is text tick = record { plain = record { slot = refl; before = refl; upto = refl; at = refl }; begun = refl }
 
 -- a seat of another subscription stays when one ends
 pub seated_removed : (config : List ItemDef) (ws : List Watched) (old new : List SubSeen) (sub : ℕ) (vs : List LiveSlot)
@@ -119,6 +123,7 @@ seat_frequency config ws subs sub frequency v h =
         shape = h.of.shape;
         at = h.of.at;
         last = h.of.last;
+        cursor = h.of.cursor;
         quiet = h.of.quiet;
       };
     }) (λ t. h)
@@ -137,7 +142,8 @@ module _ (config : List ItemDef) (number : ℕ) (es : List Told) (ws : List Watc
         number_is = l.number_is;
         floor = omega (arith, l.floor, latest_rises es (e ∷ []));
         latest = latest_at es e tick GREATEST_TICK refl l.latest most;
-        told = keeps_removed config number es ws r.session sub (plain_line (line_text [] (Ends sub)) tick) ordinal refl refl l.told;
+        told = keeps_removed config number es ws r.session sub (plain_line (line_text [] (Ends sub)) tick) ordinal refl
+            (plain_is (line_text [] (Ends sub)) tick) l.told;
         seated = seated_removed config ws subs subs2 sub r.session.board.round keep l.seated;
         fits = fits_numbered number es (plain_line (line_text [] (Ends sub)) tick) l.fits low;
       }
@@ -155,7 +161,7 @@ module _ (config : List ItemDef) (number : ℕ) (es : List Told) (ws : List Watc
         number_is = l.number_is;
         floor = omega (arith, l.floor, latest_rises es (plain text tick ∷ []));
         latest = latest_at es (plain text tick) tick GREATEST_TICK refl l.latest most;
-        told = keeps_reconfigured config number es ws r.session sub frequency (plain_line text tick) ordinal refl refl l.told;
+        told = keeps_reconfigured config number es ws r.session sub frequency (plain_line text tick) ordinal refl (plain_is text tick) l.told;
         seated = each_mapped (HasSeat config ws subs) (HasSeat config ws subs)
             (with_frequency sub (frequency_in (mode_in sub r.session.board.round) frequency)) r.session.board.round
             (λ v h. seat_frequency config ws subs sub (frequency_in (mode_in sub r.session.board.round) frequency) v h) l.seated;

@@ -357,4 +357,5 @@ lawful_of config number es ws s k =
       counts = k.counts;
       subs = k.subs;
       numbered = k.numbered;
+      slots = k.slots;
     }

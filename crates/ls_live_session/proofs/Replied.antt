@@ -8,10 +8,11 @@ use Rattle.ls_event.specs.declared.event.Entry.{Entry}
 use Rattle.ls_event.specs.declared.event.Taken.{Taken}
 use Rattle.ls_event.specs.declared.item.ItemDef.{ItemDef}
 use Rattle.ls_event.specs.Cuts.{cut}
-use Rattle.ls_event.specs.Slots.{Plan}
+use Rattle.ls_event.specs.Slots.{Plan, Slot, passed}
+use Rattle.ls_event.specs.declared.event.Taken.TheVariants as cuts
 use Rattle.ls_cell.proofs.Passing.{passed_last, passed_plan}
 use Rattle.ls_mirror.specs.Client.{What}
-use Rattle.ls_record.specs.Came.{came_by}
+use Rattle.ls_record.specs.Came.{came_by, upto_of}
 use Rattle.ls_record.specs.Lines.{Line, Tells, line_text, text_at}
 use Rattle.ls_record.specs.Records.{LiveSlot, change, shape_in, is_alive}
 use Rattle.ls_record.proofs.Each.{each_at}
@@ -35,12 +36,29 @@ use Rattle.ls_live_session.specs.Speaking.{SubSeen}
 use Rattle.ls_live_session.specs.Adding.{NoneBefore}
 use Rattle.ls_live_session.specs.Leaving.{HasLast}
 use Rattle.ls_live_session.specs.Lives.{LivesAs, IsSeatOf, HasSeat, HasNothing}
-use Rattle.ls_live_session.specs.Taking.{reached, caught_up}
+use Rattle.ls_live_session.specs.Taking.{reached, caught_up, told_to, cursor_after, seat_after}
 use Rattle.ls_live_session.proofs.Bounds.{fits_numbered}
 use Rattle.ls_live_session.proofs.CaughtUp.{get_changed, session_caught}
 use Rattle.ls_live_session.proofs.Living.{latest_at, at_latest}
 use Rattle.ls_live_session.proofs.Moving.{SeatMoves, same_last, own_seat, other_seat, each_moved, each_back}
 use Rattle.ls_live_session.proofs.Seeing.{lives_seen_at}
+
+-- a cut moves the cursor of its slot, and tells up to a number, as a seat's cursor says
+passed_cursor : (s : Slot) (t : Taken) → (passed s t).cursor ≡ cursor_after s.cursor t
+passed_cursor s (cuts.Row row upto) = refl
+passed_cursor s (cuts.Lost count upto) = refl
+passed_cursor s (cuts.Change cells upto) = refl
+passed_cursor s (cuts.Key key row upto) = refl
+passed_cursor s (cuts.Cleared upto) = refl
+passed_cursor s cuts.EndOfSnapshot = refl
+
+pub told_upto : (s : Slot) (t : Taken) → upto_of s t ≡ told_to s.cursor t
+told_upto s (cuts.Row row upto) = refl
+told_upto s (cuts.Lost count upto) = refl
+told_upto s (cuts.Change cells upto) = refl
+told_upto s (cuts.Key key row upto) = refl
+told_upto s (cuts.Cleared upto) = refl
+told_upto s cuts.EndOfSnapshot = refl
 
 -- the seat that moves is the slot's
 pub moving_seat : (config : List ItemDef) (ws : List Watched) (old new : List SubSeen) (v : LiveSlot) (t u : SeatSeen)
@@ -87,6 +105,7 @@ module _ (config : List ItemDef) (number : ℕ) (es : List Told) (ws : List Watc
         shape = own.shape;
         at = at_last (shape_in config v.item) (seen_of ws1 v.item) t.plan t.list v.slot n (omega (arith, long)) own.at;
         last = refl;
+        cursor = own.cursor;
         quiet = λ b. absurd (let x : false ≡ true = b in cc);
       } in
       record {
@@ -132,6 +151,7 @@ module _ (config : List ItemDef) (number : ℕ) (es : List Told) (ws : List Watc
         shape = own.shape;
         at = own.at;
         last = own.last;
+        cursor = own.cursor;
         quiet = nothing;
       } in
       record {
@@ -151,7 +171,7 @@ module _ (config : List ItemDef) (number : ℕ) (es : List Told) (ws : List Watc
   -- its seat after a cut that both passed
   passed_seat : (t : SeatSeen) (taken : Taken) → IsSeatOf config ws t v → v.slot.last ≡ length (seen_of ws v.item)
       → cut (seen_of ws v.item) v.slot ≡ Some taken
-      → IsSeatOf config ws (record t { list = t.list ++ length (seen_of ws v.item) ∷ []; quiet = false }) (passed_live taken v)
+      → IsSeatOf config ws (seat_after t (length (seen_of ws v.item)) taken) (passed_live taken v)
   passed_seat t taken own whole cuts =
       record {
         sub = own.sub;
@@ -161,15 +181,16 @@ module _ (config : List ItemDef) (number : ℕ) (es : List Told) (ws : List Watc
         shape = ap (λ (p : Plan). p.shape) (passed_plan v.slot taken) ∙ own.shape;
         at = at_passed (shape_in config v.item) (seen_of ws v.item) t.plan t.list v.slot taken own.at whole cuts;
         last = own.last ∙ sym (passed_last v.slot taken);
+        cursor = ap (λ (n : ℕ). cursor_after n taken) own.cursor ∙ sym (passed_cursor v.slot taken);
         quiet = λ b. absurd (let x : false ≡ true = b in cc);
       }
 
   moved_round : (t : SeatSeen) (taken : Taken) → LivesAs config number es ws subs k r → v.slot.last ≡ length (seen_of ws v.item)
       → cut (seen_of ws v.item) v.slot ≡ Some taken
-      → SeatMoves subs new v.sub v.rank t (record t { list = t.list ++ length (seen_of ws v.item) ∷ []; quiet = false })
+      → SeatMoves subs new v.sub v.rank t (seat_after t (length (seen_of ws v.item)) taken)
       → HasSeat config ws new (passed_live taken v) × Each (HasSeat config ws new) (change r.asked (passed_live taken) r.session.board.round)
   moved_round t taken l whole cuts m =
-      let u : SeatSeen = record t { list = t.list ++ length (seen_of ws v.item) ∷ []; quiet = false } in
+      let u : SeatSeen = seat_after t (length (seen_of ws v.item)) taken in
       let own = moving_seat config ws subs new v t u m (each_at (HasSeat config ws subs) r.asked v r.session.board.round here l.seated) in
       let mine = own_seat config ws subs new v.sub v.rank t u m (passed_live taken v) refl refl (passed_seat t taken own whole cuts) in (
         mine,
@@ -180,7 +201,7 @@ module _ (config : List ItemDef) (number : ℕ) (es : List Told) (ws : List Watc
   -- its cut makes no line
   pub lives_silent : (k2 : Kept) (t : SeatSeen) (taken : Taken) → LivesAs config number es ws subs k r
       → v.slot.last ≡ length (seen_of ws v.item) → cut (seen_of ws v.item) v.slot ≡ Some taken
-      → SeatMoves subs new v.sub v.rank t (record t { list = t.list ++ length (seen_of ws v.item) ∷ []; quiet = false })
+      → SeatMoves subs new v.sub v.rank t (seat_after t (length (seen_of ws v.item)) taken)
       → what_of r.session.board.lines v taken ≡ None → StandsSession k2 (answered r v taken)
       → LivesAs config number es ws new k2 (answered r v taken)
   lives_silent k2 t taken l whole cuts m silent stands =
@@ -200,10 +221,10 @@ module _ (config : List ItemDef) (number : ℕ) (es : List Told) (ws : List Watc
   -- its cut makes a line
   pub lives_line : (k2 : Kept) (t : SeatSeen) (taken : Taken) (what : What) (line : NumberedLine) → LivesAs config number es ws subs k r
       → length es < GREATEST_NUMBER → v.slot.last ≡ length (seen_of ws v.item) → cut (seen_of ws v.item) v.slot ≡ Some taken
-      → SeatMoves subs new v.sub v.rank t (record t { list = t.list ++ length (seen_of ws v.item) ∷ []; quiet = false })
+      → SeatMoves subs new v.sub v.rank t (seat_after t (length (seen_of ws v.item)) taken)
       → what_of r.session.board.lines v taken ≡ Some what → StandsSession k2 (answered r v taken)
       → line.text ≡ line_text r.session.board.lines (Tells v.sub v.rank r.tick (came_by v.slot taken what))
-      → TellsOf line v.sub v.rank r.tick
+      → TellsOf line v.sub v.rank r.tick (came_by v.slot taken what)
       → LivesAs config number (es ++ Numbered line ∷ []) ws new k2 (answered r v taken)
   lives_line k2 t taken what line l low whole cuts m tells stands text of =
       let moved = moved_round t taken l whole cuts m in

@@ -37,6 +37,7 @@ seat_sees config old new t v more s =
       shape = s.shape;
       at = at_later (shape_in config v.item) (seen_of old v.item) (seen_of new v.item) t.plan t.list v.slot (seen_more old new more v.item) s.at;
       last = s.last;
+      cursor = s.cursor;
       quiet = λ q. nothing_later (seen_of old v.item) (seen_of new v.item) v.slot (seen_more old new more v.item)
           (at_reaches (shape_in config v.item) (seen_of old v.item) t.plan t.list v.slot s.at) (s.quiet q);
     }

@@ -1,24 +1,31 @@
 -- The seats of a subscription's slots, as its slots join one after another and more is seen of their items.
 use Rattle.std.proofs.Common.{◌≡◌, ◌==◌, ◌<◌, ℕ, zero, suc, ◌+◌, ◌-◌, List, [], ◌∷◌, ◌++◌, length, map, refl, sym, ◌∙◌, ap, arith, subst}
-use Rattle.std.proofs.Common.{Bool, true, false, Some, None, slice_get, append_assoc, length-append, ◌||◌, ◌⊎◌, inl, inr}
+use Rattle.std.proofs.Common.{Bool, true, false, Option, Some, None, slice_get, append_assoc, length-append, take, ◌||◌, ◌⊎◌, inl, inr}
 use Rattle.std.proofs.lemmas.Bool.{eq-eqb}
 use mathlib.Core.List.{IsPrefix}
 use Rattle.ls_value.specs.Each.{Each}
 use Rattle.ls_event.specs.declared.event.Entry.{Entry}
 use Rattle.ls_event.specs.declared.item.ItemDef.{ItemDef}
-use Rattle.ls_event.specs.Joining.{plan_of, joined}
+use Rattle.ls_event.specs.Joining.{plan_of, joined, joined_in, rows_asked}
+use Rattle.ls_event.specs.declared.event.Mode.{Mode}
+use Rattle.ls_event.specs.declared.event.Mode.TheVariants as mode
 use Rattle.ls_event.specs.Slots.{Slot, Plan}
 use Rattle.ls_cell.proofs.Arrivals.{joined_plan, joined_last}
+use Rattle.ls_request.specs.declared.request.Add.{Add}
+use Rattle.ls_record.specs.Acting.{ask_of, places_among}
 use Rattle.ls_record.specs.Cutting.{Ask}
-use Rattle.ls_record.specs.Records.{Item, LiveSlot, change, shape_in, history_of, joined_slot, is_of, is_used}
+use Rattle.ls_record.specs.Records.{Item, LiveSlot, change, shape_in, fields_in, history_of, joined_slot, is_of, is_used}
 use Rattle.ls_record.proofs.Asking.{AsksApart}
-use Rattle.ls_seated.specs.Seats.{SeatSeen, IsAt}
+use Rattle.ls_seated.specs.Seats.{SeatSeen, IsAt, first_cursor}
+use Rattle.ls_seated.proofs.Tied.{at_plan}
 use Rattle.ls_told.specs.Joining.{joins_as, AreJoined}
+use Rattle.ls_told.specs.Requests.{IsBegunFor, AreBegunFor}
+use Rattle.ls_told.specs.Slots.{IsSettled, AreSettled}
 use Rattle.ls_told.specs.Seen.{Watched, seen_of, items_seen, IsWatched, showing, SeesMore}
 use Rattle.ls_told.proofs.Watching.{shape_seen, history_seen, seen_other, seen_first, seen_still, watched_more, sees_changed, sees_appended}
 use Rattle.ls_live_session.specs.Speaking.{SubSeen}
 use Rattle.ls_live_session.specs.Lives.{HasNothing, IsSeatOf, HasSeat}
-use Rattle.ls_live_session.specs.Adding.{SitsAs, AreSitting, NoneBefore}
+use Rattle.ls_live_session.specs.Adding.{SitsAs, AreSitting, NoneBefore, slot_begun}
 
 -- the slot that joins is by what was seen of its item
 pub slot_seen : (config : List ItemDef) (ws : List Watched) (a : Ask) → a.item < length config
@@ -52,9 +59,11 @@ sits_same config old new sub rank a t declared more same s =
             shape = s.of.shape;
             at = subst (λ (h : List Entry). IsAt (shape_in config a.item) h t.plan t.list (joined_slot (items_seen config old) a)) (sym same) s.of.at;
             last = s.of.last;
+            cursor = s.of.cursor;
             quiet = λ q. subst (λ (h : List Entry). HasNothing h (joined_slot (items_seen config old) a)) (sym same) (s.of.quiet q);
           });
       watched = watched_more old new more a.item s.watched;
+      asked = s.asked;
     }
 
 -- one watch more
@@ -67,6 +76,15 @@ sitting_watched config ws w sub rank (a ∷ asks) (t ∷ ts) declared s = (
       (seen_still ws (w ∷ []) a.item s.0.watched.0 s.0.watched.1 s.0.watched.2 s.0.watched.3) s.0,
   sitting_watched config ws w sub (rank + 1) asks ts declared.1 s.1,
 )
+
+-- the cursor with which a slot joins
+cursor_joined : (m : Mode) (p : Plan) (h : List Entry) (o : Option ℕ) → (joined_in m p h o).cursor ≡ first_cursor m p.base o
+cursor_joined mode.Merge p h o = refl
+cursor_joined mode.Raw p h o = refl
+cursor_joined mode.Distinct p h None = refl
+cursor_joined mode.Distinct p h (Some n) = refl
+cursor_joined mode.Command p h None = refl
+cursor_joined mode.Command p h (Some n) = refl
 
 -- a seat more, of the item of a watch of which the whole history was seen then
 pub record NextSits (config : List ItemDef) (ws : List Watched) (k : ℕ) (w : Watched) (h : List Entry) (sub rank : ℕ) (q : Ask) (t : SeatSeen)
@@ -81,6 +99,8 @@ pub record NextSits (config : List ItemDef) (ws : List Watched) (k : ℕ) (w : W
   pub at : IsAt (shape_in config q.item) h t.plan t.list (joined (plan_of (shape_in config q.item) h q.mode q.size) h q.wanted.snapshot)
   pub last : t.last ≡ length h
   pub quiet : t.quiet ≡ false
+  pub asked : rows_asked t.plan.snapshot ≡ q.wanted.snapshot
+  pub cursor : t.cursor ≡ first_cursor q.mode (length h) q.wanted.snapshot
 
 sits_next : (config : List ItemDef) (ws : List Watched) (k : ℕ) (w : Watched) (h : List Entry) (sub rank : ℕ) (q : Ask) (t : SeatSeen)
     → q.item < length config → NextSits config ws k w h sub rank q t → SitsAs config (change k (showing h) ws) sub rank q t
@@ -102,9 +122,12 @@ sits_next config ws k w h sub rank q t declared n =
             (subst (λ (s : Slot). IsAt (shape_in config q.item) h t.plan t.list s) (sym same) n.at);
         last = n.last ∙ sym (joined_last q.mode (plan_of (shape_in config q.item) h q.mode q.size) h q.wanted.snapshot)
             ∙ sym (ap (λ (s : Slot). s.last) same);
+        cursor = n.cursor ∙ sym (cursor_joined q.mode (plan_of (shape_in config q.item) h q.mode q.size) h q.wanted.snapshot)
+            ∙ sym (ap (λ (s : Slot). s.cursor) same);
         quiet = λ q. absurd (let x : true ≡ false = sym q ∙ n.quiet in cc);
       };
       watched = (k, showing h w, still ws k n.there, n.item);
+      asked = n.asked;
     }
   where
     still : (ws : List Watched) (k : ℕ) → slice_get ws k ≡ Some w → slice_get (change k (showing h) ws) k ≡ Some (showing h w)
@@ -167,6 +190,70 @@ sitters_numbers items sub rank (a ∷ asks) [] all = absurd (omega (arith, all))
 sitters_numbers items sub rank [] (t ∷ ts) all = absurd (omega (arith, all))
 sitters_numbers items sub rank (a ∷ asks) (t ∷ ts) all =
     ap (λ (ns : List ℕ). t.number ∷ ns) (sitters_numbers items sub (rank + 1) asks ts (omega (arith, all)))
+
+-- they are what is told of their seats as their subscription begins
+settled_as : (config : List ItemDef) (ws : List Watched) (sub rank : ℕ) (a : Ask) (t : SeatSeen) (schema : List (List ℕ))
+    → a.wanted.places ≡ places_among (fields_in config a.item) schema → SitsAs config ws sub rank a t
+    → IsSettled config schema (slot_begun t) (joins_as (items_seen config ws) sub rank a t.number)
+settled_as config ws sub rank a t schema places s =
+    record {
+      item = sym s.of.item;
+      places = places;
+      snapshot = sym s.asked;
+      plan = at_plan (shape_in config a.item) (seen_of ws a.item) t.plan t.list (joined_slot (items_seen config ws) a) s.of.at;
+    }
+
+pub settled_sitters : (config : List ItemDef) (ws : List Watched) (sub rank : ℕ) (asks : List Ask) (ts : List SeatSeen) (schema : List (List ℕ))
+    → Each (λ (a : Ask). a.wanted.places ≡ places_among (fields_in config a.item) schema) asks → AreSitting config ws sub rank asks ts
+    → AreSettled config schema (map slot_begun ts) (sitters (items_seen config ws) sub rank asks ts)
+settled_sitters config ws sub rank asks [] schema places s = tt
+settled_sitters config ws sub rank [] (t ∷ ts) schema places s = absurd s
+settled_sitters config ws sub rank (a ∷ asks) (t ∷ ts) schema places s =
+    (settled_as config ws sub rank a t schema places.0 s.0, settled_sitters config ws sub (rank + 1) asks ts schema places.1 s.1)
+
+pub asks_places : (config : List ItemDef) (a : Add) (ns : List ℕ)
+    → Each (λ (q : Ask). q.wanted.places ≡ places_among (fields_in config q.item) a.schema)
+    (map (λ (n : ℕ). ask_of a n (places_among (fields_in config n) a.schema)) ns)
+asks_places config a [] = tt
+asks_places config a (n ∷ ns) = (refl, asks_places config a ns)
+
+-- and that is what was asked for
+begun_for : (config : List ItemDef) (ws : List Watched) (sub rank : ℕ) (a : Ask) (t : SeatSeen) → a.item < length config
+    → SitsAs config ws sub rank a t → IsBegunFor ws a (slot_begun t)
+begun_for config ws sub rank a t declared s =
+    let h : List Entry = seen_of ws a.item in
+    let slot : Slot = joined_slot (items_seen config ws) a in
+    let asked : slot.plan ≡ plan_of (shape_in config a.item) h a.mode a.size =
+    ap (λ (x : Slot). x.plan) (slot_seen config ws a declared)
+    ∙ joined_plan a.mode (plan_of (shape_in config a.item) h a.mode a.size) h a.wanted.snapshot in
+    let kept = at_plan (shape_in config a.item) h t.plan t.list slot s.of.at in
+    record {
+      item = s.of.item;
+      mode = sym (ap (λ (p : Plan). p.mode) kept) ∙ ap (λ (p : Plan). p.mode) asked;
+      size = sym (ap (λ (p : Plan). p.size) kept) ∙ ap (λ (p : Plan). p.size) asked;
+      snapshot = s.asked;
+      base = s.of.at.based;
+    }
+
+pub begun_sitters : (config : List ItemDef) (ws : List Watched) (sub rank : ℕ) (asks : List Ask) (ts : List SeatSeen)
+    → Each (λ (a : Ask). a.item < length config) asks → length ts ≡ length asks → AreSitting config ws sub rank asks ts
+    → AreBegunFor ws asks (map slot_begun ts)
+begun_sitters config ws sub rank [] [] declared all s = tt
+begun_sitters config ws sub rank (a ∷ asks) [] declared all s = absurd (omega (arith, all))
+begun_sitters config ws sub rank [] (t ∷ ts) declared all s = absurd s
+begun_sitters config ws sub rank (a ∷ asks) (t ∷ ts) declared all s =
+    (begun_for config ws sub rank a t declared.0 s.0, begun_sitters config ws sub (rank + 1) asks ts declared.1 (omega (arith, all)) s.1)
+
+-- what is told of one seat more
+pub slots_next : (ts : List SeatSeen) (i : ℕ) (t : SeatSeen) → slice_get ts i ≡ Some t
+    → map slot_begun (take (i + 1) ts) ≡ map slot_begun (take i ts) ++ slot_begun t ∷ []
+slots_next ts i t is = ap (λ (n : ℕ). map slot_begun (take n ts)) {x = i + 1} {y = suc i} (omega arith) ∙ next ts i is
+  where
+    next : (ts : List SeatSeen) (i : ℕ) → slice_get ts i ≡ Some t
+        → map slot_begun (take (suc i) ts) ≡ map slot_begun (take i ts) ++ slot_begun t ∷ []
+    next [] i is = absurd (let x : None ≡ Some t = is in cc)
+    next (x ∷ ts) zero is = let same : x ≡ t = cc in ap (λ (y : SeatSeen). slot_begun y ∷ []) same
+    next (x ∷ ts) (suc i) is = ap (λ l. slot_begun x ∷ l) (next ts i is)
 
 -- each of them has its seat, in a group of seats at the end of the others
 last_group : (subs : List SubSeen) (g : SubSeen) → slice_get (subs ++ g ∷ []) (length subs) ≡ Some g

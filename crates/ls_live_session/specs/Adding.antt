@@ -1,6 +1,6 @@
 -- A session to which a subscription is added, while its slots join their items one after another (TLCP 2.1, control with
 -- LS_op add).
-use Rattle.std.specs.Prelude.{◌≡◌, ◌<◌, ◌⊎◌, ℕ, ◌+◌, ◌||◌, List, [], ◌∷◌, ◌++◌, length, map, Bool, false, Option, None, Some}
+use Rattle.std.specs.Prelude.{◌≡◌, ◌≤◌, ◌<◌, ◌⊎◌, ℕ, ◌+◌, ◌||◌, List, [], ◌∷◌, ◌++◌, length, map, Bool, false, Option, None, Some}
 use Rattle.std.specs.Prelude.{slice_get}
 use mathlib.Core.List.{IsPrefix}
 use Rattle.ls_value.specs.Each.{Each}
@@ -15,9 +15,11 @@ use Rattle.ls_record.specs.Cutting.{Ask}
 use Rattle.ls_record.specs.Lines.{Begins, Configures, line_text}
 use Rattle.ls_record.specs.Records.{Session, frequency_of, are_filtered, change, shape_in}
 use Rattle.ls_live.specs.Live.{HeldItem, IsWatchOf}
+use Rattle.ls_register.specs.Begun.{BegunSeen}
 use Rattle.ls_register.specs.Places.{Placed}
+use Rattle.ls_register.specs.declared.begun.SlotBegun.{SlotBegun}
 use Rattle.ls_register.specs.declared.told.Told.{Told}
-use Rattle.ls_seated.specs.Seats.{SeatSeen, IsAt}
+use Rattle.ls_seated.specs.Seats.{SeatSeen, IsAt, planned_at, first_cursor}
 use Rattle.ls_subs.specs.declared.plan.AddPlan.{AddPlan}
 use Rattle.ls_subs.specs.declared.plan.PlanItem.{PlanItem}
 use Rattle.ls_subs.specs.Plans.{IsPlan, MayJoin, keys_of_asks}
@@ -27,7 +29,7 @@ use Rattle.ls_session.specs.declared.session.Session.{Session as Kept}
 use Rattle.ls_told.specs.Joining.{joins_as}
 use Rattle.ls_told.specs.Seen.{Watched, items_seen, IsWatched, FitsWatch, showing}
 use Rattle.ls_told.specs.Keeping.{KeepsTold}
-use Rattle.ls_told.specs.Requests.{op_code, is_spent, plain, slots_in, AreAsked}
+use Rattle.ls_told.specs.Requests.{op_code, is_spent, plain, begins_with, slots_in, AreAsked, AreBegunFor}
 use Rattle.ls_live_session.specs.Speaking.{SubSeen}
 use Rattle.ls_live_session.specs.Lives.{IsSeatOf, LivesAs}
 
@@ -52,12 +54,15 @@ pub record FindsAdd (config : List ItemDef) (number : ℕ) (es : List Told) (ws 
   pub told : KeepsTold config number es ws session
   pub code_is : op_code config free (is_spent es || spent) session (op.Add a) ≡ code
 
--- a subscription was added at a tick: nothing stood against it, SUBOK or SUBCMD and CONF were numbered, and it has a slot
--- for each item that it asks for
+-- a subscription was added at a tick: nothing stood against it, SUBOK or SUBCMD and CONF were numbered, and it began with a
+-- slot for each item that it asks for
 pub record AddsTo (config : List ItemDef) (number : ℕ) (a : Add) (free tick : ℕ) (before es : List Told) (ws : List Watched) : Type 0 where
+  pub begun : BegunSeen
+  pub schema : begun.schema ≡ a.schema
+  pub begins : AreBegunFor ws (asks_of config a) begun.slots
   pub lines : es
       ≡ before
-      ++ plain (line_text [] (Begins a.sub (length (asks_of config a)) (length a.schema) (keys_of_asks config (asks_of config a)))) tick
+      ++ begins_with (line_text [] (Begins a.sub (length (asks_of config a)) (length a.schema) (keys_of_asks config (asks_of config a)))) begun tick
       ∷ plain (line_text [] (Configures a.sub (frequency_of (asks_of config a)) (are_filtered (asks_of config a)))) tick
       ∷ []
   pub earlier : Session
@@ -71,6 +76,7 @@ pub record AddsTo (config : List ItemDef) (number : ℕ) (a : Add) (free tick : 
 pub record SitsAs (config : List ItemDef) (ws : List Watched) (sub rank : ℕ) (a : Ask) (t : SeatSeen) : Type 0 where
   pub of : IsSeatOf config ws t (joins_as (items_seen config ws) sub rank a t.number)
   pub watched : IsWatched ws a.item
+  pub asked : rows_asked t.plan.snapshot ≡ a.wanted.snapshot
 
 -- so are seats, of the first ones that are asked for, in order
 abbrev pub AreSitting : List ItemDef → List Watched → ℕ → ℕ → List Ask → List SeatSeen → Type 0
@@ -78,6 +84,19 @@ AreSitting config ws sub rank asks [] = Unit {0}
 AreSitting config ws sub rank [] (t ∷ ts) = ⊥
 AreSitting config ws sub rank (a ∷ asks) (t ∷ ts) =
     SitsAs config ws sub rank a t × AreSitting config ws sub (rank + 1) asks ts
+
+-- what is told of the slot of a seat as its subscription begins
+abbrev pub slot_begun : SeatSeen → SlotBegun
+slot_begun t =
+    record { item = t.item; mode = t.plan.mode; size = t.plan.size; snapshot = t.plan.snapshot; base = t.plan.base }
+
+-- what the line is to say with which a subscription of so many items begins: its schema is there, none of its slots is, and
+-- there is room for them
+pub record MayBegin (a : Add) (items : ℕ) (schema : List (List ℕ)) (slots : List SlotBegun) (count room : ℕ) : Type 0 where
+  pub schema_is : schema ≡ a.schema
+  pub none : slots ≡ []
+  pub empty : count ≡ 0
+  pub enough : items ≤ room
 
 -- what is kept while the slots of a subscription join is right: the session stands for a record to which the subscription
 -- may be added, as a plan says that the session is ready for, and the seats are of the slots that have joined
@@ -122,6 +141,8 @@ pub record JoinsNow (config : List ItemDef) (old new : List Watched) (k sub rank
   pub list : t.list ≡ []
   pub last : t.last ≡ length i.history
   pub quiet : t.quiet ≡ false
+  pub plan : t.plan ≡ planned_at p.mode p.n p.snapshot (length i.history)
+  pub cursor : t.cursor ≡ first_cursor p.mode (length i.history) (rows_asked p.snapshot)
   pub at : IsAt i.shape i.history t.plan []
       (joined (plan_of i.shape i.history p.mode p.n) i.history (rows_asked p.snapshot))
 

@@ -42,6 +42,7 @@ pub record IsSeatOf (config : List ItemDef) (ws : List Watched) (t : SeatSeen) (
   pub shape : v.slot.plan.shape ≡ shape_in config v.item
   pub at : IsAt (shape_in config v.item) (seen_of ws v.item) t.plan t.list v.slot
   pub last : t.last ≡ v.slot.last
+  pub cursor : t.cursor ≡ v.slot.cursor
   pub quiet : t.quiet ≡ true → HasNothing (seen_of ws v.item) v.slot
 
 -- behind a place no group is of a subscription

@@ -1,5 +1,6 @@
 -- What a caller has seen of a session (this project's profile).
-use Rattle.std.specs.Prelude.{◌≡◌, ◌≤◌, ◌^◌, ℕ, List, length, set, Some, slice_get, IfSome}
+use Rattle.std.specs.Prelude.{◌≡◌, ◌==◌, ◌≤◌, ◌^◌, ◌⊎◌, ℕ, List, length, set, false, Some, slice_get, IfSome}
+use Rattle.std.specs.Option.{option_map_or}
 use mathlib.Core.List.{IsPrefix}
 use Rattle.ls_event.specs.declared.event.Entry.{Entry}
 use Rattle.ls_event.specs.declared.item.ItemDef.{ItemDef}
@@ -65,12 +66,24 @@ pub record AgreeAt (i : ℕ) (ws vs xs ys : List Watched) : Type 0 where
   pub more : (w : Watched) → slice_get ws i ≡ Some w → SeesOn w both
   pub other : (v : Watched) → slice_get vs i ≡ Some v → SeesOn v both
 
+-- a watch then has the longer of what it had seen and what a pass has, where both are of one item; else it stays
+pub record MeetsPass (p : Pass) (w v : Watched) : Type 0 where
+  pub sees : SeesOn w v
+  pub one : (v.list ≡ w.list) ⊎ (v.list ≡ p.list)
+  pub other : option_map_or (λ (q : Placed). w.at == q.at) p.place false ≡ false → v ≡ w
+
+-- so does each of them
+pub record MeetEach (p : Pass) (ws xs : List Watched) : Type 0 where
+  pub count : length xs ≡ length ws
+  pub each : (k : ℕ) (w v : Watched) → slice_get ws k ≡ Some w → slice_get xs k ≡ Some v → MeetsPass p w v
+
 -- the watch at a place has then seen what a pass has, where both are of one item, and the others stay
 pub record MeetsAt (i : ℕ) (ws xs : List Watched) (p : Pass) : Type 0 where
   pub met : Watched
   pub is : xs ≡ set ws i met
   pub more : (w : Watched) → slice_get ws i ≡ Some w → SeesOn w met
   pub has : IfSome p.place (λ q. met.at ≡ q.at → IsPrefix p.list met.list)
+  pub meets : (w : Watched) → slice_get ws i ≡ Some w → MeetsPass p w met
 
 -- what was seen by the watch at a place is a history of its item
 abbrev pub FitsAt : List ItemDef → ℕ → List Watched → Type 0

@@ -2,11 +2,13 @@
 use Rattle.std.specs.Prelude.{◌≡◌, ◌≤◌, ◌-◌, ℕ, List, [], ◌∷◌, ◌++◌, length, Bool, true, false, Option, None, Some, is_some, slice_get, slice_set}
 use Rattle.ls_event.specs.declared.event.Entry.{Entry}
 use Rattle.ls_event.specs.declared.event.Taken.{Taken}
+use Rattle.ls_event.specs.declared.event.Taken.TheVariants as taken
 use Rattle.ls_event.specs.declared.item.ItemDef.{ItemDef}
 use Rattle.ls_event.specs.Cuts.{cut, is_pending}
 use Rattle.ls_event.specs.Publishes.{IsHistory}
 use Rattle.ls_event.specs.Slots.{Slot}
 use Rattle.ls_lawful.proofs.SmallSteps.{moved_at}
+use Rattle.ls_record.specs.Came.{Came}
 use Rattle.ls_record.specs.Lines.{text_at}
 use Rattle.ls_record.specs.Records.{LiveSlot, on_board, shape_in}
 use Rattle.ls_register.specs.declared.told.Told.{Told}
@@ -78,6 +80,28 @@ pub record SeatAt (subs : List SubSeen) (k : ℕ) (slot : SlotRef) : Type 0 wher
 abbrev pub seat_set : SubSeen → ℕ → SeatSeen → SubSeen
 seat_set g rank u = record g { seats = slice_set g.seats (rank - 1) u }
 
+-- the number up to which a cut tells, where the slot told up to this one
+abbrev pub told_to : ℕ → Taken → ℕ
+told_to cursor (taken.Row row upto) = upto
+told_to cursor (taken.Lost count upto) = upto
+told_to cursor (taken.Change cells upto) = upto
+told_to cursor (taken.Key key row upto) = upto
+told_to cursor (taken.Cleared upto) = upto
+told_to cursor taken.EndOfSnapshot = cursor
+
+-- that up to which the slot told then: a key of mode COMMAND leaves it
+abbrev pub cursor_after : ℕ → Taken → ℕ
+cursor_after cursor (taken.Row row upto) = upto
+cursor_after cursor (taken.Lost count upto) = upto
+cursor_after cursor (taken.Change cells upto) = upto
+cursor_after cursor (taken.Key key row upto) = cursor
+cursor_after cursor (taken.Cleared upto) = upto
+cursor_after cursor taken.EndOfSnapshot = cursor
+
+-- a seat after a cut with so many events enqueued
+abbrev pub seat_after : SeatSeen → ℕ → Taken → SeatSeen
+seat_after t n c = record t { list = t.list ++ n ∷ []; quiet = false; cursor = cursor_after t.cursor c }
+
 -- an item is that of a slot: it has the other side of the slot's seat, and the first watch of that item is of it
 pub record IsFound (config : List ItemDef) (ws : List Watched) (subs : List SubSeen) (seats watch : ℕ) (slot : SlotRef)
     (i : SeatedItem) : Type 0 where
@@ -109,8 +133,9 @@ pub record IsWhole (config : List ItemDef) (ws : List Watched) (q : Question) (i
 -- a line was numbered: the history has an entry of it, and its text is that of the last line
 pub record TellsLine (before es : List Told) (sub rank tick : ℕ) (after : Record) : Type 0 where
   pub line : NumberedLine
+  pub came : Came
   pub lines : es ≡ before ++ Numbered line ∷ []
-  pub of : TellsOf line sub rank tick
+  pub of : TellsOf line sub rank tick came
   pub text : line.text ≡ text_at after.session.board.lines (length after.session.board.lines)
 
 -- a slot that has every event of its item, whose history this is, was asked, and what it had to tell was answered: a line

@@ -31,7 +31,7 @@ ghost use Rattle.ls_told.specs.Requests.{op_code};
 ghost use Rattle.ls_live_session.specs.Speaking.{SubSeen};
 ghost use Rattle.ls_live_session.specs.Lives.{Lives};
 ghost use Rattle.ls_live_session.specs.Sights.{AreOneItems};
-ghost use Rattle.ls_live_session.specs.Adding.{AddingSeen, FindsAdd, AddsTo, IsAdding, NoneBefore, IsFirst, AddsWatch, JoinsNow, JoinsOne, JoinsNone};
+ghost use Rattle.ls_live_session.specs.Adding.{AddingSeen, FindsAdd, AddsTo, IsAdding, slot_begun, NoneBefore, IsFirst, AddsWatch, JoinsNow, JoinsOne, JoinsNone};
 
 use crate::history::no_cut;
 use crate::live::LiveSession;
@@ -41,11 +41,11 @@ use ls_bell::Bell;
 use ls_chron::Chron;
 use ls_config::Config;
 use ls_live::Watch;
-use ls_register::{Book, House, Made};
+use ls_register::{Begun, Book, House, Made, SlotBegun};
 use ls_request::Add;
 use ls_seated::{JoinRefused, Seat, Seated};
 use ls_subs::{AddPlan, PlanItem, Refusal};
-use ls_value::NoMemory;
+use ls_value::{Names, NoMemory};
 use std::alloc::Global;
 use std::marker::Model;
 use std::sync::Arc;
@@ -58,6 +58,8 @@ pub struct Adding<'a, N: House> {
     free: u32,
     parts: SessionParts<N>,
     plan: AddPlan,
+    schema: Names,
+    slots: Vec<SlotBegun>,
     seats: Vec<Seat<N>>,
     numbers: Vec<u32>,
 }
@@ -85,12 +87,22 @@ impl<'a, N: House> Model for Adding<'a, N> {
     ghost use Rattle.std.specs.Vec.{vec_len, vec_capacity};
     ghost use Rattle.ls_session.specs.Record.{Record};
     ghost use Rattle.ls_live_session.specs.Lives.{ShowsIt};
-    ghost use Rattle.ls_live_session.specs.Adding.{IsAdding};
+    ghost use Rattle.ls_live_session.specs.Adding.{IsAdding, MayBegin};
 
     ghost invariant = { λ d. ((r : Record) × IsAdding N.deed.config d.parts.number d.parts.history.list
         d.parts.watches.items d.parts.subs.items d.parts.session d.add.now d.free d.plan d.seats.items d.numbers.items r)
         × IfSome d.parts.place (λ p. ShowsIt p d.parts.number d.parts.history.table)
-        × (vec_len d.parts.subs + 1 ≤ vec_capacity d.parts.subs) };
+        × (vec_len d.parts.subs + 1 ≤ vec_capacity d.parts.subs)
+        × MayBegin d.add.now (length d.plan.items.items) d.schema d.slots.items (vec_len d.slots) (vec_capacity d.slots) };
+}
+
+/// What is prepared for an add: its plan, and what the line with which its subscription begins is to say, without the
+/// slots, for which there is room.
+#[derive(Drop)]
+struct Prepared {
+    plan: AddPlan,
+    schema: Names,
+    slots: Vec<SlotBegun>,
 }
 
 /// A session to which a subscription can't be added, and why.
@@ -139,14 +151,21 @@ impl<N: House> LiveSession<N> {
         ensures same { IfErr result (λ e. e.session ≡ self) }
     {
         let LiveSession { mut parts } = self;
-        match plan_in(&mut parts, add, config, free, spent) {
-            Ok(plan) => {
+        match prepare_in(&mut parts, add, config, free, spent) {
+            Ok(prepared) => {
                 let alloc = parts.alloc;
+                let Prepared {
+                    plan,
+                    schema,
+                    slots,
+                } = prepared;
                 Ok(Adding {
                     add,
                     free,
                     parts,
                     plan,
+                    schema,
+                    slots,
                     seats: Vec::new(alloc),
                     numbers: Vec::new(alloc),
                 })
@@ -195,12 +214,11 @@ impl<'a, N: House> Adding<'a, N> {
             × (book.new ≡ book.old ++ SlotMade item.old.item.item number table ∷ [])) }
     {
         let Adding {
-            add: _,
-            free: _,
             parts,
             plan,
             seats,
             numbers,
+            ..
         } = self;
         join_next(parts, plan, seats, numbers, register, item, book)
     }
@@ -242,10 +260,12 @@ impl<'a, N: House> Adding<'a, N> {
             free: _,
             mut parts,
             plan,
+            schema,
+            slots,
             seats,
             numbers,
         } = self;
-        finish_in(&mut parts, plan, seats, &numbers, now);
+        finish_in(&mut parts, plan, schema, slots, seats, &numbers, now);
         LiveSession { parts }
     }
 
@@ -266,6 +286,8 @@ impl<'a, N: House> Adding<'a, N> {
             free: _,
             parts,
             plan,
+            schema: _,
+            slots: _,
             seats,
             numbers: _,
         } = self;
@@ -276,6 +298,50 @@ impl<'a, N: House> Adding<'a, N> {
                 seats,
             },
         }
+    }
+}
+
+/// A plan for the subscription that an add asks for, room for its seats, and what the line with which it begins is to say.
+fn prepare_in<N: House>(
+    parts: &mut SessionParts<N>,
+    add: &Add,
+    config: &Config,
+    free: u32,
+    spent: bool,
+) -> Result<Prepared, Refusal>
+    requires fits { AddFits add.now }
+    requires config { config.now.items ≡ N.deed.config }
+    ensures rest { parts.new ≡ record parts.old { session = parts.new.session; subs = parts.new.subs } }
+    ensures subs { parts.new.subs.items ≡ parts.old.subs.items }
+    ensures room { OnOk result (vec_len parts.new.subs + 1 ≤ vec_capacity parts.new.subs) }
+    ensures plan { IfOk result (λ p. IsPlan N.deed.config add.now p.plan) }
+    ensures join { IfOk result (λ p. Each (MayJoin N.deed.config) p.plan.items.items) }
+    ensures ready { IfOk result (λ p. IsReady parts.new.session p.plan) }
+    ensures schema { IfOk result (λ p. p.schema ≡ add.now.schema) }
+    ensures none { IfOk result (λ p. (p.slots.items ≡ []) × (vec_len p.slots ≡ 0)) }
+    ensures enough { IfOk result (λ p. length p.plan.items.items ≤ vec_capacity p.slots) }
+    ensures accepted { OnOk result ((r : Record) → StandsSession parts.old.session r
+        → adding_code N.deed.config free r.session add.now ≡ None) }
+    ensures left { OnOk result ((is_spent parts.old.history.list ≡ false) × (spent ≡ false)) }
+    ensures refused { (code : ℕ) → IsErrOf result (Refusal.Code code) → (r : Record) → StandsSession parts.old.session r
+        → op_code N.deed.config free (is_spent parts.old.history.list || spent) r.session (op.Add add.now) ≡ Some code }
+    ensures same { (r : Record) → StandsSession parts.old.session r → StandsSession parts.new.session r }
+{
+    match plan_in(parts, add, config, free, spent) {
+        Ok(plan) => {
+            let Ok(schema) = add.schema.copy(parts.alloc) else {
+                return Err(Refusal::NoMemory);
+            };
+            let Ok(slots) = Vec::with_capacity(parts.alloc, plan.items.len()) else {
+                return Err(Refusal::NoMemory);
+            };
+            Ok(Prepared {
+                plan,
+                schema,
+                slots,
+            })
+        }
+        Err(cause) => Err(cause),
     }
 }
 
@@ -536,10 +602,49 @@ fn make_room<N: House>(
     Ok(bell)
 }
 
+/// With what a subscription begins that has these seats. There is room for its slots.
+fn begun_by<N: House>(schema: Names, slots: Vec<SlotBegun>, seats: &Vec<Seat<N>>) -> Begun
+    requires none { (slots.items ≡ []) × (vec_len slots ≡ 0) }
+    requires room { length seats.now.items ≤ vec_capacity slots }
+    ensures { result ≡ record { schema = schema; slots = map slot_begun seats.now.items } }
+{
+    let mut slots = slots;
+    push_slots(&mut slots, seats);
+    Begun::new(schema, slots)
+}
+
+/// Adds what is told of the slot of each seat. There is room for them.
+fn push_slots<N: House>(slots: &mut Vec<SlotBegun>, seats: &Vec<Seat<N>>)
+    requires none { (slots.old.items ≡ []) × (vec_len slots.old ≡ 0) }
+    requires room { length seats.now.items ≤ vec_capacity slots.old }
+    ensures { slots.new.items ≡ map slot_begun seats.now.items }
+{
+    for i in 0..seats.len() {
+        let seat = &seats[i];
+        slots.push_reserved(slot_of(seat));
+    }
+}
+
+/// What is told of the slot of a seat as its subscription begins.
+fn slot_of<N: House>(seat: &Seat<N>) -> SlotBegun
+    ensures { result ≡ slot_begun seat.now }
+{
+    let plan = seat.plan();
+    SlotBegun {
+        item: seat.item(),
+        mode: plan.mode,
+        size: plan.size,
+        snapshot: plan.snapshot,
+        base: plan.base,
+    }
+}
+
 /// The subscription of a plan begins at a tick, with its seats.
 fn finish_in<N: House>(
     parts: &mut SessionParts<N>,
     plan: AddPlan,
+    schema: Names,
+    slots: Vec<SlotBegun>,
     seats: Vec<Seat<N>>,
     numbers: &Vec<u32>,
     now: u64,
@@ -547,6 +652,8 @@ fn finish_in<N: House>(
     requires tick { now ≤ GREATEST_TICK }
     requires room { vec_len parts.old.subs + 1 ≤ vec_capacity parts.old.subs }
     requires all { length seats.items ≡ length plan.items.items }
+    requires none { (slots.items ≡ []) × (vec_len slots ≡ 0) }
+    requires enough { length plan.items.items ≤ vec_capacity slots }
     requires adding { (a : Added) × (free : ℕ) × (r : Record) × IsAdding N.deed.config parts.old.number
         parts.old.history.list parts.old.watches.items parts.old.subs.items parts.old.session a free plan seats.items
         numbers.now.items r }
@@ -556,7 +663,7 @@ fn finish_in<N: House>(
       subs = parts.new.subs;
     } }
     ensures table { parts.new.history.table ≡ parts.old.history.table }
-    ensures added { (a : Added) (free : ℕ) (r : Record) → IsAdding N.deed.config parts.old.number parts.old.history.list
+    ensures added { (a : Added) (free : ℕ) (r : Record) → schema ≡ a.schema → IsAdding N.deed.config parts.old.number parts.old.history.list
         parts.old.watches.items parts.old.subs.items parts.old.session a free plan seats.items numbers.now.items r
         → Lives N.deed.config parts.old.number parts.new.history.list parts.old.watches.items parts.new.subs.items
         parts.new.session
@@ -564,9 +671,10 @@ fn finish_in<N: House>(
         parts.new.history.list parts.old.watches.items }
 {
     let tick = parts.history.tick(now);
+    let begun = begun_by(schema, slots, &seats);
     parts
         .history
-        .tell_numbered(plan.begins.as_slice(), no_cut(), tick);
+        .tell_begun(plan.begins.as_slice(), begun, tick);
     parts
         .history
         .tell_numbered(plan.configures.as_slice(), no_cut(), tick);

@@ -51,7 +51,8 @@ impl<N: House> LiveSession<N> {
             → (epoch < newest) × (newest ≡ length (heard self.old.number self.old.lines).streams)
             × (self.new.lines ≡ self.old.lines) }
         ensures not_bound { result ≡ lost.NotBound
-            → IsUnbound self.old.number self.old.lines × (self.new.lines ≡ self.old.lines) }
+            → IsUnbound self.old.number self.old.lines × (self.new.lines ≡ self.old.lines)
+            × (nat_lt epoch (length (heard self.old.number self.old.lines).streams) ≡ false) }
         ensures rest { self.new ≡ record self.old { lines = self.new.lines } }
     {
         self.parts.lose(epoch, now)
@@ -126,7 +127,8 @@ impl<N: House> SessionParts<N> {
             → (epoch < newest) × (newest ≡ length (heard self.old.number self.old.history.list).streams)
             × (self.new.history.list ≡ self.old.history.list) }
         ensures not_bound { result ≡ lost.NotBound
-            → IsUnbound self.old.number self.old.history.list × (self.new.history.list ≡ self.old.history.list) }
+            → IsUnbound self.old.number self.old.history.list × (self.new.history.list ≡ self.old.history.list)
+            × (nat_lt epoch (length (heard self.old.number self.old.history.list).streams) ≡ false) }
         ensures lives { Lives N.deed.config self.old.number self.new.history.list self.old.watches.items
             self.old.subs.items self.new.session }
         ensures table { self.new.history.table ≡ self.old.history.table }

@@ -13,7 +13,7 @@ ghost use Rattle.ls_live_session.specs.Counting.{Counts, GivenIs};
 
 use ls_chron::{Chron, Reader, Sign, Writer};
 use ls_line::LineBuf;
-use ls_register::{Numbered, Told};
+use ls_register::{Begun, Numbered, Told};
 use ls_turns::SlotRef;
 use ls_value::{GREATEST_NUMBER, NoMemory};
 use std::alloc::Global;
@@ -198,6 +198,7 @@ impl History {
             before = cut.before;
             upto = cut.upto;
             at = cut.at;
+            begun = None;
             tick = tick;
           }) ∷ [];
         } }
@@ -208,7 +209,39 @@ impl History {
             counters,
             text,
         } = self;
-        add_numbered(chron, writer, counters, text, line, cut, tick);
+        add_numbered(chron, writer, counters, text, line, cut, None, tick);
+    }
+
+    /// Tells that the line with which a subscription begins was numbered at a tick, and with what it does.
+    pub(crate) fn tell_begun(&mut self, line: &[u8], begun: Begun, tick: u64)
+        requires room { length self.old.list < 2 ^ 61 }
+        requires short { length line.now ≤ LONGEST_TEXT }
+        requires tick { tick ≤ GREATEST_TICK }
+        ensures { self.new ≡ record self.old {
+          list = self.old.list ++ told_is.Numbered (record {
+            text = line.now;
+            slot = None;
+            before = 0;
+            upto = 0;
+            at = 0;
+            begun = Some begun;
+            tick = tick;
+          }) ∷ [];
+        } }
+    {
+        let History {
+            chron,
+            writer,
+            counters,
+            text,
+        } = self;
+        let cut = CutOf {
+            slot: None,
+            before: 0,
+            upto: 0,
+            at: 0,
+        };
+        add_numbered(chron, writer, counters, text, line, cut, Some(begun), tick);
     }
 }
 
@@ -379,6 +412,7 @@ fn add_numbered(
     room: &mut Option<LineBuf>,
     line: &[u8],
     cut: CutOf,
+    begun: Option<Begun>,
     tick: u64,
 )
     requires of { writer.old.table ≡ chron.now }
@@ -394,6 +428,7 @@ fn add_numbered(
       before = cut.before;
       upto = cut.upto;
       at = cut.at;
+      begun = begun;
       tick = tick;
     }) ∷ [] }
     ensures counted { Counts counters.new writer.new.list }
@@ -409,6 +444,7 @@ fn add_numbered(
         before: cut.before,
         upto: cut.upto,
         at: cut.at,
+        begun,
         tick,
     });
     add(chron, writer, counters, &told);

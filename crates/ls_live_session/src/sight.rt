@@ -2,7 +2,7 @@
 ghost use Rattle.std.specs.Prelude.{◌≡◌, ◌≤◌, ◌++◌, ◌∷◌, ◌+◌, [], IfOk, IfSome, IsTrue, OnErr, length};
 ghost use mathlib.Core.List.{IsPrefix};
 ghost use Rattle.ls_told.specs.Seen.{LawfulTold, SeesMore, seen_of};
-ghost use Rattle.ls_live_session.specs.Sights.{IsGiven, GaveAt, SeesOf, AreOneItems};
+ghost use Rattle.ls_live_session.specs.Sights.{IsGiven, GaveAt, SeesOf, MeetEach, AreOneItems};
 
 use crate::watches::{add_copies, all_fit, are_one, count_of, meet_all};
 use ls_bell::Bell;
@@ -158,6 +158,7 @@ impl<N: House> Sight<N> {
         ensures rest { self.new ≡ record self.old { watches = self.new.watches } }
         ensures more { SeesMore self.old.watches self.new.watches }
         ensures has { IfSome pass.old.place (λ p. SeesOf p.at pass.old.list self.new.watches) }
+        ensures each { MeetEach pass.old self.old.watches self.new.watches }
     {
         meet_all(&mut self.watches, register, pass);
         all_fit(&self.watches);

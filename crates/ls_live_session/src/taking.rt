@@ -19,7 +19,7 @@ ghost use Rattle.ls_told.specs.Seen.{SeesMore, seen_of};
 ghost use Rattle.ls_live_session.specs.Speaking.{SubSeen};
 ghost use Rattle.ls_live_session.specs.Leaving.{HasLast};
 ghost use Rattle.ls_live_session.specs.Lives.{LivesAs, HasNothing, NoneBehind};
-ghost use Rattle.ls_live_session.specs.Taking.{IsFound, IsCaught, IsAskedFrom, IsWhole, TakesFrom, Replies, caught_up, asked_now, seat_set};
+ghost use Rattle.ls_live_session.specs.Taking.{IsFound, IsCaught, IsAskedFrom, IsWhole, TakesFrom, Replies, caught_up, asked_now, seat_set, told_to, cursor_after};
 
 use crate::adding::{find_watch, fits};
 use crate::history::CutOf;
@@ -213,7 +213,11 @@ impl<N: House> SubSeats<N> {
             (slot_of item.old.item.shape item.old.item.history t.plan t.list)) }
         ensures item { item.new.item ≡ record item.old.item { cell = item.new.item.cell } }
         ensures moves { (t : SeatSeen) → slice_get self.old.seats (rank - 1) ≡ Some t
-            → self.new ≡ seat_set self.old rank (record t { list = t.list ++ length item.old.item.history ∷ []; quiet = false }) }
+            → self.new ≡ seat_set self.old rank (record t {
+              list = t.list ++ length item.old.item.history ∷ [];
+              quiet = false;
+              cursor = cursor;
+            }) }
     {
         let seat = &mut self.seats[rank as usize - 1];
         item.pass(seat);
@@ -225,19 +229,19 @@ impl<N: House> SubSeats<N> {
     fn cursor_after(&self, rank: u32, taken: &Taken) -> u64
         requires some { 1 ≤ rank }
         requires seat { (t : SeatSeen) × (slice_get self.now.seats (rank - 1) ≡ Some t) }
+        ensures { (t : SeatSeen) → slice_get self.now.seats (rank - 1) ≡ Some t
+            → result ≡ cursor_after t.cursor taken.now }
     {
-        let cursor = self.seats[rank as usize - 1].cursor();
-        match taken {
-            Taken::Key { .. } => cursor,
-            _ => upto(taken, cursor),
-        }
+        moved(taken, self.seats[rank as usize - 1].cursor())
     }
 
     /// What is told of the next cut of a slot, which has every event.
     fn cut_of(&self, slot: SlotRef, taken: &Taken) -> CutOf
         requires some { 1 ≤ slot.place }
         requires seat { (t : SeatSeen) × (slice_get self.now.seats (slot.place - 1) ≡ Some t) }
-        ensures { result.slot ≡ Some slot }
+        ensures slot { result.slot ≡ Some slot }
+        ensures numbers { (t : SeatSeen) → slice_get self.now.seats (slot.place - 1) ≡ Some t
+            → (result.before ≡ t.cursor) × (result.upto ≡ told_to t.cursor taken.now) × (result.at ≡ t.last) }
     {
         let seat = &self.seats[slot.place as usize - 1];
         CutOf {
@@ -543,6 +547,7 @@ impl<N: House> SessionParts<N> {
               before = cut.before;
               upto = cut.upto;
               at = cut.at;
+              begun = None;
               tick = tick;
             }) ∷ [] }
         ensures table { self.new.history.table ≡ self.old.history.table }
@@ -563,12 +568,28 @@ fn is_quiet<N: House>(seat: &Seat<N>, events: u64) -> bool
 }
 
 /// The number up to which a cut tells, where the slot told up to this one.
-fn upto(taken: &Taken, cursor: u64) -> u64 {
+fn upto(taken: &Taken, cursor: u64) -> u64
+    ensures { result ≡ told_to cursor taken.now }
+{
     match taken {
         Taken::Row { upto, .. } => *upto,
         Taken::Lost { upto, .. } => *upto,
         Taken::Change { upto, .. } => *upto,
         Taken::Key { upto, .. } => *upto,
+        Taken::Cleared { upto } => *upto,
+        Taken::EndOfSnapshot => cursor,
+    }
+}
+
+/// The number up to which a slot tells after a cut, where it told up to this one.
+fn moved(taken: &Taken, cursor: u64) -> u64
+    ensures { result ≡ cursor_after cursor taken.now }
+{
+    match taken {
+        Taken::Row { upto, .. } => *upto,
+        Taken::Lost { upto, .. } => *upto,
+        Taken::Change { upto, .. } => *upto,
+        Taken::Key { .. } => cursor,
         Taken::Cleared { upto } => *upto,
         Taken::EndOfSnapshot => cursor,
     }

@@ -3,7 +3,7 @@ ghost use Rattle.std.specs.Prelude.{◌≡◌, ◌≤◌, ◌<◌, [], Some, IfO
 ghost use mathlib.Core.List.{IsPrefix};
 ghost use Rattle.ls_value.specs.Each.{Each};
 ghost use Rattle.ls_told.specs.Seen.{SeesMore, FitsWatch, seen_of};
-ghost use Rattle.ls_live_session.specs.Sights.{AreOneItems, IsOneItem, SeesOf, IsOneAt, AgreeAt, MeetsAt, FitsAt};
+ghost use Rattle.ls_live_session.specs.Sights.{AreOneItems, IsOneItem, SeesOf, IsOneAt, AgreeAt, MeetsAt, MeetEach, FitsAt};
 
 use crate::adding::find_watch;
 use ls_chron::Chron;
@@ -206,6 +206,7 @@ pub(crate) fn meet_all<N: House>(
     ensures same { pass.new ≡ pass.old }
     ensures more { SeesMore watches.old.items watches.new.items }
     ensures has { IfSome pass.old.place (λ p. SeesOf p.at pass.old.list watches.new.items) }
+    ensures each { MeetEach pass.old watches.old.items watches.new.items }
 {
     for i in 0..watches.len() {
         meet_at(watches, register, pass, i);

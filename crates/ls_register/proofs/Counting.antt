@@ -1,6 +1,6 @@
 -- A register that grows: its sessions, the live ones, and the slots that are claimed.
-use Rattle.std.proofs.Common.{◌≡◌, ℕ, zero, suc, ◌+◌, ◌<◌, ◌≤◌, ◌==◌, List, [], ◌∷◌, ◌++◌, length, Bool, true, false, not, ◌||◌, ◌&&◌, cond}
-use Rattle.std.proofs.Common.{refl, sym, ◌∙◌, ap, ap₂, subst, arith, length-append, append-nil, append_assoc}
+use Rattle.std.proofs.Common.{◌≡◌, ℕ, ◌+◌, ◌≤◌, ◌==◌, List, [], ◌∷◌, ◌++◌, length, Bool, true, false, not, ◌||◌, ◌&&◌, cond}
+use Rattle.std.proofs.Common.{refl, sym, ◌∙◌, ap, subst, arith, length-append, append-nil}
 use Rattle.std.specs.List.{filter}
 use Rattle.std.proofs.lemmas.Bool.{eqb-true}
 use Rattle.std.proofs.lemmas.List.Elements.{filter-append}
@@ -11,8 +11,8 @@ use Rattle.ls_event.specs.declared.limits.TheConstants.{MOST_SLOTS}
 use Rattle.ls_register.specs.declared.made.Made.{Made}
 use Rattle.ls_register.specs.declared.made.Made.TheVariants.{Item, Session, Slot, Gone, Claimed, Freed}
 use Rattle.ls_register.specs.Items.{items_of}
-use Rattle.ls_register.specs.Sessions.{sessions_of, is_gone, live_of, is_live, is_among, claims_of, frees_of, claimed_of, free_in, IsCounted}
-use Rattle.ls_register.proofs.Rising.{each_append, each_as, each_first, each_filter, among_above, among_end, among_filtered, same_as, not_same}
+use Rattle.ls_register.specs.Sessions.{sessions_of, is_gone, live_of, is_live, is_among, claims_of, frees_of, claimed_of, IsCounted}
+use Rattle.ls_register.proofs.Rising.{each_append, each_as, each_first, each_filter, among_above, same_as, not_same}
 
 pub sessions_append : (xs ys : List Made) → sessions_of (xs ++ ys) ≡ sessions_of xs ++ sessions_of ys
 sessions_append [] ys = refl

@@ -4,3 +4,4 @@ pub mod Places
 pub mod Items
 pub mod Sessions
 pub mod Watches
+pub mod Begun

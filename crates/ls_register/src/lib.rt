@@ -22,6 +22,7 @@
 //! it was told.
 #![tactic(auto)]
 
+mod begun;
 mod blank;
 mod book;
 mod cross;
@@ -32,10 +33,11 @@ mod rows;
 mod told;
 mod waiting;
 
+pub use begun::SlotBegun;
 pub use blank::{Blank, add_item};
 pub use book::{Book, ClaimRefused, View};
 pub use house::House;
 pub use made::Made;
 pub use place::{Place, one_table};
-pub use told::{Numbered, Told};
+pub use told::{Begun, Numbered, Told};
 pub use waiting::wait_for_good;

@@ -1,7 +1,11 @@
 //! What a session's history tells.
+ghost use Rattle.std.specs.Prelude.{◌≡◌};
 
+use crate::begun::SlotBegun;
 use ls_line::LineBuf;
 use ls_turns::SlotRef;
+use ls_value::Names;
+use std::marker::Model;
 
 /// An entry of a session's history. Ticks are in ms, rates in thousandths of kbit/s, lengths in bytes. A text stands in
 /// room for the longest line, so that a session tells of each line in the room that it has.
@@ -44,7 +48,8 @@ pub enum Told {
 }
 
 /// A line that was numbered: its text without CR LF, and where a cut of a slot made it, the slot, its cursor before and
-/// after the cut, and the number of the event at which its row stands. A line without a slot has 0 in these three.
+/// after the cut, and the number of the event at which its row stands. A line without a slot has 0 in these three. The
+/// line with which a subscription begins also says with what, for contracts alone.
 #[derive(Drop)]
 pub struct Numbered {
     pub text: LineBuf,
@@ -52,5 +57,30 @@ pub struct Numbered {
     pub before: u64,
     pub upto: u64,
     pub at: u64,
+    pub begun: Option<Begun>,
     pub tick: u64,
+}
+
+/// With what a subscription began: the names of its fields, and its slots in the order of its items. Contracts see both.
+#[derive(Drop)]
+pub struct Begun {
+    pub schema: Names,
+    pub slots: Vec<SlotBegun>,
+}
+
+impl Model for Begun {
+    ghost use Rattle.ls_register.specs.Begun.{BegunSeen};
+
+    ghost Value = { BegunSeen };
+
+    ghost view = { λ b. record { schema = b.schema; slots = b.slots.items } };
+}
+
+impl Begun {
+    /// A schema and slots. It takes no memory.
+    pub fn new(schema: Names, slots: Vec<SlotBegun>) -> Begun
+        ensures { result ≡ record { schema = schema; slots = slots.items } }
+    {
+        Begun { schema, slots }
+    }
 }

@@ -128,6 +128,16 @@ after_plan h x (l ∷ ls) = after_plan h (passed_at h l x) ls ∙ by_taken (cut 
     by_taken None = refl
     by_taken (Some t) = passed_plan (record x { last = l }) t
 
+-- the plan of a record is as its slot joined
+abbrev pub plan_with : Shape → Planned → ℕ → Plan
+plan_with p q base = record { mode = q.mode; shape = p; size = q.size; base = base }
+
+pub at_plan : (p : Shape) (h : List Entry) (q : Planned) (list : List ℕ) (s : Slot) → IsAt p h q list s → s.plan ≡ plan_with p q q.base
+at_plan p h q list s a =
+    ap (λ (x : Slot). x.plan) a.slot
+    ∙ (after_plan h (begun p h q) list ∙ begun_plan p h q)
+    ∙ ap (plan_with p q) (length-take-le q.base h a.based)
+
 pub at_reaches : (p : Shape) (h : List Entry) (q : Planned) (list : List ℕ) (s : Slot) → IsAt p h q list s → Reaches h s
 at_reaches p h q list s a =
     let plan = ap (λ (x : Slot). x.plan) a.slot ∙ (after_plan h (begun p h q) list ∙ begun_plan p h q) in

@@ -1,9 +1,10 @@
 -- A slot in two places: the item's side of it and the session's, what each keeps, and the slot's record that follows from
 -- it (this project's profile).
-use Rattle.std.specs.Prelude.{◌≡◌, ℕ, ◌<◌, ◌≤◌, ◌^◌, List, [], ◌∷◌, ◌++◌, length, take, Bool, false, Option, None, Some, IsSome}
+use Rattle.std.specs.Prelude.{◌≡◌, ℕ, ◌-◌, ◌<◌, ◌≤◌, ◌^◌, List, [], ◌∷◌, ◌++◌, length, take, Bool, false, Option, None, Some, IsSome, is_some, if◌then◌else◌}
 use Rattle.atomic_table.specs.Seated.{TableId}
 use Rattle.ls_event.specs.declared.event.Entry.{Entry}
 use Rattle.ls_event.specs.declared.event.Mode.{Mode}
+use Rattle.ls_event.specs.declared.event.Mode.TheVariants as mode
 use Rattle.ls_event.specs.declared.event.Snap.{Snap}
 use Rattle.ls_event.specs.declared.limits.TheConstants.{MOST_SLOTS}
 use Rattle.ls_event.specs.Shapes.{Shape}
@@ -27,7 +28,8 @@ pub record SideSeen : Type 0 where
   pub list : List ℕ
 
 -- the session's side: also which slot it is, by its subscription, its item's rank in it from 0, the item and the slot's
--- number there; the number that was enqueued last as the session knows it, and whether it then had nothing to tell
+-- number there; the number that was enqueued last as the session knows it, whether it then had nothing to tell, and the
+-- number up to which its lines tell of the item
 pub record SeatSeen : Type 0 where
   pub sub : ℕ
   pub rank : ℕ
@@ -38,6 +40,7 @@ pub record SeatSeen : Type 0 where
   pub list : List ℕ
   pub last : ℕ
   pub quiet : Bool
+  pub cursor : ℕ
 
 -- an item with the sides of its slots, by number from 1
 pub record SeatedItem : Type 0 where
@@ -104,6 +107,17 @@ planned_at mode size snapshot base = record { mode = mode; size = size; base = b
 abbrev pub joined_side : SeatSeen → SideSeen
 joined_side t = record { plan = t.plan; table = t.table; list = [] }
 
+-- the number up to which a slot that joins has told of its item: in mode MERGE with a snapshot the item's state is told as
+-- if its last event had come just now
+abbrev pub first_cursor : Mode → ℕ → Option ℕ → ℕ
+first_cursor mode.Merge base asked = if is_some asked then base - 1 else base
+first_cursor mode.Raw base asked = base
+first_cursor mode.Distinct base asked = base
+first_cursor mode.Command base asked = base
+
+abbrev pub joined_cursor : Planned → ℕ
+joined_cursor q = first_cursor q.mode q.base (rows_asked q.snapshot)
+
 -- a seat that joined behind a whole history
 abbrev pub joined_seat : ℕ → ℕ → ℕ → ℕ → Planned → TableId → SeatSeen
 joined_seat sub rank item number q table =
@@ -117,6 +131,7 @@ joined_seat sub rank item number q table =
       list = [];
       last = q.base;
       quiet = false;
+      cursor = joined_cursor q;
     }
 
 -- the item has the other side of a seat: both are of one tie, and the slot joined as the seat says

@@ -1,7 +1,7 @@
 //! The two sides of a slot.
 ghost use Rattle.std.specs.Prelude.{◌≡◌, ◌++◌, ◌∷◌, [], IsTrue};
 ghost use Rattle.ls_register.specs.Items.{ShowsSlot};
-ghost use Rattle.ls_seated.specs.Seats.{IsSlotPlace, joined_seat};
+ghost use Rattle.ls_seated.specs.Seats.{IsSlotPlace, joined_seat, joined_cursor};
 
 use crate::planned::{Planned, are_same};
 use ls_bell::Bell;
@@ -14,7 +14,8 @@ use std::marker::Model;
 use std::sync::Arc;
 
 /// The session's side of a slot. Contracts see which slot it is, how it joined, the table of its tie, the cuts that were
-/// passed, the number that was enqueued last as the session knows it, and whether it had nothing to tell then.
+/// passed, the number that was enqueued last as the session knows it, whether it had nothing to tell then, and the
+/// number up to which its lines tell of the item.
 #[derive(Drop)]
 pub struct Seat<N: House> {
     sub: u32,
@@ -46,6 +47,7 @@ impl<N: House> Model for Seat<N> {
       list = t.side.list;
       last = t.last;
       quiet = t.quiet;
+      cursor = t.cursor;
     } };
 
     ghost invariant = { λ t. ShowsSlot t.place t.item t.number t.side.table };
@@ -162,14 +164,16 @@ impl<N: House> Seat<N> {
         self.quiet = quiet;
     }
 
-    /// The number up to which its lines tell of the item, as far as its cuts were kept here. No contract speaks of it.
-    pub fn cursor(&self) -> u64 {
+    /// The number up to which its lines tell of the item.
+    pub fn cursor(&self) -> u64
+        ensures { result ≡ self.now.cursor }
+    {
         self.cursor
     }
 
     /// Keeps the number up to which its lines tell of the item.
     pub fn keep_cursor(&mut self, cursor: u64)
-        ensures { self.new ≡ self.old }
+        ensures { self.new ≡ record self.old { cursor = cursor } }
     {
         self.cursor = cursor;
     }
@@ -184,11 +188,18 @@ impl<N: House> Seat<N> {
 
 /// The number up to which a slot that joins has told of its item: in mode MERGE with a snapshot the item's state is told
 /// as if its last event had come just now.
-fn first_cursor(plan: Planned) -> u64 {
-    if plan.mode == Mode::Merge && plan.snapshot != Snap::No {
-        plan.base.saturating_sub(1)
-    } else {
-        plan.base
+fn first_cursor(plan: Planned) -> u64
+    ensures { result ≡ joined_cursor plan }
+{
+    match plan.mode {
+        Mode::Merge => match plan.snapshot {
+            Snap::No => plan.base,
+            Snap::All => plan.base.saturating_sub(1),
+            Snap::Last(_) => plan.base.saturating_sub(1),
+        },
+        Mode::Raw => plan.base,
+        Mode::Distinct => plan.base,
+        Mode::Command => plan.base,
     }
 }
 

@@ -13,7 +13,7 @@ ghost use Rattle.ls_cell.specs.Cell.{StandsCell};
 ghost use Rattle.ls_cell.specs.Numbered.{slot_at, live_slots};
 ghost use Rattle.ls_register.specs.declared.made.Made.TheVariants.{Slot as SlotMade};
 ghost use Rattle.ls_live.specs.Live.{IsOf, IsPassFor, IsCause, IsWatchOf, are_one, cause_in, entry_of, whole_pass};
-ghost use Rattle.ls_seated.specs.Seats.{IsSeatOf, IsReady, IsAt, IsJoinCause, slot_of};
+ghost use Rattle.ls_seated.specs.Seats.{IsSeatOf, IsReady, IsAt, IsJoinCause, first_cursor, slot_of};
 
 use crate::joining::{Asked, join_in, leave_in};
 use crate::planned::JoinRefused;
@@ -194,6 +194,7 @@ impl<N: House> Seated<N> {
           list = [];
           last = length self.old.item.history;
           quiet = false;
+          cursor = first_cursor mode (length self.old.item.history) (rows_asked snapshot);
         }) }
         ensures at { IfOk result (λ t. IsAt self.old.item.shape self.old.item.history t.plan []
             (joined (plan_of self.old.item.shape self.old.item.history mode n) self.old.item.history

@@ -15,6 +15,7 @@ use Rattle.ls_record.specs.Acting.{asks_of}
 use Rattle.ls_record.specs.Cases.{first_code}
 use Rattle.ls_record.specs.Cutting.{Ask}
 use Rattle.ls_record.specs.Records.{LiveSlot, is_alive, shape_in}
+use Rattle.ls_register.specs.declared.begun.SlotBegun.{SlotBegun}
 use Rattle.ls_register.specs.declared.made.Made.{Made}
 use Rattle.ls_register.specs.declared.made.Made.TheVariants.{Claimed}
 use Rattle.ls_register.specs.declared.told.Told.{Told}
@@ -22,7 +23,7 @@ use Rattle.ls_register.specs.Sessions.{Gains}
 use Rattle.ls_told.specs.Spoken.{Spoken}
 use Rattle.ls_told.specs.Heard.{heard, counts_as}
 use Rattle.ls_told.specs.Seen.{Watched, Testified, Grows, SeesMore, FitsWatch, IsTold, seen_of}
-use Rattle.ls_told.specs.Requests.{AddsSub, AreAsked, Does, InTime, IsAsked, RefusesOp, free_in, is_spent, is_spent_for, op_code, op_refusals, slots_in}
+use Rattle.ls_told.specs.Requests.{AddsSub, AreAsked, AreBegunFor, Does, InTime, IsAsked, RefusesOp, free_in, is_spent, is_spent_for, op_code, op_refusals, slots_in}
 use Rattle.ls_told.proofs.Watching.{keeps_seen, seen_more, sees_same}
 use Rattle.ls_live_session.specs.Adding.{AddingSeen, AddsTo, FindsAdd}
 use Rattle.ls_live_session.specs.Sights.{ShowsAll}
@@ -92,11 +93,29 @@ all_asked config old new sub rank (a ∷ asks) [] more are = are
 all_asked config old new sub rank (a ∷ asks) (v ∷ vs) more are =
     (asked_longer config old new sub rank a v more are.0, all_asked config old new sub (rank + 1) asks vs more are.1)
 
+begun_longer : (old new : List Watched) (asks : List Ask) (ts : List SlotBegun) → SeesMore old new → AreBegunFor old asks ts → AreBegunFor new asks ts
+begun_longer old new [] [] more are = tt
+begun_longer old new [] (t ∷ ts) more are = are
+begun_longer old new (a ∷ asks) [] more are = are
+begun_longer old new (a ∷ asks) (t ∷ ts) more are = (
+  record {
+    item = are.0.item;
+    mode = are.0.mode;
+    size = are.0.size;
+    snapshot = are.0.snapshot;
+    base = omega (arith, are.0.base, prefix_length (seen_of old a.item) (seen_of new a.item) (seen_more old new more a.item));
+  },
+  begun_longer old new asks ts more are.1,
+)
+
 -- an add that was done stays so where more is seen of the items
 pub adds_more : (config : List ItemDef) (number : ℕ) (a : Add) (free tick : ℕ) (before es : List Told) (old new : List Watched) → SeesMore old new
     → Each (FitsWatch config) new → AddsTo config number a free tick before es old → AddsTo config number a free tick before es new
 adds_more config number a free tick before es old new more fits d =
     record {
+      begun = d.begun;
+      schema = d.schema;
+      begins = begun_longer old new (asks_of config a) d.begun.slots more d.begins;
       lines = d.lines;
       earlier = d.earlier;
       was = keeps_seen config number before old new d.earlier more fits d.was;
@@ -198,6 +217,7 @@ adds_on config a now free live old mid new room more d =
       room = room.room;
       room_then =
           (room.begins, prefix_trans room.room mid.register new.register (Claimed (length (asks_of config a)) ∷ [], sym room.claimed) more);
+      claims = subst (λ (l : List Made). IsPrefix l new.register) room.claimed more;
       earlier = d.earlier;
       was = lawful_of config live.number live.lines new.watches d.earlier d.was;
       none =
@@ -234,6 +254,9 @@ does_add config a now old shown new live named later register in_time c =
       done =
           subst (λ (n : ℕ). AddsSub config n a (counts_as now live.lines) live.lines new old.register) (sym named)
           (record {
+            begun = done.begun;
+            schema = done.schema;
+            begins = done.begins;
             lines = done.lines;
             session = done.session;
             told = done.told;

@@ -43,6 +43,7 @@ told_of config number es ws s k =
       counts = k.counts;
       subs = k.subs;
       numbered = k.numbered;
+      slots = k.slots;
     }
 
 pub told_open : (config : List ItemDef) (number : ℕ) (es : List Told) (ws : List Watched) (s : Session) → KeepsTold config number es ws s
@@ -185,6 +186,9 @@ done_earlier : (config : List ItemDef) (number tick : ℕ) (before : List Told) 
     → DoneBy config number tick before new mid o → DoneBy config number tick before new old o
 done_earlier config number tick before new old mid (op.Add a) begins d =
     record {
+      begun = d.begun;
+      schema = d.schema;
+      begins = d.begins;
       lines = d.lines;
       session = d.session;
       told = d.told;

@@ -1,10 +1,9 @@
 -- What a caller sees more of a session.
-use Rattle.std.proofs.Common.{◌≡◌, ◌⊎◌, ◌+◌, ℕ, List, [], ◌∷◌, ◌++◌, inl, inr, length, Some, slice_get, refl, sym, ap, subst, ◌∙◌, arith, append-nil}
-use Rattle.std.proofs.Common.{Bool, true, false, not, ◌||◌, Option, None, nat_le, nat_lt, is_some, unwrap_or, ◌<◌, ◌≤◌, cond, Result, Ok, Err, IfOk}
+use Rattle.std.proofs.Common.{◌≡◌, ◌+◌, ℕ, List, [], ◌∷◌, ◌++◌, length, Some, slice_get, refl, sym, ap, subst, ◌∙◌, arith}
+use Rattle.std.proofs.Common.{Bool, true, false, not, ◌||◌, Option, None, nat_le, nat_lt, is_some, unwrap_or, ◌<◌, Result, Ok, Err, IfOk}
 use Rattle.std.proofs.lemmas.Grind.{elements}
 use mathlib.Core.List.{IsPrefix}
-use Rattle.ls_chron.proofs.Beginnings.{prefix_self, prefix_trans, prefix_get}
-use Rattle.ls_value.specs.Each.{Each}
+use Rattle.ls_chron.proofs.Beginnings.{prefix_self, prefix_trans}
 use Rattle.ls_event.specs.declared.item.ItemDef.{ItemDef}
 use Rattle.ls_request.specs.declared.request.Bind.{Bind}
 use Rattle.ls_record.specs.Records.{is_alive}
@@ -17,8 +16,8 @@ use Rattle.ls_register.specs.declared.made.Made.{Made}
 use Rattle.ls_register.specs.declared.made.Made.TheVariants.{Session}
 use Rattle.ls_register.specs.declared.told.Told.{Told}
 use Rattle.ls_register.specs.declared.told.Told.TheVariants.{Bound}
-use Rattle.ls_told.specs.Heard.{heard, CountsOn, epoch_of}
-use Rattle.ls_told.specs.Seen.{Watched, Testified, Grows, SeesMore}
+use Rattle.ls_told.specs.Heard.{heard, CountsOn}
+use Rattle.ls_told.specs.Seen.{Testified, Grows}
 use Rattle.ls_told.specs.Requests.{HasBound, Binds}
 use Rattle.ls_record.specs.Cases.{first_code}
 use Rattle.ls_register.specs.declared.told.Told.TheVariants.{Unbound, Ended}
@@ -78,7 +77,7 @@ pub loses : (epoch now number : ℕ) (old new : Testified) (was after : List Tol
     → (r ≡ lost.Unbound → (nat_lt epoch (length (heard number was).streams) ≡ false) × ((heard number was).unbound ≡ None)
     × (after ≡ was ++ Unbound (counts_as now was) ∷ []))
     → ((newest : ℕ) → r ≡ lost.Superseded newest → (epoch < newest) × (newest ≡ length (heard number was).streams) × (after ≡ was))
-    → (r ≡ lost.NotBound → IsUnbound number was × (after ≡ was))
+    → (r ≡ lost.NotBound → IsUnbound number was × (after ≡ was) × (nat_lt epoch (length (heard number was).streams) ≡ false))
     → Loses epoch now old new r
 loses epoch now number old new was after lost.Unbound named begins is counts u s n = let p = u refl in (was, begins, is ∙ p.2)
 loses epoch now number old new was after (lost.Superseded e) named begins is counts u s n =
@@ -89,7 +88,8 @@ loses epoch now number old new was after (lost.Superseded e) named begins is cou
     )
 loses epoch now number old new was after lost.NotBound named begins is counts u s n =
     let p = n refl in
-    subst (λ (q : ℕ × List Told). IsUnbound q.0 q.1) (λ i. (sym named i, sym (is ∙ p.1) i)) p.0
+    subst (λ (q : ℕ × List Told). IsUnbound q.0 q.1 × (nat_lt epoch (length (heard q.0 q.1).streams) ≡ false))
+    (λ i. (sym named i, sym (is ∙ p.1) i)) (p.0, p.2)
 
 -- more of the session's history was seen, and of its items what was seen before
 pub lined : (mid new : Testified) (es : List Told) → new ≡ record mid { lines = es; later = es } → IsPrefix mid.lines es → IsPrefix mid.later es

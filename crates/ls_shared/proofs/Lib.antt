@@ -11,3 +11,4 @@ mod Asking
 mod Taken
 mod Changing
 mod Adds
+mod Operations

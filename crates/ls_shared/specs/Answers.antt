@@ -5,8 +5,8 @@ use Rattle.ls_request.specs.declared.request.Op.TheVariants as op
 use Rattle.ls_record.specs.Acting.{asks_of}
 use Rattle.ls_record.specs.Records.{Session}
 use Rattle.ls_live_session.specs.Lives.{Finds}
-use Rattle.std.specs.Prelude.{◌≡◌, ◌≤◌, ◌<◌, ◌⊎◌, ℕ, List, [], ◌∷◌, ◌++◌, length, Bool, true, false, not, Option, None, Some}
-use Rattle.std.specs.Prelude.{nat_le}
+use Rattle.std.specs.Prelude.{◌≡◌, ◌<◌, ◌⊎◌, ℕ, List, [], ◌∷◌, ◌++◌, length, Bool, true, false, not, Option, None, Some}
+use Rattle.std.specs.Prelude.{nat_le, nat_lt}
 use mathlib.Core.List.{IsPrefix}
 use Rattle.ls_value.specs.Values.{text_eq}
 use Rattle.ls_event.specs.declared.item.ItemDef.{ItemDef}
@@ -25,7 +25,7 @@ use Rattle.ls_session.specs.declared.session.Turn.{Turn}
 use Rattle.ls_session.specs.declared.session.Turn.TheVariants as turn
 use Rattle.ls_live_session.specs.Speaking.{Speaking}
 use Rattle.ls_live_session.specs.Sights.{ShowsAll}
-use Rattle.ls_told.specs.Heard.{counts_as}
+use Rattle.ls_told.specs.Heard.{heard, counts_as}
 use Rattle.ls_told.specs.Seen.{Testified, Grows, IsTold}
 use Rattle.ls_told.specs.Requests.{AddsSub, Binds, DoneBy, HasBound, op_code, is_spent_for}
 pub use Rattle.ls_told.specs.Turns.{GivesLine}
@@ -104,12 +104,13 @@ Turns config epoch now old new text (turn.Superseded e) = (new.mine ≡ old.mine
 Turns config epoch now old new text turn.Unbound = (new.mine ≡ old.mine) × IsUnbound old.number new.lines
 Turns config epoch now old new text turn.Spent = (new.mine ≡ old.mine) × IsSpent old.number new.lines
 
--- a stream was lost, by the longer list: the loss stands last; or there is a newer stream; or none is bound
+-- a stream was lost, by the longer list: the loss stands last; or there is a newer stream; or there is none, and none is bound
 abbrev pub Loses : ℕ → ℕ → Testified → Testified → Lost → Type 0
 Loses epoch now old new lost.Unbound =
     (before : List Told) × IsPrefix old.later before × (new.later ≡ before ++ Unbound (counts_as now before) ∷ [])
 Loses epoch now old new (lost.Superseded e) = (epoch < e) × HasBound e new.later
-Loses epoch now old new lost.NotBound = IsUnbound old.number new.later
+Loses epoch now old new lost.NotBound =
+    IsUnbound old.number new.later × (nat_lt epoch (length (heard old.number new.later).streams) ≡ false)
 
 -- an operation was done to a session that a caller saw all of: nothing stood against it
 pub record Changes (config : List ItemDef) (o : Op) (now : ℕ) (live : Speaking) (old new : Testified) : Type 0 where
@@ -130,6 +131,7 @@ pub record HasRoom (config : List ItemDef) (a : Add) (es : List Told) (free : �
 pub record AddsOn (config : List ItemDef) (a : Add) (now : ℕ) (live : Speaking) (old new : Testified) : Type 0 where
   pub room : List Made
   pub room_then : IsPrefix old.register room × IsPrefix room new.register
+  pub claims : IsPrefix (room ++ Claimed (length (asks_of config a)) ∷ []) new.register
   pub earlier : Session
   pub was : IsTold config live.number live.lines new.watches earlier
   pub none : op_code config (free_in room) (is_spent_for (op.Add a) live.lines room) earlier (op.Add a) ≡ None

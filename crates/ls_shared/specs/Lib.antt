@@ -1,4 +1,5 @@
 pub mod Offers
 pub mod Answers
+pub mod Operations
 pub mod Asking
 pub mod Taking

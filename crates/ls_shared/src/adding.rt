@@ -16,6 +16,7 @@ ghost use Rattle.ls_told.specs.Requests.{Does, RefusesOp};
 ghost use Rattle.ls_live_session.specs.Adding.{AddsTo};
 ghost use Rattle.ls_live_session.specs.Sights.{AreOneItems, ShowsAll};
 ghost use Rattle.ls_shared.specs.Answers.{AddsOn, HasRoom, SeesOn};
+ghost use Rattle.ls_shared.specs.Operations.{AddsNothing, ClaimsRoom};
 
 use crate::shared::Shared;
 use crate::testimony::Held;
@@ -43,10 +44,12 @@ impl<N: House> Shared<N> {
         ensures mine { sight.new.mine ≡ sight.old.mine }
         ensures grows { OnOk result.1 (Grows sight.old sight.new) }
         ensures done { OnOk result.1 (Does N.deed.config (op_is.Add add.now) now sight.old sight.new) }
+        ensures claimed { OnOk result.1 (ClaimsRoom N.deed.config add.now sight.old sight.new) }
         ensures refused { (code : ℕ) → IsErrOf result.1 (Refusal.Code code) → Grows sight.old sight.new
             × RefusesOp N.deed.config sight.old.number (op_is.Add add.now) code sight.new.lines sight.new.watches
             sight.new.register }
         ensures memory { IsErrOf result.1 Refusal.NoMemory → SeesOn sight.old sight.new }
+        ensures nothing { OnErr result.1 (AddsNothing live.number now live.lines result.0.lines) }
     {
         let mut live = live;
         let Ok(()) = self.reach(rt, &mut live, sight) else {
@@ -76,6 +79,7 @@ impl<N: House> Shared<N> {
         ensures refused { (code : ℕ) → IsErrOf result.1 (Refusal.Code code)
             → RefusesOp N.deed.config sight.old.number (op_is.Add add.now) code sight.new.lines sight.new.watches
             sight.new.register }
+        ensures err { OnErr result.1 (result.0.lines ≡ live.lines) }
     {
         match self.begin(rt, live, sight, add) {
             Err(refused) => {
@@ -115,6 +119,7 @@ impl<N: House> Shared<N> {
         ensures refused { IfErr result (λ e. (code : ℕ) → e.cause ≡ Refusal.Code code
             → RefusesOp N.deed.config sight.old.number (op_is.Add add.now) code sight.new.lines sight.new.watches
             sight.new.register) }
+        ensures same { IfErr result (λ e. e.session ≡ live) }
     {
         let mut book = self.book.lock(rt);
         self.begin_in(rt, &mut book, live, sight, add)
@@ -149,6 +154,8 @@ impl<N: House> Shared<N> {
         ensures refused { IfErr result (λ e. (code : ℕ) → e.cause ≡ Refusal.Code code
             → RefusesOp N.deed.config sight.old.number (op_is.Add add.now) code sight.new.lines sight.new.watches
             sight.new.register) }
+        ensures same { IfErr result (λ e. e.session ≡ live) }
+        ensures err { OnErr result (book.new ≡ book.old) }
     {
         sight.show_register(&self.register, book);
         match live.begin_add(add, &self.config, book.free_slots(), book.is_spent()) {
@@ -183,7 +190,9 @@ impl<N: House> Shared<N> {
         sight.show_register(&self.register, book);
     }
 
-    /// The slots of a subscription join, and it begins. Where one can't, its room is given back.
+    /// The slots of a subscription join, and it begins. Where one can't, its room is given back. It isn't inlined, so
+    /// that its stack isn't under that of `begin`.
+    #[inline(never)]
     fn add_slots<'a, R: Wait>(
         &self,
         rt: &R,
@@ -204,6 +213,7 @@ impl<N: House> Shared<N> {
         ensures refused { (code : ℕ) → IsErrOf result.1 (Refusal.Code code)
             → RefusesOp N.deed.config sight.old.number (op_is.Add add.now) code sight.new.lines sight.new.watches
             sight.new.register }
+        ensures err { OnErr result.1 (result.0.lines ≡ adding.entry.lines) }
         ensures freed { OnErr result.1 (Gains (Freed (length adding.entry.items)) sight.old.register
             sight.new.register) }
     {
@@ -233,7 +243,9 @@ impl<N: House> Shared<N> {
         live
     }
 
-    /// A subscription isn't added of which a slot couldn't join: those that did leave, and its room is given back.
+    /// A subscription isn't added of which a slot couldn't join: those that did leave, and its room is given back. It
+    /// isn't inlined, since it is rare.
+    #[inline(never)]
     fn undo<'a, R: Wait>(
         &self,
         rt: &R,
@@ -249,6 +261,7 @@ impl<N: House> Shared<N> {
         ensures refused { (code : ℕ) → result.1 ≡ Refusal.Code code
             → RefusesOp N.deed.config sight.old.number (op_is.Add add.now) code sight.new.lines sight.new.watches
             sight.new.register }
+        ensures same { result.0.lines ≡ adding.entry.lines }
         ensures freed { Gains (Freed (length adding.entry.items)) sight.old.register sight.new.register }
     {
         let slots = adding.slots() as u64;
@@ -275,6 +288,7 @@ impl<N: House> Shared<N> {
         ensures refused { (code : ℕ) → result.1 ≡ Refusal.Code code
             → RefusesOp N.deed.config sight.old.number (op_is.Add add.now) code sight.new.lines sight.new.watches
             sight.new.register }
+        ensures same { result.0.lines ≡ live.lines }
     {
         match refused {
             JoinRefused::NoMemory => (live, Refusal::NoMemory),
@@ -282,7 +296,8 @@ impl<N: House> Shared<N> {
         }
     }
 
-    /// Why a subscription can't begin.
+    /// Why a subscription can't begin. It isn't inlined, since it is rare.
+    #[inline(never)]
     fn find_cause<R: Wait>(
         &self,
         rt: &R,
@@ -297,6 +312,7 @@ impl<N: House> Shared<N> {
         ensures refused { (code : ℕ) → result.1 ≡ Refusal.Code code
             → RefusesOp N.deed.config sight.old.number (op_is.Add add.now) code sight.new.lines sight.new.watches
             sight.new.register }
+        ensures same { result.0.lines ≡ live.lines }
     {
         let mut live = live;
         let Ok(()) = self.reach(rt, &mut live, sight) else {
@@ -320,6 +336,7 @@ impl<N: House> Shared<N> {
         ensures refused { (code : ℕ) → result.1 ≡ Refusal.Code code
             → RefusesOp N.deed.config sight.old.number (op_is.Add add.now) code sight.new.lines sight.new.watches
             sight.new.register }
+        ensures same { result.0.lines ≡ live.lines }
     {
         match self.begin(rt, live, sight, add) {
             Err(refused) => {

@@ -6,8 +6,9 @@ ghost use Rattle.ls_subs.specs.declared.plan.Refusal.TheVariants as Refusal;
 ghost use Rattle.ls_value.specs.Each.{Each};
 ghost use Rattle.ls_told.specs.Seen.{FitsWatch, Grows, LawfulTold, SeesMore};
 ghost use Rattle.ls_told.specs.Requests.{HasBound, OnlyLater, bind_code_of};
-ghost use Rattle.ls_live_session.specs.Sights.{SeesOf};
+ghost use Rattle.ls_live_session.specs.Sights.{SeesOf, MeetEach};
 ghost use Rattle.ls_shared.specs.Answers.{BindsOn, Loses, Reaches, SeesOn};
+ghost use Rattle.ls_shared.specs.Operations.{AddsNothing};
 
 use crate::shared::Shared;
 use crate::testimony::Testimony;
@@ -94,6 +95,7 @@ impl<N: House> Shared<N> {
         ensures rest { seen.new ≡ record seen.old { watches = seen.new.watches } }
         ensures more { SeesMore seen.old.watches seen.new.watches }
         ensures has { IfSome pass.old.place (λ p. SeesOf p.at pass.old.list seen.new.watches) }
+        ensures each { MeetEach pass.old seen.old.watches seen.new.watches }
         ensures lawful { LawfulTold N.deed.config seen.new }
     {
         seen.sight.meet(&self.register, pass);
@@ -117,6 +119,7 @@ impl<N: House> Shared<N> {
         ensures refused { (code : ℕ) → IsErrOf result (Refusal.Code code)
             → Grows sight.old sight.new × (bind_code_of sight.old.number sight.new.lines bind.now.recover ≡ Some code) }
         ensures memory { IsErrOf result Refusal.NoMemory → SeesOn sight.old sight.new }
+        ensures nothing { OnErr result (AddsNothing live.old.number now live.old.lines live.new.lines) }
     {
         let Ok(()) = self.reach(rt, live, sight) else {
             return Err(Refusal::NoMemory);

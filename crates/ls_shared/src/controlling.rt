@@ -1,5 +1,5 @@
 //! What requests do to the sessions of a server (TLCP 2.1, control).
-ghost use Rattle.std.specs.Prelude.{◌≡◌, ◌≤◌, ◌<◌, ℕ, true, OnOk, IsErrOf};
+ghost use Rattle.std.specs.Prelude.{◌≡◌, ◌≤◌, ◌<◌, ℕ, true, OnOk, OnErr, IsErrOf};
 ghost use Rattle.std.specs.Option.{ForSome};
 ghost use mathlib.Core.List.{IsPrefix};
 ghost use Rattle.ls_value.specs.declared.limits.TheConstants.{GREATEST_TICK};
@@ -12,6 +12,7 @@ ghost use Rattle.ls_told.specs.Seen.{Grows, LawfulTold};
 ghost use Rattle.ls_told.specs.Requests.{Does, RefusesOp};
 ghost use Rattle.ls_live_session.specs.Sights.{ShowsAll};
 ghost use Rattle.ls_shared.specs.Answers.{AsksSlots, Changes, SeesOn};
+ghost use Rattle.ls_shared.specs.Operations.{AddsNothing, ClaimsFor, HadRates, HasWish};
 
 use crate::shared::Shared;
 use crate::testimony::Testimony;
@@ -43,8 +44,11 @@ impl<N: House> Shared<N> {
         ensures mine { seen.new.mine ≡ seen.old.mine }
         ensures grows { OnOk result (Grows seen.old seen.new) }
         ensures done { OnOk result (Does N.deed.config op.now now seen.old seen.new) }
+        ensures claimed { OnOk result (ClaimsFor N.deed.config op.now seen.old seen.new) }
+        ensures wish { OnOk result (HasWish op.now seen.new.lines) }
         ensures refused { (code : ℕ) → IsErrOf result (Refusal.Code code) → Grows seen.old seen.new
             × RefusesOp N.deed.config seen.old.number op.now code seen.new.lines seen.new.watches seen.new.register }
+        ensures rates { IsErrOf result (Refusal.Code 70) → HadRates op.now seen.new.lines }
         ensures memory { IsErrOf result Refusal.NoMemory → SeesOn seen.old seen.new }
         ensures lawful { LawfulTold N.deed.config seen.new }
     {
@@ -61,7 +65,7 @@ impl<N: House> Shared<N> {
         answer
     }
 
-    /// Does an operation on a session, which comes back.
+    /// Does an operation on a session, which comes back. One that is refused adds nothing to the session's history.
     fn operate<R: Wait>(
         &self,
         rt: &R,
@@ -75,9 +79,11 @@ impl<N: House> Shared<N> {
         ensures mine { sight.new.mine ≡ sight.old.mine }
         ensures grows { OnOk result.1 (Grows sight.old sight.new) }
         ensures done { OnOk result.1 (Does N.deed.config op.now now sight.old sight.new) }
+        ensures claimed { OnOk result.1 (ClaimsFor N.deed.config op.now sight.old sight.new) }
         ensures refused { (code : ℕ) → IsErrOf result.1 (Refusal.Code code) → Grows sight.old sight.new
             × RefusesOp N.deed.config sight.old.number op.now code sight.new.lines sight.new.watches sight.new.register }
         ensures memory { IsErrOf result.1 Refusal.NoMemory → SeesOn sight.old sight.new }
+        ensures nothing { OnErr result.1 (AddsNothing live.number now live.lines result.0.lines) }
     {
         match op {
             Op::Add(add) => self.add(rt, live, sight, add, now),
@@ -89,7 +95,9 @@ impl<N: House> Shared<N> {
         }
     }
 
-    /// Does an operation that asks for no slots on a session behind its lock. It waits for good on one that does.
+    /// Does an operation that asks for no slots on a session behind its lock. It waits for good on one that does. It
+    /// isn't inlined, so that the stack of a subscription that is added isn't under that of other operations.
+    #[inline(never)]
     fn alter<R: Wait>(
         &self,
         rt: &R,
@@ -105,7 +113,9 @@ impl<N: House> Shared<N> {
         ensures done { OnOk result (Does N.deed.config op.now now sight.old sight.new) }
         ensures refused { (code : ℕ) → IsErrOf result (Refusal.Code code) → Grows sight.old sight.new
             × RefusesOp N.deed.config sight.old.number op.now code sight.new.lines sight.new.watches sight.new.register }
+        ensures plain { OnOk result (AsksSlots op.now → ⊥) }
         ensures memory { IsErrOf result Refusal.NoMemory → SeesOn sight.old sight.new }
+        ensures nothing { OnErr result (AddsNothing live.old.number now live.old.lines live.new.lines) }
     {
         let Ok(()) = self.reach(rt, live, sight) else {
             return Err(Refusal::NoMemory);
@@ -129,6 +139,7 @@ impl<N: House> Shared<N> {
         requires shows { ShowsAll live.old sight.old }
         ensures plain { AsksSlots op.now → ⊥ }
         ensures live { live.new ≡ record live.old { lines = live.new.lines } }
+        ensures err { OnErr result (live.new.lines ≡ live.old.lines) }
         ensures grows { Grows sight.old sight.new }
         ensures mine { sight.new.mine ≡ sight.old.mine }
         ensures done { OnOk result (Changes N.deed.config op.now now live.old sight.old sight.new) }
@@ -161,6 +172,7 @@ impl<N: House> Shared<N> {
         requires sub { IsOrdinal sub }
         requires shows { ShowsAll live.old sight.old }
         ensures live { live.new ≡ record live.old { lines = live.new.lines } }
+        ensures err { OnErr result (live.new.lines ≡ live.old.lines) }
         ensures grows { Grows sight.old sight.new }
         ensures mine { sight.new.mine ≡ sight.old.mine }
         ensures done { OnOk result (Changes N.deed.config (op_is.Delete sub) now live.old sight.old sight.new) }
@@ -210,6 +222,7 @@ impl<N: House> Shared<N> {
         requires tick { now ≤ GREATEST_TICK }
         requires shows { ShowsAll live.old sight.old }
         ensures live { live.new ≡ record live.old { lines = live.new.lines } }
+        ensures err { OnErr result (live.new.lines ≡ live.old.lines) }
         ensures grows { Grows sight.old sight.new }
         ensures mine { sight.new.mine ≡ sight.old.mine }
         ensures done { OnOk result (Changes N.deed.config op_is.Destroy now live.old sight.old sight.new) }
@@ -270,6 +283,7 @@ fn reconf<N: House>(
     requires some { ForSome frequency (λ f. 0 < f) }
     requires shows { ShowsAll live.old sight.old }
     ensures live { live.new ≡ record live.old { lines = live.new.lines } }
+    ensures err { OnErr result (live.new.lines ≡ live.old.lines) }
     ensures grows { Grows sight.old sight.new }
     ensures mine { sight.new.mine ≡ sight.old.mine }
     ensures done { OnOk result (Changes N.deed.config (op_is.Reconf sub frequency) now live.old sight.old sight.new) }
@@ -292,6 +306,7 @@ fn constrain<N: House>(
     requires some { ForSome bandwidth (λ limit. 0 < limit) }
     requires shows { ShowsAll live.old sight.old }
     ensures live { live.new ≡ record live.old { lines = live.new.lines } }
+    ensures err { OnErr result (live.new.lines ≡ live.old.lines) }
     ensures grows { Grows sight.old sight.new }
     ensures mine { sight.new.mine ≡ sight.old.mine }
     ensures done { OnOk result (Changes N.deed.config (op_is.Constrain bandwidth) now live.old sight.old sight.new) }
@@ -312,6 +327,7 @@ fn force_rebind<N: House>(
     requires tick { now ≤ GREATEST_TICK }
     requires shows { ShowsAll live.old sight.old }
     ensures live { live.new ≡ record live.old { lines = live.new.lines } }
+    ensures err { OnErr result (live.new.lines ≡ live.old.lines) }
     ensures grows { Grows sight.old sight.new }
     ensures mine { sight.new.mine ≡ sight.old.mine }
     ensures done { OnOk result (Changes N.deed.config op_is.ForceRebind now live.old sight.old sight.new) }

@@ -5,6 +5,7 @@ ghost use Rattle.ls_value.specs.declared.limits.TheConstants.{GREATEST_TICK};
 ghost use Rattle.ls_record.specs.Records.{is_alive};
 ghost use Rattle.ls_told.specs.Heard.{heard, counts_as};
 ghost use Rattle.ls_told.specs.Requests.{InTime};
+ghost use Rattle.ls_shared.specs.Operations.{AddsNothing};
 
 use crate::shared::Shared;
 use ls_live_session::{Left, LiveSession, SubSeats};
@@ -61,6 +62,7 @@ impl<N: House> Shared<N> {
         requires tick { now ≤ GREATEST_TICK }
         ensures rest { live.new ≡ record live.old { lines = live.new.lines } }
         ensures begins { IsPrefix live.old.lines live.new.lines }
+        ensures ends { AddsNothing live.old.number now live.old.lines live.new.lines }
         ensures in_time { is_alive (heard live.new.number live.new.lines).life ≡ true
             → InTime (counts_as now live.new.lines) (heard live.new.number live.new.lines) }
     {

@@ -27,6 +27,7 @@ use Rattle.ls_told.specs.Seen.{Watched, seen_of, items_seen, IsWatched}
 use Rattle.ls_told.specs.Keeping.{KeepsTold}
 use Rattle.ls_told.proofs.Turns.{turned_rule, round_quiet, turn_sends}
 use Rattle.ls_told.proofs.Keeps.{keeps_step, keeps_passed, keeps_line}
+use Rattle.ls_told.proofs.Settled.{slots_same}
 
 -- a line was given that isn't numbered
 alone_text : (items : List Item) (text : List ℕ) (s : Session) → KeptAlone items s → KeptAlone items (on_stream (with_text text) s)
@@ -55,35 +56,39 @@ alone_owing items owed life s k =
 pub record TurnKeeps (items : List Item) (s t : Session) : Type 0 where
   pub board : t.board ≡ s.board
   pub alive : is_alive t.life ≡ true → is_alive s.life ≡ true
+  pub life : is_alive t.life ≡ is_alive s.life
   pub alone : KeptAlone items t
 
 pub turn_keeps : (items : List Item) (now epoch : ℕ) (r : Record) → KeptAlone items r.session
     → TurnKeeps items r.session (turned now epoch r).after.session
 turn_keeps items now epoch r k = turned_rule (λ (t : Turned). TurnKeeps items r.session t.after.session) now epoch r (record {
-  superseded = λ newer. record { board = refl; alive = λ a. a; alone = k };
-  unbound = λ own none. record { board = refl; alive = λ a. a; alone = k };
+  superseded = λ newer. record { board = refl; alive = λ a. a; life = refl; alone = k };
+  unbound = λ own none. record { board = refl; alive = λ a. a; life = refl; alone = k };
   owes = λ text owed own bound alive is. record {
     board = refl;
     alive = λ a. a;
+    life = refl;
     alone = alone_text items text (record r.session { owed = owed }) (alone_owing items owed r.session.life r.session k);
   };
-  loops = λ own bound alive none over. record { board = refl; alive = λ a. a; alone = alone_unbound items now r.session k };
+  loops = λ own bound alive none over. record { board = refl; alive = λ a. a; life = refl; alone = alone_unbound items now r.session k };
   next = λ own bound alive none stays unsent. record {
     board = next_rule (λ (t : Session). t.board ≡ r.session.board) r.session refl refl;
     alive = next_rule (λ (t : Session). is_alive t.life ≡ true → is_alive r.session.life ≡ true) r.session (λ a. a) (λ a. a);
+    life = next_rule (λ (t : Session). is_alive t.life ≡ is_alive r.session.life) r.session refl refl;
     alone = alone_given items r.session k;
   };
   round = λ own bound alive none stays sent. quiet (round_turned now r).after.session (round_quiet now r).same;
   ending = λ code own bound ends. record {
     board = refl;
     alive = λ a. absurd (let x : false ≡ true = a in cc);
+    life = sym (ap is_alive ends);
     alone = alone_text items (end_text code) (record r.session { life = Closed code }) (alone_owing items r.session.owed (Closed code) r.session k);
   };
-  over = λ code own bound closed. record { board = refl; alive = λ a. a; alone = k };
+  over = λ code own bound closed. record { board = refl; alive = λ a. a; life = refl; alone = k };
 })
   where
     quiet : (t : Session) → t ≡ r.session → TurnKeeps items r.session t
-    quiet t same = subst (λ (x : Session). TurnKeeps items r.session x) (sym same) (record { board = refl; alive = λ a. a; alone = k })
+    quiet t same = subst (λ (x : Session). TurnKeeps items r.session x) (sym same) (record { board = refl; alive = λ a. a; life = refl; alone = k })
 
 -- a turn that gives a line
 pub keeps_turned : (config : List ItemDef) (number : ℕ) (lines : List Told) (ws : List Watched) (now epoch e : ℕ) (r : Record) (text : List ℕ)
@@ -102,6 +107,7 @@ keeps_turned config number lines ws now epoch e r text sends k =
       subs = λ alive sub. ap (is_used sub) (ap (λ (b : Board). b.round) kept.board)
           ∙ k.subs (kept.alive alive) sub ∙ ap (is_open sub) (ap (λ (b : Board). b.lines) (sym kept.board));
       numbered = subst (λ (b : Board). AreOf (numbered_of lines) b.lines) (sym kept.board) k.numbered;
+      slots = slots_same config (numbered_of lines) r.session (turned now epoch r).after.session kept.board kept.life k.slots;
     }) k
 
 -- one that gives none leaves the session
@@ -136,7 +142,7 @@ keeps_silent config number lines ws r v t is cuts silent k =
 pub keeps_told : (config : List ItemDef) (number : ℕ) (lines : List Told) (ws : List Watched) (r : Record) (v : LiveSlot) (t : Taken) (what : What)
     (line : NumberedLine) → slice_get r.session.board.round r.asked ≡ Some v → cut (seen_of ws v.item) v.slot ≡ Some t
     → what_of r.session.board.lines v t ≡ Some what
-    → line.text ≡ line_text r.session.board.lines (Tells v.sub v.rank r.tick (came_by v.slot t what)) → TellsOf line v.sub v.rank r.tick
+    → line.text ≡ line_text r.session.board.lines (Tells v.sub v.rank r.tick (came_by v.slot t what)) → TellsOf line v.sub v.rank r.tick (came_by v.slot t what)
     → KeepsTold config number lines ws r.session → KeepsTold config number (lines ++ Numbered line ∷ []) ws (answered r v t).session
 keeps_told config number lines ws r v t what line is cuts tells text of k =
     subst (λ (o : Option What). KeepsTold config number (lines ++ Numbered line ∷ []) ws (answered_by r v t o).session) (sym tells)

@@ -1,15 +1,16 @@
 -- What is kept of a session is kept by a new subscription, whose slots joined their items.
 use Rattle.std.proofs.Common.{◌≡◌, ◌==◌, ◌||◌, ◌≤◌, ℕ, ◌+◌, List, [], ◌∷◌, ◌++◌, length, refl, sym, ◌∙◌, ap, arith, subst, cond, Bool, true, false}
-use Rattle.std.proofs.Common.{None}
+use Rattle.std.proofs.Common.{map, Option, None, Some, is_some}
 use Rattle.ls_value.specs.Each.{Each}
 use Rattle.ls_value.proofs.Each.{each_append}
+use Rattle.ls_record.proofs.Each.{each_map}
 use Rattle.ls_event.specs.declared.item.ItemDef.{ItemDef}
 use Rattle.ls_request.specs.declared.request.Add.{Add}
-use Rattle.ls_record.specs.Acting.{asks_of, add_refusals, subscribed_on}
+use Rattle.ls_record.specs.Acting.{asks_of, ask_of, group_of, places_among, add_refusals, subscribed_on}
 use Rattle.ls_record.specs.Cases.{first_code}
 use Rattle.ls_record.specs.Cutting.{Ask}
 use Rattle.ls_record.specs.Lines.{Line, Begins, Configures, line_text, texts}
-use Rattle.ls_record.specs.Records.{Item, LiveSlot, Session, definitions, joined_all, numbered, is_used, frequency_of, are_filtered}
+use Rattle.ls_record.specs.Records.{Item, LiveSlot, Session, definitions, joined_all, numbered, is_used, is_alive, fields_in, frequency_in, frequency_of, are_filtered}
 use Rattle.ls_lawful.specs.Lawful.{LawfulLive}
 use Rattle.ls_lawful.proofs.Asked.{asked_is}
 use Rattle.ls_lawful.proofs.Legible.{Shown, shown_numbered}
@@ -18,12 +19,14 @@ use Rattle.ls_lawful.proofs.Requested.{IsAdd}
 use Rattle.ls_subs.proofs.Rounds.{AreSlots, slots_unused, slots_apart, unused_apart, apart_append, used_append, eqb_swap}
 use Rattle.ls_subs.specs.Plans.{keys_of_asks}
 use Rattle.ls_session.specs.Record.{with_plan}
+use Rattle.ls_register.specs.Begun.{BegunSeen}
 use Rattle.ls_register.specs.declared.told.Told.{Told}
 use Rattle.ls_register.specs.declared.told.Told.TheVariants.{Numbered}
 use Rattle.ls_register.specs.declared.told.Numbered.{Numbered as NumberedLine}
 use Rattle.ls_told.specs.Spoken.{Spoken}
 use Rattle.ls_told.specs.Heard.{hears}
-use Rattle.ls_told.specs.Telling.{AreOf, AreOpen}
+use Rattle.ls_told.specs.Telling.{numbered_of, HasNoSlot, IsPlain, AreOf, AreOpen}
+use Rattle.ls_told.specs.Slots.{AreSettled, HasSlots}
 use Rattle.ls_told.specs.Joining.{joins_as, AreJoined}
 use Rattle.ls_told.specs.Seen.{Watched, items_seen, IsWatched}
 use Rattle.ls_told.specs.Keeping.{KeepsTold}
@@ -31,6 +34,7 @@ use Rattle.ls_told.proofs.Appended.{heard_one, counts_one, numbered_one, ends_on
 use Rattle.ls_told.proofs.Moves.{spoken_numbered_two}
 use Rattle.ls_told.proofs.Watching.{definitions_seen}
 use Rattle.ls_told.proofs.Keeps.{no_end}
+use Rattle.ls_told.proofs.Settled.{slots_added}
 
 -- slots that joined are of the subscription, and their ranks count on
 joined_slots : (items : List Item) (sub rank : ℕ) (asks : List Ask) (vs : List LiveSlot) → AreJoined items sub rank asks vs → AreSlots sub rank vs
@@ -112,9 +116,13 @@ pub record Joins (config : List ItemDef) (ws : List Watched) (s : Session) (free
   pub joined : AreJoined (items_seen config ws) a.sub 1 (asks_of config a) vs
   pub watched : Each (λ (v : LiveSlot). IsWatched ws v.item) vs
   pub begins : first.text ≡ line_text [] (Begins a.sub (length (asks_of config a)) (length a.schema) (keys_of_asks config (asks_of config a)))
-  pub begins_plain : first.slot ≡ None
+  pub begins_plain : HasNoSlot first
   pub configures : second.text ≡ line_text [] (Configures a.sub (frequency_of (asks_of config a)) (are_filtered (asks_of config a)))
-  pub configures_plain : second.slot ≡ None
+  pub configures_plain : IsPlain second
+  pub alive : is_alive s.life ≡ true
+  pub begun : BegunSeen
+  pub begun_is : first.begun ≡ Some begun
+  pub settled : AreSettled config begun.schema begun.slots vs
 
 alone_joins : (config : List ItemDef) (ws : List Watched) (s : Session) (free : ℕ) (a : Add) (vs : List LiveSlot) (first second : NumberedLine)
     → Joins config ws s free a vs first second → KeptAlone (items_seen config ws) s → KeptAlone (items_seen config ws) (planned config a vs s)
@@ -151,6 +159,41 @@ open_joins config ws s free a vs first second j subs = λ alive q.
         (slots_unused a.sub q 1 vs (joined_slots (items_seen config ws) a.sub 1 (asks_of config a) vs j.joined) t)
         ∙ or_false (is_used q s.board.round)
 
+-- all of its slots have one frequency, that of its CONF
+asks_alike : (config : List ItemDef) (a : Add) (ns : List ℕ)
+    → Each (λ (q : Ask). q.frequency ≡ frequency_in a.mode a.frequency) (map (λ (n : ℕ). ask_of a n (places_among (fields_in config n) a.schema)) ns)
+asks_alike config a [] = tt
+asks_alike config a (n ∷ ns) = (refl, asks_alike config a ns)
+
+as_first : (o : Option ℕ) (asks : List Ask) → Each (λ (q : Ask). q.frequency ≡ o) asks → Each (λ (q : Ask). q.frequency ≡ frequency_of asks) asks
+as_first o [] e = tt
+as_first o (a ∷ asks) e =
+    each_map (λ (q : Ask). q.frequency ≡ o) (λ (q : Ask). q.frequency ≡ a.frequency) (a ∷ asks) (λ q is. is ∙ sym e.0) e
+
+joined_alike : (items : List Item) (sub rank : ℕ) (o : Option ℕ) (asks : List Ask) (vs : List LiveSlot) → AreJoined items sub rank asks vs
+    → Each (λ (q : Ask). q.frequency ≡ o) asks → Each (λ (v : LiveSlot). v.frequency ≡ o) vs
+joined_alike items sub rank o asks [] j e = tt
+joined_alike items sub rank o [] (v ∷ vs) j e = absurd j
+joined_alike items sub rank o (a ∷ asks) (v ∷ vs) j e =
+    (ap (λ (x : LiveSlot). x.frequency) j.0 ∙ e.0, joined_alike items sub (rank + 1) o asks vs j.1 e.1)
+
+-- and they are those with which it begins
+slots_joins : (config : List ItemDef) (ns : List NumberedLine) (ws : List Watched) (s : Session) (free : ℕ) (a : Add) (vs : List LiveSlot)
+    (first second : NumberedLine) → Joins config ws s free a vs first second → HasSlots config ns s
+    → HasSlots config (second ∷ first ∷ ns) (planned config a vs s)
+slots_joins config ns ws s free a vs first second j h =
+    slots_added config ns s a vs j.begun first second
+    (record {
+      alive = j.alive;
+      begun = j.begun_is;
+      settled = j.settled;
+      slots = joined_slots (items_seen config ws) a.sub 1 (asks_of config a) vs j.joined;
+      frequency = joined_alike (items_seen config ws) a.sub 1 (frequency_of (asks_of config a)) (asks_of config a) vs j.joined
+          (as_first (frequency_in a.mode a.frequency) (asks_of config a) (asks_alike config a (group_of config a.group)));
+      unused = (asked_is (items_seen config ws) free s a
+          (subst (λ (defs : List ItemDef). first_code (add_refusals defs free s a) ≡ None) (sym (definitions_seen config ws)) j.none)).new;
+    }) h
+
 pub keeps_added : (config : List ItemDef) (number : ℕ) (lines : List Told) (ws : List Watched) (s : Session) (free : ℕ) (a : Add) (vs : List LiveSlot)
     (first second : NumberedLine) → Joins config ws s free a vs first second → KeepsTold config number lines ws s
     → KeepsTold config number ((lines ++ Numbered first ∷ []) ++ Numbered second ∷ []) ws (numbered (with_plan config a vs) s)
@@ -170,7 +213,10 @@ keeps_added config number lines ws s free a vs first second j k =
       subs = open_joins config ws s free a vs first second j k.subs;
       numbered = subst (λ (ns : List NumberedLine). AreOf ns (planned config a vs s).board.lines)
           (sym (numbered_one once (Numbered second) ∙ ap (λ (ns : List NumberedLine). second ∷ ns) (numbered_one lines (Numbered first))))
-          (j.configures_plain, (j.begins_plain, k.numbered));
+          (j.configures_plain, (record { plain = j.begins_plain; begun = ap (λ (o : Option BegunSeen). is_some o) j.begun_is }, k.numbered));
+      slots = subst (λ (ns : List NumberedLine). HasSlots config ns (planned config a vs s))
+          (sym (numbered_one once (Numbered second) ∙ ap (λ (ns : List NumberedLine). second ∷ ns) (numbered_one lines (Numbered first))))
+          (slots_joins config (numbered_of lines) ws s free a vs first second j k.slots);
     }
   where
     all_texts : texts (with_plan config a vs s.board).lines ≡ second.text ∷ first.text ∷ texts s.board.lines

@@ -24,6 +24,7 @@ use Rattle.ls_record.proofs.Rules.{cond_rule}
 use Rattle.ls_lawful.specs.Ranges.{IsOrdinal}
 use Rattle.ls_lawful.proofs.Frame.{without_each}
 use Rattle.ls_lawful.proofs.Heard.{HasNoOutcome}
+use Rattle.ls_lawful.proofs.Modes.{passed_plan}
 use Rattle.ls_lawful.proofs.SmallSteps.{moved_at, told_at, with_slot}
 use Rattle.ls_lawful.proofs.OneSession.{KeptAlone, alone_opened, alone_rebound, alone_unbound, alone_forced, alone_constrained}
 use Rattle.ls_lawful.proofs.OneSession.{alone_ended, alone_caught_up, alone_silent, alone_told, alone_removed, alone_reconfigured}
@@ -32,7 +33,8 @@ use Rattle.ls_register.specs.declared.told.Told.TheVariants.{Numbered, Gave, Bou
 use Rattle.ls_register.specs.declared.told.Numbered.{Numbered as NumberedLine}
 use Rattle.ls_told.specs.Spoken.{Spoken, spoken_of, GivesNothing, next_of, giving, Next}
 use Rattle.ls_told.specs.Heard.{hears, epoch_of, CountsOne}
-use Rattle.ls_told.specs.Telling.{numbered_or, numbered_of, TellsOf, AreOf, is_open, AreOpen}
+use Rattle.ls_told.specs.Telling.{numbered_or, numbered_of, TellsOf, IsPlain, AreOf, is_open, AreOpen}
+use Rattle.ls_told.specs.Slots.{HasSlots}
 use Rattle.ls_told.specs.Seen.{Watched, seen_of, items_seen, IsWatched, IsDeclared}
 use Rattle.ls_told.specs.Keeping.{KeepsTold}
 use Rattle.ls_told.proofs.Appended.{heard_one, counts_one, numbered_one, InTime, ends_one}
@@ -40,6 +42,7 @@ use Rattle.ls_told.proofs.Used.{used_changed, used_mapped, used_back}
 use Rattle.ls_told.proofs.Moves.{spoken_bound, spoken_constrained, spoken_numbered}
 use Rattle.ls_told.proofs.Watching.{history_seen, length_seen, sound_seen, textual_seen}
 use Rattle.ls_told.proofs.Facts.{epoch_is}
+use Rattle.ls_told.proofs.Settled.{slots_opened, slots_ended, slots_same, slots_moved, slots_line, slots_removed, slots_reconfigured}
 
 -- the items of a session's slots are watched
 abbrev pub AreWatched : List Watched → Session → Type 0
@@ -55,6 +58,7 @@ pub record Steps (config : List ItemDef) (number : ℕ) (lines : List Told) (ws 
   pub counts : CountsOne (epoch_of lines) e
   pub subs : AreOpen t
   pub numbered : AreOf (numbered_or (numbered_of lines) e) t.board.lines
+  pub slots : HasSlots config (numbered_or (numbered_of lines) e) t
 
 pub keeps_step : (config : List ItemDef) (number : ℕ) (lines : List Told) (ws : List Watched) (s t : Session) (e : Told)
     → Steps config number lines ws s t e → KeepsTold config number lines ws s → KeepsTold config number (lines ++ e ∷ []) ws t
@@ -68,6 +72,7 @@ keeps_step config number lines ws s t e step k =
       counts = counts_one lines e k.counts step.counts;
       subs = step.subs;
       numbered = subst (λ (ns : List NumberedLine). AreOf ns t.board.lines) (sym (numbered_one lines e)) step.numbered;
+      slots = subst (λ (ns : List NumberedLine). HasSlots config ns t) (sym (numbered_one lines e)) step.slots;
     }
 
 -- entries that are no end
@@ -89,6 +94,7 @@ keeps_opened config number keepalive now limit content declared =
       counts = (tt, (omega arith, tt));
       subs = λ alive sub. refl;
       numbered = tt;
+      slots = slots_opened config number keepalive limit content;
     }
   where
     nowhere : (before after : List Told) (tick : ℕ)
@@ -113,6 +119,7 @@ keeps_bound config number lines ws s b epoch may next k =
       counts = next ∙ ap (λ n. n + 1) (epoch_is config number lines ws s k);
       subs = k.subs;
       numbered = k.numbered;
+      slots = slots_same config (numbered_of lines) s (rebound number b s) refl refl k.slots;
     }) k
 
 -- its stream is lost, and forced to be over
@@ -129,6 +136,7 @@ keeps_unbound config number lines ws s tick k =
       counts = tt;
       subs = k.subs;
       numbered = k.numbered;
+      slots = slots_same config (numbered_of lines) s (unbound_at tick s) refl refl k.slots;
     }) k
 
 pub keeps_forced : (config : List ItemDef) (number : ℕ) (lines : List Told) (ws : List Watched) (s : Session) → KeepsTold config number lines ws s
@@ -144,6 +152,7 @@ keeps_forced config number lines ws s k =
       counts = tt;
       subs = k.subs;
       numbered = k.numbered;
+      slots = slots_same config (numbered_of lines) s (forced s) refl refl k.slots;
     }) k
 
 -- it has another bandwidth, and it ends
@@ -160,6 +169,7 @@ keeps_constrained config number lines ws s limit tick k =
       counts = tt;
       subs = k.subs;
       numbered = k.numbered;
+      slots = slots_same config (numbered_of lines) s (constrained limit s) refl refl k.slots;
     }) k
 
 pub keeps_ended : (config : List ItemDef) (number : ℕ) (lines : List Told) (ws : List Watched) (s : Session) (code tick : ℕ)
@@ -180,6 +190,7 @@ keeps_ended config number lines ws s code tick late k =
       counts = tt;
       subs = λ alive. absurd (let x : false ≡ true = alive in cc);
       numbered = k.numbered;
+      slots = slots_ended config (numbered_of lines) code s;
     }) k
 
 -- a PROBE is given where nothing else is to be
@@ -196,6 +207,7 @@ keeps_probe config number lines ws s epoch tick text none k =
       counts = tt;
       subs = k.subs;
       numbered = k.numbered;
+      slots = k.slots;
     }) k
 
 -- slots move, of which no entry tells
@@ -206,6 +218,7 @@ pub record MovesSlots (config : List ItemDef) (ws : List Watched) (s t : Session
   pub life : t.life ≡ s.life
   pub used : (sub : ℕ) → is_used sub t.board.round ≡ is_used sub s.board.round
   pub watched : AreWatched ws t
+  pub slots : (ns : List NumberedLine) → HasSlots config ns s → HasSlots config ns t
 
 pub keeps_moved : (config : List ItemDef) (number : ℕ) (lines : List Told) (ws : List Watched) (s t : Session) → MovesSlots config ws s t
     → KeepsTold config number lines ws s → KeepsTold config number lines ws t
@@ -220,6 +233,7 @@ keeps_moved config number lines ws s t moves k =
       subs = λ alive sub.
           moves.used sub ∙ k.subs (ap is_alive (sym moves.life) ∙ alive) sub ∙ ap (is_open sub) (sym moves.lines);
       numbered = subst (λ (ls : List Line). AreOf (numbered_of lines) ls) (sym moves.lines) k.numbered;
+      slots = moves.slots (numbered_of lines) k.slots;
     }
 
 -- a slot's item is declared, and its history is what was seen of it
@@ -244,6 +258,7 @@ keeps_caught_up config number lines ws s n m v is low high k =
       used = λ sub. used_changed (with_slot (λ (x : Slot). record x { last = m })) (λ u. refl) n s.board.round sub;
       watched = each_changed (λ (u : LiveSlot). IsWatched ws u.item) n (with_slot (λ (x : Slot). record x { last = m })) v s.board.round is
           (λ w. w) k.watched;
+      slots = λ ns h. slots_moved config ns s n (λ (x : Slot). record x { last = m }) v is refl h;
     }) k
 
 -- a slot passed a cut that makes no line, and one that makes one
@@ -261,12 +276,13 @@ keeps_passed config number lines ws s n v t is cuts silent k =
       life = refl;
       used = λ sub. used_changed (with_slot (λ (x : Slot). passed x t)) (λ u. refl) n s.board.round sub;
       watched = each_changed (λ (u : LiveSlot). IsWatched ws u.item) n (with_slot (λ (x : Slot). passed x t)) v s.board.round is (λ w. w) k.watched;
+      slots = λ ns h. slots_moved config ns s n (λ (x : Slot). passed x t) v is (passed_plan v.slot t) h;
     }) k
 
 pub keeps_line : (config : List ItemDef) (number : ℕ) (lines : List Told) (ws : List Watched) (s : Session) (now n : ℕ) (v : LiveSlot) (t : Taken)
     (what : What) (line : NumberedLine) → slice_get s.board.round n ≡ Some v → cut (seen_of ws v.item) v.slot ≡ Some t
     → what_of_cut v.wanted v.slot (came v.sub v.rank s.board.lines) t ≡ Some what
-    → line.text ≡ line_text s.board.lines (Tells v.sub v.rank now (came_by v.slot t what)) → TellsOf line v.sub v.rank now
+    → line.text ≡ line_text s.board.lines (Tells v.sub v.rank now (came_by v.slot t what)) → TellsOf line v.sub v.rank now (came_by v.slot t what)
     → KeepsTold config number lines ws s → KeepsTold config number (lines ++ Numbered line ∷ []) ws (numbered (told_at now n v t what) s)
 keeps_line config number lines ws s now n v t what line is cuts tells text of k =
     keeps_step config number lines ws s (numbered (told_at now n v t what) s) (Numbered line)
@@ -284,11 +300,12 @@ keeps_line config number lines ws s now n v t what line is cuts tells text of k 
       counts = tt;
       subs = λ alive sub. used_back sub n s.board.round v (record v { slot = passed v.slot t }) is refl ∙ k.subs alive sub;
       numbered = (of, k.numbered);
+      slots = slots_line config (numbered_of lines) s now n v t what line is k.slots;
     }) k
 
 -- a subscription ends, and has another frequency
 pub keeps_removed : (config : List ItemDef) (number : ℕ) (lines : List Told) (ws : List Watched) (s : Session) (sub : ℕ) (line : NumberedLine)
-    → IsOrdinal sub → line.text ≡ line_text [] (Ends sub) → line.slot ≡ None → KeepsTold config number lines ws s
+    → IsOrdinal sub → line.text ≡ line_text [] (Ends sub) → IsPlain line → KeepsTold config number lines ws s
     → KeepsTold config number (lines ++ Numbered line ∷ []) ws (numbered (removed sub) s)
 keeps_removed config number lines ws s sub line is text plain k =
     keeps_step config number lines ws s (numbered (removed sub) s) (Numbered line)
@@ -301,12 +318,13 @@ keeps_removed config number lines ws s sub line is text plain k =
       counts = tt;
       subs = λ alive q. without_used sub q s.board.round ∙ ap (λ (b : Bool). cond (sub == q) false b) (k.subs alive q);
       numbered = (plain, k.numbered);
+      slots = slots_removed config (numbered_of lines) s sub line k.slots;
     }) k
 
 pub keeps_reconfigured : (config : List ItemDef) (number : ℕ) (lines : List Told) (ws : List Watched) (s : Session) (sub : ℕ)
     (frequency : Option ℕ) (line : NumberedLine) → IsOrdinal sub
     → line.text ≡ line_text [] (Configures sub (frequency_in (mode_in sub s.board.round) frequency) (is_filtered (mode_in sub s.board.round)))
-    → line.slot ≡ None → KeepsTold config number lines ws s → KeepsTold config number (lines ++ Numbered line ∷ []) ws (numbered (reconfigured sub frequency) s)
+    → IsPlain line → KeepsTold config number lines ws s → KeepsTold config number (lines ++ Numbered line ∷ []) ws (numbered (reconfigured sub frequency) s)
 keeps_reconfigured config number lines ws s sub frequency line is text plain k =
     keeps_step config number lines ws s (numbered (reconfigured sub frequency) s) (Numbered line)
     (record {
@@ -323,4 +341,5 @@ keeps_reconfigured config number lines ws s sub frequency line is text plain k =
           (λ u. cond_rule (λ (x : LiveSlot). x.sub ≡ u.sub) (is_of sub u) _ u (λ t. refl) (λ t. refl)) s.board.round q
           ∙ k.subs alive q;
       numbered = (plain, k.numbered);
+      slots = slots_reconfigured config (numbered_of lines) s sub frequency line k.slots;
     }) k

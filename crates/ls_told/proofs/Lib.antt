@@ -4,6 +4,7 @@ pub mod Moves
 pub mod Watching
 pub mod Facts
 pub mod Used
+pub mod Settled
 pub mod Keeps
 pub mod Turns
 pub mod Answered

@@ -190,6 +190,7 @@ keeps_sees config number lines old new s more fit k =
       counts = k.counts;
       subs = k.subs;
       numbered = k.numbered;
+      slots = k.slots;
     }
 
 pub keeps_seen : (config : List ItemDef) (number : ℕ) (lines : List Told) (old new : List Watched) (s : Session) → SeesMore old new

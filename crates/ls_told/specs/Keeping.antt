@@ -10,6 +10,7 @@ use Rattle.ls_register.specs.declared.told.Told.{Told}
 use Rattle.ls_told.specs.Spoken.{spoken_of}
 use Rattle.ls_told.specs.Heard.{heard, CountsOn, EndsInTime}
 use Rattle.ls_told.specs.Telling.{numbered_of, AreOf, AreOpen}
+use Rattle.ls_told.specs.Slots.{HasSlots}
 use Rattle.ls_told.specs.Seen.{Watched, items_seen, IsWatched}
 
 pub record KeepsTold (config : List ItemDef) (number : ℕ) (lines : List Told) (ws : List Watched) (s : Session) : Type 0 where
@@ -21,3 +22,4 @@ pub record KeepsTold (config : List ItemDef) (number : ℕ) (lines : List Told) 
   pub counts : CountsOn 0 lines
   pub subs : AreOpen s
   pub numbered : AreOf (numbered_of lines) s.board.lines
+  pub slots : HasSlots config (numbered_of lines) s

@@ -1,6 +1,7 @@
 pub mod Spoken
 pub mod Heard
 pub mod Telling
+pub mod Slots
 pub mod Seen
 pub mod Keeping
 pub mod Joining

@@ -7,7 +7,7 @@ use Rattle.std.specs.Option.{ForSome}
 use mathlib.Core.List.{IsPrefix}
 use Rattle.ls_value.specs.declared.limits.TheConstants.{GREATEST_NUMBER}
 use Rattle.ls_event.specs.declared.item.ItemDef.{ItemDef}
-use Rattle.ls_event.specs.Joining.{plan_of}
+use Rattle.ls_event.specs.Joining.{plan_of, rows_asked}
 use Rattle.ls_request.specs.declared.request.Add.{Add}
 use Rattle.ls_request.specs.declared.request.Bind.{Bind}
 use Rattle.ls_request.specs.declared.request.Op.{Op}
@@ -19,6 +19,8 @@ use Rattle.ls_record.specs.Lines.{Begins, Ends, Configures, line_text}
 use Rattle.ls_record.specs.Records.{LiveSlot, Session, is_alive, is_of, is_used, shape_in, keys_shown}
 use Rattle.ls_record.specs.Records.{frequency_of, are_filtered, frequency_in, is_filtered, mode_in}
 use Rattle.ls_record.specs.declared.TheConstants.{MOST_UNBOUND, MOST_UNSENT}
+use Rattle.ls_register.specs.Begun.{BegunSeen}
+use Rattle.ls_register.specs.declared.begun.SlotBegun.{SlotBegun}
 use Rattle.ls_register.specs.declared.made.Made.{Made}
 use Rattle.ls_register.specs.declared.made.Made.TheVariants.{Gone, Claimed, Freed}
 use Rattle.ls_register.specs.declared.told.Told.{Told}
@@ -93,7 +95,28 @@ RefusesOp config number o code es ws ms =
 -- a line without a slot is numbered
 abbrev pub plain : List ℕ → ℕ → Told
 plain text tick =
-    Numbered (record { text = text; slot = None; before = 0; upto = 0; at = 0; tick = tick })
+    Numbered (record { text = text; slot = None; before = 0; upto = 0; at = 0; begun = None; tick = tick })
+
+-- so is the one with which a subscription begins
+abbrev pub begins_with : List ℕ → BegunSeen → ℕ → Told
+begins_with text b tick =
+    Numbered (record { text = text; slot = None; before = 0; upto = 0; at = 0; begun = Some b; tick = tick })
+
+-- a slot with which a subscription began is the one that was asked for: of its item, with its mode, its size and its
+-- snapshot, and it joined behind no more than was seen of the item
+pub record IsBegunFor (ws : List Watched) (a : Ask) (t : SlotBegun) : Type 0 where
+  pub item : t.item ≡ a.item
+  pub mode : t.mode ≡ a.mode
+  pub size : t.size ≡ a.size
+  pub snapshot : rows_asked t.snapshot ≡ a.wanted.snapshot
+  pub base : t.base ≤ length (seen_of ws a.item)
+
+-- one for each that was asked for, in order
+abbrev pub AreBegunFor : List Watched → List Ask → List SlotBegun → Type 0
+AreBegunFor ws [] [] = Unit {0}
+AreBegunFor ws [] (t ∷ ts) = ⊥
+AreBegunFor ws (a ∷ asks) [] = ⊥
+AreBegunFor ws (a ∷ asks) (t ∷ ts) = IsBegunFor ws a t × AreBegunFor ws asks ts
 
 -- the slots of a subscription
 abbrev pub slots_in : ℕ → Session → List LiveSlot
@@ -119,14 +142,17 @@ AreAsked config ws sub rank (a ∷ asks) [] = ⊥
 AreAsked config ws sub rank (a ∷ asks) (v ∷ vs) =
     IsAsked config ws sub rank a v × AreAsked config ws sub (rank + 1) asks vs
 
--- a new subscription: SUBOK or SUBCMD, and CONF, are numbered, it has a slot for each item of the group, and room for
--- them was taken
+-- a new subscription: SUBOK or SUBCMD, and CONF, are numbered, it begins with a slot for each item of the group, which the
+-- session then has, and room for them was taken
 pub record AddsSub (config : List ItemDef) (number : ℕ) (a : Add) (tick : ℕ) (before : List Told) (new : Testified)
     (old : List Made) : Type 0 where
+  pub begun : BegunSeen
+  pub schema : begun.schema ≡ a.schema
+  pub begins : AreBegunFor new.watches (asks_of config a) begun.slots
   pub lines : new.lines
       ≡ before
-      ++ plain (line_text [] (Begins a.sub (length (asks_of config a)) (length a.schema)
-      (keys_shown (items_seen config new.watches) (asks_of config a)))) tick
+      ++ begins_with (line_text [] (Begins a.sub (length (asks_of config a)) (length a.schema)
+      (keys_shown (items_seen config new.watches) (asks_of config a)))) begun tick
       ∷ plain (line_text [] (Configures a.sub (frequency_of (asks_of config a)) (are_filtered (asks_of config a)))) tick
       ∷ []
   pub session : Session
@@ -161,7 +187,7 @@ pub record ForcesRebind (number : ℕ) (before es : List Told) : Type 0 where
   pub lines : (es ≡ before ++ Rebind ∷ []) ⊎ (es ≡ before)
   pub forced : is_forced (heard number es).streams ≡ true
 
--- the session's end: its slots are gone, their room was given back, and so is the session
+-- the session's end: the room of its slots was given back, and so is the session; one that has ended has none
 pub record Destroys (config : List ItemDef) (number tick : ℕ) (before : List Told) (new : Testified)
     (old : List Made) : Type 0 where
   pub lines : new.lines ≡ before ++ Ended destroyed tick ∷ []

@@ -18,6 +18,7 @@ pub use Rattle.ls_register.specs.Watches.{Watched}
 use Rattle.ls_told.specs.Spoken.{spoken_of}
 use Rattle.ls_told.specs.Heard.{heard, CountsOn, EndsInTime}
 use Rattle.ls_told.specs.Telling.{numbered_of, AreOf, AreOpen}
+use Rattle.ls_told.specs.Slots.{HasSlots}
 
 -- what was seen of an item of a number
 abbrev pub seen_of : List Watched → ℕ → List Entry
@@ -51,7 +52,8 @@ abbrev pub IsWatched : List Watched → ℕ → Type 0
 IsWatched ws n = (k : ℕ) × (w : Watched) × (slice_get ws k ≡ Some w) × (w.item ≡ n)
 
 -- entries of the session of a number tell of this session, which is lawful on what was seen of the items of its slots:
--- what its clients decode from the texts of its numbered lines is true of the items' histories
+-- what its clients decode from the texts of its numbered lines is true of the items' histories. Its slots are those with
+-- which its subscriptions began, as the entries say.
 pub record IsTold (config : List ItemDef) (number : ℕ) (lines : List Told) (ws : List Watched) (s : Session) : Type 0 where
   pub told : spoken_of s ≡ heard number lines
   pub lawful : LawfulAlone (items_seen config ws) s
@@ -60,6 +62,7 @@ pub record IsTold (config : List ItemDef) (number : ℕ) (lines : List Told) (ws
   pub counts : CountsOn 0 lines
   pub subs : AreOpen s
   pub numbered : AreOf (numbered_of lines) s.board.lines
+  pub slots : HasSlots config (numbered_of lines) s
 
 -- what a caller has seen of the session of a number, and of the items of its slots: a beginning of the session's
 -- history, a longer one, and the places in the first of the lines that were given to this caller; and what was seen of

@@ -1,7 +1,8 @@
 -- The lines of a session as its history tells them, and the subscriptions that they begin and end (TLCP 2.1,
 -- subscriptions and notifications).
-use Rattle.std.specs.Prelude.{◌≡◌, ◌==◌, ℕ, List, [], ◌∷◌, Bool, true, false, None, Some, if◌then◌else◌}
+use Rattle.std.specs.Prelude.{◌≡◌, ◌==◌, ℕ, List, [], ◌∷◌, Bool, true, false, None, Some, IsSome, if◌then◌else◌}
 use Rattle.ls_turns.specs.declared.slot_ref.SlotRef.{SlotRef}
+use Rattle.ls_record.specs.Came.{Came}
 use Rattle.ls_record.specs.Lines.{Line, Begins, Ends, Configures, Answers, Tells}
 use Rattle.ls_record.specs.Records.{Session, is_alive, is_used}
 use Rattle.ls_register.specs.declared.told.Told.{Told}
@@ -17,21 +18,42 @@ numbered_or ns e = ns
 abbrev pub numbered_of : List Told → List NumberedLine
 numbered_of es = told_from numbered_or [] es
 
--- an entry is of a line that tells of a slot at a tick
-pub record TellsOf (n : NumberedLine) (sub rank tick : ℕ) : Type 0 where
+-- an entry is of a line that tells of a slot at a tick, and of what came by it
+pub record TellsOf (n : NumberedLine) (sub rank tick : ℕ) (c : Came) : Type 0 where
   pub slot : SlotRef
   pub is : n.slot ≡ Some slot
   pub sub_is : slot.sub ≡ sub
   pub rank_is : slot.place ≡ rank
   pub tick_is : n.tick ≡ tick
+  pub before : n.before ≡ c.before
+  pub upto : n.upto ≡ c.upto
+  pub at : n.at ≡ c.at
+  pub begun : n.begun ≡ None
 
--- an entry is of a line: it names the slot of one that tells, and its tick; other lines have none
+-- an entry is of a line without a slot
+pub record HasNoSlot (n : NumberedLine) : Type 0 where
+  pub slot : n.slot ≡ None
+  pub before : n.before ≡ 0
+  pub upto : n.upto ≡ 0
+  pub at : n.at ≡ 0
+
+-- of one with which a subscription begins, and of another one
+pub record BeginsOf (n : NumberedLine) : Type 0 where
+  pub plain : HasNoSlot n
+  pub begun : IsSome n.begun
+
+pub record IsPlain (n : NumberedLine) : Type 0 where
+  pub plain : HasNoSlot n
+  pub begun : n.begun ≡ None
+
+-- an entry is of a line: it names the slot of one that tells, its cut and its tick; other lines have none, and the one
+-- with which a subscription begins says with what
 abbrev pub IsOf : NumberedLine → Line → Type 0
-IsOf n (Begins sub items fields keys) = n.slot ≡ None
-IsOf n (Ends sub) = n.slot ≡ None
-IsOf n (Configures sub frequency filtered) = n.slot ≡ None
-IsOf n (Answers outcome) = n.slot ≡ None
-IsOf n (Tells sub rank tick c) = TellsOf n sub rank tick
+IsOf n (Begins sub items fields keys) = BeginsOf n
+IsOf n (Ends sub) = IsPlain n
+IsOf n (Configures sub frequency filtered) = IsPlain n
+IsOf n (Answers outcome) = IsPlain n
+IsOf n (Tells sub rank tick c) = TellsOf n sub rank tick c
 
 -- so is each of the entries, one for each line
 abbrev pub AreOf : List NumberedLine → List Line → Type 0

@@ -158,6 +158,9 @@ pub(crate) fn answer_to(alloc: Global, message: &Message) -> Result<Option<Incom
 }
 
 /// The next message as an answer, or why there is none. Where the peer closes, the socket's close goes out too.
+///
+/// It isn't inlined, so that the stack of a message's answer isn't under that of its reading.
+#[inline(never)]
 pub(crate) fn receive<C: Pipe + Drop>(
     socket: &mut WebSocket<Stream<C>, NoMask>,
     alloc: Global,

@@ -22,8 +22,9 @@ use std::marker::Model;
 use std::sync::Arc;
 use tungstenite::{NoMask, Role, WebSocket, WebSocketConfig};
 
-/// How many bytes a socket asks its pipe for at a time.
-const READ_SIZE: usize = 4096;
+/// How many bytes a socket asks its pipe for at a time. A connection holds the room of two such reads, all of it
+/// touched, so it is no larger than most messages.
+const READ_SIZE: usize = 512;
 
 /// A WebSocket over a pipe, after its handshake, on the server's side. Each line goes out as a text message of its own,
 /// with its CR LF; each message that comes is read whole, of however many frames. Pings and closes are answered by the

@@ -1,4 +1,4 @@
-use Rattle.std.proofs.Common.{ap, ◌∙◌, sym}
+use Rattle.std.proofs.Common.{ap, ◌∙◌}
 use Rattle.ls_request.specs.declared.request.Op.TheVariants as op
 use Rattle.ls_shared.proofs.Grown.{lined}
 use Rattle.ls_shared.proofs.Changing.{refuses_as, of_err, on_ok, reconfigures_as}

@@ -11,4 +11,5 @@ returns c = λ config number lines ws s k. record {
   counts = k.counts;
   subs = k.subs;
   numbered = k.numbered;
+  slots = k.slots;
 }

@@ -14,4 +14,5 @@ invariant_of-self g c =
       ),
       i.1,
       i.2,
+      i.3,
     )

@@ -1,39 +1,47 @@
 use Rattle.std.proofs.Common.{◌∙◌, ap, subst, length, Some, Err}
+use Rattle.std.specs.Vec.{vec_len, vec_capacity}
 use Rattle.ls_record.specs.Acting.{asks_of}
-use Rattle.ls_live_session.specs.Adding.{FindsAdd}
+use Rattle.ls_live_session.specs.Adding.{FindsAdd, MayBegin}
 use Rattle.ls_live_session.proofs.Added.{adding_begun, lives_prepared, items_planned, seen_begun}
 use Rattle.ls_live_session.proofs.live.LiveSession.begin_add.Goals as goal
 
 pub invariant_of-result : goal.invariant_of-result
 invariant_of-result g c =
     let old = c.self.inside.parts in
-    let new = c.plan_in.new.parts in
+    let new = c.prepare_in.new.parts in
     let i = c.self.invariant in
     let r = i.0.0 in
     let config = g.N.House.deed.config in
     let begun = adding_begun config old.number old.history.list old.watches.items old.subs.items new.subs.items old.session new.session c.args.add.now
-    c.args.free c.in-Ok.plan c.new.result.items c.new-in-Ok.result.items r i.0.1 c.plan_in.ensures.subs (c.plan_in.ensures.same r i.0.1.stands)
+    c.args.free c.in-Ok.prepared.plan c.new.result.items c.new-in-Ok.result.items r i.0.1 c.prepare_in.ensures.subs (c.prepare_in.ensures.same r i.0.1.stands)
     c.in-Ok.ensures.ready c.in-Ok.ensures.plan c.in-Ok.ensures.join c.requires.fits (c.in-Ok.ensures.accepted r i.0.1.stands)
     c.in-Ok.ensures.left.0 c.new.ensures.items c.new-in-Ok.ensures.items in
-    rw c.plan_in.ensures.rest ((r, begun), i.1, c.in-Ok.ensures.room)
+    let may : MayBegin c.args.add.now (length c.in-Ok.prepared.plan.items.items) c.in-Ok.prepared.schema c.in-Ok.prepared.slots.items
+    (vec_len c.in-Ok.prepared.slots) (vec_capacity c.in-Ok.prepared.slots) = record {
+      schema_is = c.in-Ok.ensures.schema;
+      none = c.in-Ok.ensures.none.0;
+      empty = c.in-Ok.ensures.none.1;
+      enough = c.in-Ok.ensures.enough;
+    } in
+    rw c.prepare_in.ensures.rest ((r, begun), i.1, c.in-Ok.ensures.room, may)
 
 pub invariant_of-result-in-Err : goal.invariant_of-result-in-Err
 invariant_of-result-in-Err g c =
     let old = c.self.inside.parts in
-    let new = c.plan_in.new.parts in
+    let new = c.prepare_in.new.parts in
     let i = c.self.invariant in
     let r = i.0.0 in
     let lives = lives_prepared g.N.House.deed.config old.number old.history.list old.watches.items old.subs.items new.subs.items old.session
-    new.session r c.plan_in.ensures.subs (c.plan_in.ensures.same r i.0.1.stands) i.0.1 in
-    rw c.plan_in.ensures.rest ((r, lives), i.1)
+    new.session r c.prepare_in.ensures.subs (c.prepare_in.ensures.same r i.0.1.stands) i.0.1 in
+    rw c.prepare_in.ensures.rest ((r, lives), i.1)
 
 pub returns-in-Ok-clause-begun : goal.returns-in-Ok-clause-begun
 returns-in-Ok-clause-begun g c =
     let config = g.N.House.deed.config in
     let a = c.args.add.now in
-    let rest = c.plan_in.ensures.rest in
+    let rest = c.prepare_in.ensures.rest in
     let view = c.self.view_is in
-    let new = c.plan_in.new.parts in
+    let new = c.prepare_in.new.parts in
     let self = c.args.self in
     seen_begun new.number self.number new.place self.place new.history.table self.table new.history.list self.lines new.watches.items self.watches
     a c.args.free _ _ (length c.new.result.items) 0
@@ -42,7 +50,7 @@ returns-in-Ok-clause-begun g c =
     (ap (λ p. p.history.table) rest ∙ ap (λ s. s.table) view)
     (ap (λ p. p.history.list) rest ∙ ap (λ s. s.lines) view)
     (ap (λ p. p.watches.items) rest ∙ ap (λ s. s.watches) view)
-    (items_planned config a.sub 1 (asks_of config a) c.in-Ok.plan.items.items c.in-Ok.ensures.plan.items)
+    (items_planned config a.sub 1 (asks_of config a) c.in-Ok.prepared.plan.items.items c.in-Ok.ensures.plan.items)
     (ap length c.new.ensures.items)
 
 pub returns-in-Err-clause-refused : goal.returns-in-Err-clause-refused

@@ -21,3 +21,10 @@ invariant_of-result g c =
           (c.in_ok-session.ensures c.requires.tick)))),
       tt,
     )
+
+pub returns-clause-lines : goal.returns-clause-lines
+returns-clause-lines g c =
+    let a = c.args.create.now in
+    ap (λ h. h.list) c.tell-2.ensures
+    ∙ ap (λ (h : List Told). h ++ Bound 1 0 false a.keepalive a.length ∷ []) (ap (λ h. h.list) c.tell.ensures)
+    ∙ ap (λ (h : List Told). (h ++ Rate a.bandwidth c.args.now ∷ []) ++ Bound 1 0 false a.keepalive a.length ∷ []) c.in_ok-history.ensures

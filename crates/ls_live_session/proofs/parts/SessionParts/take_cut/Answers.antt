@@ -1,5 +1,6 @@
-use Rattle.std.proofs.Common.{◌<◌, ◌^◌, ◌-◌, ◌++◌, ◌∷◌, [], length, Bool, false, List, Some, is_some, slice_get, slice_set, refl, sym, ◌∙◌, ap, subst}
+use Rattle.std.proofs.Common.{ℕ, ◌<◌, ◌^◌, ◌-◌, ◌++◌, ◌∷◌, [], length, Bool, false, List, Some, None, is_some, slice_get, slice_set, refl, sym, ◌∙◌, ap, subst}
 use Rattle.ls_event.specs.Cuts.{cut}
+use Rattle.ls_record.specs.Came.{came_by}
 use Rattle.ls_register.specs.declared.told.Numbered.{Numbered as NumberedLine}
 use Rattle.ls_seated.specs.Seats.{SeatSeen}
 use Rattle.ls_session.specs.Record.{answered}
@@ -9,9 +10,9 @@ use Rattle.ls_subs.proofs.Cuts.{cut_suits}
 use Rattle.ls_told.specs.Telling.{TellsOf}
 use Rattle.ls_turns.specs.declared.slot_ref.SlotRef.{SlotRef}
 use Rattle.ls_live_session.specs.Speaking.{SubSeen}
-use Rattle.ls_live_session.specs.Taking.{Replies, seat_set}
+use Rattle.ls_live_session.specs.Taking.{Replies, seat_set, seat_after}
 use Rattle.ls_live_session.proofs.Moving.{SeatMoves, read_is}
-use Rattle.ls_live_session.proofs.Asked.{said_by, due_of, moves_of, light_cut, slot_is, line_of, replies_silent, replies_line, told_last, none_of, some_of}
+use Rattle.ls_live_session.proofs.Asked.{said_by, due_of, moves_of, light_cut, came_at, slot_is, line_of, replies_silent, replies_line, told_last, none_of, some_of}
 use Rattle.ls_live_session.proofs.parts.SessionParts.take_cut.Goals as goal
 
 pub pass-requires-clause-seat : goal.pass-requires-clause-seat
@@ -40,7 +41,7 @@ tell_cut-requires-clause-last g c =
     let q = c.requires.asked.1 in
     let asked = c.requires.asked.2 in
     let whole = c.requires.asked.3 in
-    let u : SeatSeen = record at.seat { list = at.seat.list ++ length h ∷ []; quiet = false } in
+    let u : SeatSeen = seat_after at.seat (length h) c.args.taken in
     let m = moves_of config s.number es ws subs s.session r q ask now i asked whole c.args.found.seats at u in
     let due = due_of config s.number es ws subs s.session r q ask now i asked whole ∙ c.requires.due in
     let cuts = ap (cut h) (said_by config s.number es ws subs s.session r q ask now i asked whole c.args.found.seats at)
@@ -69,7 +70,7 @@ returns-then-told-clause-replies g c r q asked whole =
     let ask = c.args.ask in
     let now = c.args.now in
     let at = c.requires.ready.seat in
-    let u : SeatSeen = record at.seat { list = at.seat.list ++ length h ∷ []; quiet = false } in
+    let u : SeatSeen = seat_after at.seat (length h) c.args.taken in
     let m = moves_of config s.number es ws subs s.session r q ask now i asked whole c.args.found.seats at u in
     let due = due_of config s.number es ws subs s.session r q ask now i asked whole ∙ c.requires.due in
     let cuts = ap (cut h) (said_by config s.number es ws subs s.session r q ask now i asked whole c.args.found.seats at)
@@ -91,18 +92,31 @@ returns-then-told-clause-replies g c r q asked whole =
       before = made.before;
       upto = made.upto;
       at = made.at;
+      begun = None;
       tick = c.tick-tick.result;
     } in
-    let of : TellsOf line q.live.sub q.live.rank r.tick = record {
+    let first = read_is subs c.args.found.seats c.index.result.now at.group c.index.ensures at.there in
+    let numbers = c.cut_of-told_of.ensures.numbers at.seat (ap (λ (x : SubSeen). slice_get x.seats (ask.slot.place - 1)) first ∙ at.ranked) in
+    let came = came_at config s.number es ws subs s.session r q ask now i asked whole at.seat u _ c.args.taken what.0 m in
+    let of : TellsOf line q.live.sub q.live.rank r.tick (came_by q.live.slot c.args.taken what.0) = record {
       slot = ask.slot;
-      is = c.cut_of-told_of.ensures;
+      is = c.cut_of-told_of.ensures.slot;
       sub_is = ap (λ (x : SlotRef). x.sub) slot;
       rank_is = ap (λ (x : SlotRef). x.place) slot;
       tick_is = c.tick-tick.ensures.tick ∙ sym asked.tick;
+      before = numbers.0 ∙ came.0;
+      upto = numbers.1 ∙ came.1;
+      at = numbers.2 ∙ came.2;
+      begun = refl;
     } in
     let group = read_is subs c.args.found.seats c.index_mut.result.now at.group c.index_mut.ensures.value at.there in
     let seat = ap (λ (x : SubSeen). slice_get x.seats (ask.slot.place - 1)) group ∙ at.ranked in
-    let moved = c.pass.ensures.moves at.seat seat ∙ ap (λ (x : SubSeen). seat_set x ask.slot.place u) group in
+    let from = read_is subs c.args.found.seats c.index-2.result.now at.group c.index-2.ensures at.there in
+    let kept = c.cursor_after-cursor.ensures at.seat (ap (λ (x : SubSeen). slice_get x.seats (ask.slot.place - 1)) from ∙ at.ranked) in
+    let moved = c.pass.ensures.moves at.seat seat
+    ∙ ap (λ (n : ℕ). seat_set c.index_mut.result.now ask.slot.place (record at.seat { list = at.seat.list ++ length h ∷ []; quiet = false; cursor = n }))
+    kept
+    ∙ ap (λ (x : SubSeen). seat_set x ask.slot.place u) group in
     let new = ap (λ x. x.subs.items) c.tell_cut.ensures.rest ∙ ap (slice_set subs c.args.found.seats) moved in
     let kept = ap (λ x. x.session) c.tell_cut.ensures.rest in
     subst (λ (b : Bool). Replies config s.number es c.tell_cut.new.self.history.list ws c.tell_cut.new.self.subs.items c.tell_cut.new.self.session r q h b)
@@ -124,7 +138,7 @@ returns-else-told-clause-replies g c r q asked whole =
     let ask = c.args.ask in
     let now = c.args.now in
     let at = c.requires.ready.seat in
-    let u : SeatSeen = record at.seat { list = at.seat.list ++ length h ∷ []; quiet = false } in
+    let u : SeatSeen = seat_after at.seat (length h) c.args.taken in
     let m = moves_of config s.number es ws subs s.session r q ask now i asked whole c.args.found.seats at u in
     let due = due_of config s.number es ws subs s.session r q ask now i asked whole ∙ c.requires.due in
     let cuts = ap (cut h) (said_by config s.number es ws subs s.session r q ask now i asked whole c.args.found.seats at)
@@ -136,7 +150,12 @@ returns-else-told-clause-replies g c r q asked whole =
     let silent = none_of (what_of r.session.board.lines q.live c.args.taken) (sym said.0 ∙ c.if-told.false) in
     let group = read_is subs c.args.found.seats c.index_mut.result.now at.group c.index_mut.ensures.value at.there in
     let seat = ap (λ (x : SubSeen). slice_get x.seats (ask.slot.place - 1)) group ∙ at.ranked in
-    let moved = c.pass.ensures.moves at.seat seat ∙ ap (λ (x : SubSeen). seat_set x ask.slot.place u) group in
+    let from = read_is subs c.args.found.seats c.index-2.result.now at.group c.index-2.ensures at.there in
+    let kept = c.cursor_after-cursor.ensures at.seat (ap (λ (x : SubSeen). slice_get x.seats (ask.slot.place - 1)) from ∙ at.ranked) in
+    let moved = c.pass.ensures.moves at.seat seat
+    ∙ ap (λ (n : ℕ). seat_set c.index_mut.result.now ask.slot.place (record at.seat { list = at.seat.list ++ length h ∷ []; quiet = false; cursor = n }))
+    kept
+    ∙ ap (λ (x : SubSeen). seat_set x ask.slot.place u) group in
     let new = ap (slice_set subs c.args.found.seats) moved in
     subst (λ (b : Bool). Replies config s.number es es ws (slice_set subs c.args.found.seats c.pass.new.self) c.answer.new.self r q h b)
     (sym c.if-told.false)

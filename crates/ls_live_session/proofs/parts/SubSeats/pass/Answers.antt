@@ -26,7 +26,9 @@ returns-clause-moves g c t at =
     let n = length c.args.item.now.item.history in
     let there = ap (λ (x : SubSeen). slice_get x.seats (c.args.rank - 1)) c.self.view_is ∙ at in
     let same = read_is c.self.inside.seats.items (c.args.rank - 1) c.index_mut-seat.result.now t c.index_mut-seat.ensures.value there in
-    let seat = c.keep_cursor.ensures ∙ (c.pass.ensures.seat ∙ ap (λ (x : SeatSeen). record x { list = x.list ++ n ∷ []; quiet = false }) same) in
+    let seat = c.keep_cursor.ensures
+    ∙ ap (λ (x : SeatSeen). record x { cursor = c.args.cursor })
+    (c.pass.ensures.seat ∙ ap (λ (x : SeatSeen). record x { list = x.list ++ n ∷ []; quiet = false }) same) in
     λ k. record {
       sub = (c.self.view_is k).sub;
       seats = slice_set (c.self.view_is k).seats (c.args.rank - 1) (seat k);

@@ -1,6 +1,5 @@
-use Rattle.std.proofs.Common.{◌≡◌, ◌+◌, ◌<◌, ◌≤◌, ◌-◌, ◌++◌, ◌∷◌, [], ℕ, List, not, length, refl, sym, ap, ◌∙◌, subst, arith}
+use Rattle.std.proofs.Common.{◌≡◌, ◌+◌, ◌<◌, ◌≤◌, not, length, refl, sym, ap, ◌∙◌, subst, arith}
 use Rattle.ls_value.specs.Each.{Each}
-use Rattle.ls_register.specs.declared.made.Made.{Made}
 use Rattle.ls_register.specs.declared.made.Made.TheVariants.{Session}
 use Rattle.ls_register.specs.Items.{items_of}
 use Rattle.ls_register.specs.Sessions.{sessions_of, is_among, is_gone, is_live, IsCounted}

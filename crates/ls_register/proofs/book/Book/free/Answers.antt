@@ -1,4 +1,4 @@
-use Rattle.std.proofs.Common.{◌≡◌, ◌+◌, ◌-◌, refl, ap, ◌∙◌, arith}
+use Rattle.std.proofs.Common.{◌-◌, refl, ap, ◌∙◌, arith}
 use Rattle.ls_register.specs.declared.made.Made.TheVariants.{Freed}
 use Rattle.ls_register.specs.Items.{items_of}
 use Rattle.ls_register.proofs.Counting.{counted_other, items_stay}

@@ -1,5 +1,4 @@
-use Rattle.std.proofs.Common.{◌≡◌, ◌+◌, ◌-◌, ◌==◌, ℕ, List, not, refl, sym, ap, ◌∙◌, arith}
-use Rattle.std.specs.List.{filter}
+use Rattle.std.proofs.Common.{◌-◌, refl, sym, ap, ◌∙◌, arith}
 use Rattle.ls_register.specs.declared.made.Made.TheVariants.{Freed, Gone}
 use Rattle.ls_register.specs.Items.{items_of}
 use Rattle.ls_register.specs.Sessions.{is_among, IsCounted}

@@ -1,4 +1,4 @@
-use Rattle.std.proofs.Common.{◌==◌, ◌≡◌, List, ℕ, not, sym, ap, ◌∙◌, subst, arith, length, remove}
+use Rattle.std.proofs.Common.{◌==◌, ◌≡◌, not, sym, ap, ◌∙◌, subst, arith, length}
 use Rattle.std.proofs.lemmas.List.Edits.{length-remove}
 use Rattle.std.specs.List.{filter}
 use Rattle.ls_register.specs.Sessions.{is_among, AreRising}

@@ -1,4 +1,5 @@
-use Rattle.std.proofs.Common.{◌≡◌, ◌≢◌, ℕ, ◌++◌, ◌∷◌, [], IfOk, None, subst}
+use Rattle.std.proofs.Common.{◌≡◌, ◌≢◌, ℕ, ◌++◌, ◌∷◌, [], IfOk, OnOk, None, subst}
+use mathlib.Core.List.{IsPrefix}
 use Rattle.ls_cell.specs.Numbered.{slot_at}
 use Rattle.ls_register.specs.declared.made.Made.TheVariants.{Slot}
 use Rattle.ls_seated.specs.Seats.{SeatedItem}
@@ -27,3 +28,7 @@ returns-clause-book g c =
     subst (λ (x : SeatedItem). IfOk c.join_in.result
     (λ t. c.join_in.new.book ≡ c.args.book.now ++ Slot x.item.item t.number t.table ∷ [])) c.self.view_is
     c.join_in.ensures.book
+
+pub returns-clause-begins : goal.returns-clause-begins
+returns-clause-begins g c =
+    subst (λ (x : SeatedItem). OnOk c.join_in.result (IsPrefix c.args.watch.now.list x.item.history)) c.self.view_is c.join_in.ensures.begins

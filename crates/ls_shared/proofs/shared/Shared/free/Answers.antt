@@ -1,4 +1,4 @@
-use Rattle.std.proofs.Common.{rules, ◌≡◌, ℕ, ap, ◌∙◌, sym, subst, List}
+use Rattle.std.proofs.Common.{rules, ◌≡◌, ℕ, ap, ◌∙◌, sym, subst}
 use mathlib.Core.List.{IsPrefix}
 use Rattle.ls_register.specs.declared.made.Made.TheVariants.{Freed}
 use Rattle.ls_register.specs.Sessions.{Gains}
