@@ -578,11 +578,11 @@ class Session:
         """Subscribes."""
         self.control("add", subId=sub, group=" ".join(items), schema=" ".join(fields), mode=mode, **pairs)
 
-    def bind(self, recover=True, **pairs):
+    def bind(self, recover=True, receive_buffer=None, **pairs):
         """Binds the session again on a new connection, after the lines that were counted, or after the last one that
         was given."""
         count = self.told.count if recover else None
-        self._stream("bind_session", {"session": self.told.session, "recovery_from": count, **pairs})
+        self._stream("bind_session", {"session": self.told.session, "recovery_from": count, **pairs}, receive_buffer)
         if recover:
             opening = [self.hear() for _ in range(3)]
             if [line.split(",")[0] for line in opening] != ["SERVNAME", "CONS", "PROG"]:

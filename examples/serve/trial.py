@@ -57,11 +57,13 @@ def need_files(wanted):
 
 class Server:
     """A server with a config, and where it is asked for a proxy before it. For the ports 0 the system chooses some. It
-    may open so many files, or as many as this process where `files` is None."""
+    may open so many files, or as many as this process where `files` is None. What it says on standard error goes into
+    the file `errors`, or where this process says it."""
 
-    def __init__(self, config, nginx=False, ports=(0, 0), files=None):
+    def __init__(self, config, nginx=False, ports=(0, 0), files=None, errors=None):
         self.config = config
         self.most_files = files
+        self.errors = errors
         self.ports = ports
         self.nginx = nginx
         self.process = None
@@ -73,7 +75,7 @@ class Server:
         subprocess.run(PROGRAM + ["--version"], check=True, stdin=subprocess.DEVNULL, stdout=subprocess.DEVNULL)
         words = PROGRAM + ["serve"] + [str(port) for port in self.ports]
         pipe = subprocess.PIPE
-        self.process = subprocess.Popen(words, stdin=pipe, stdout=pipe, preexec_fn=self._limit)
+        self.process = subprocess.Popen(words, stdin=pipe, stdout=pipe, stderr=self.errors, preexec_fn=self._limit)
         try:
             self._begin()
         except BaseException:

@@ -25,8 +25,9 @@ use std::thread::{Threads, join};
 /// How many bytes wait in a duct at most, each way.
 const LIMIT: usize = 65_536;
 
-/// How often a client looks whether something came, before it gives up. It waits 1 ms each time.
-const MOST_LOOKS: u32 = 50_000;
+/// How often a client looks whether something came, before it gives up. It waits 1 ms each time. So it gives up long
+/// before the session's keep-alive of 30,000 ms is due, by which a connection would wake without its bell.
+const MOST_LOOKS: u32 = 10_000;
 
 /// How many ms a client is silent.
 const SILENCE: u64 = 600;
@@ -42,8 +43,8 @@ const TALK: [(&[u8], &[u8]); 4] = [
     (HEAD, REPLY),
     (WSOK, ANSWER),
     (
-        b"\x81\xe2\x00\x00\x00\x00create_session\r\nLS_cid=mgQkwtwdysogQz2BJ4Ji%20kOj2Bg&LS_adapter_set=DEFAULT&LS_cause=api&LS_user=u",
-        b"\x81\x17CONOK,S1,50000,5000,*\r\n\x81\x10SERVNAME,tlcpd\r\n\x81\x10CONS,unlimited\r\n",
+        b"\x81\xfc\x00\x00\x00\x00create_session\r\nLS_cid=mgQkwtwdysogQz2BJ4Ji%20kOj2Bg&LS_adapter_set=DEFAULT&LS_cause=api&LS_user=u&LS_keepalive_millis=30000",
+        b"\x81\x18CONOK,S1,50000,30000,*\r\n\x81\x10SERVNAME,tlcpd\r\n\x81\x10CONS,unlimited\r\n",
     ),
     (
         b"\x81\xfe\x00\xbe\x00\x00\x00\x00control\r\nLS_reqId=2&LS_op=add&LS_subId=1&LS_mode=MERGE&LS_group=item1+item2&LS_schema=last_price+time+stock_name&LS_data_adapter=QUOTE_ADAPTER&LS_snapshot=true&LS_requested_max_frequency=3.0",
