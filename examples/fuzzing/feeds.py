@@ -73,8 +73,8 @@ class Feed:
         self.items = {name: Item(name, *of) for name, of in own.items()}
         self.rules = Rules(self.items, names)
         self.seqs, self.shared_seq = {}, 0
-        # The numbers of its events on the shared item, and how many numbers a reset kept from it.
-        self.shared, self.unseen = [], 0
+        # The numbers of its events on the shared item.
+        self.shared = []
 
     def run(self, port, count):
         """Sends so many lines that are replied to. Gives how many they were."""
@@ -93,8 +93,7 @@ class Feed:
         last = self.line()[:draw.randint(0, 20)] if draw.chance(0.3) else b""
         data = b"\n".join([hello] + lines) + b"\n" + last
         wanted = self.wanted(hello, lines, last)
-        got, is_reset = self.sent(port, data)
-        self.compare(data, wanted, got, is_reset and any(len(line) > LONGEST_LINE for line in lines + [last]))
+        self.compare(data, wanted, self.sent(port, data))
         return len(wanted)
 
     def wanted(self, hello, lines, last):
@@ -111,18 +110,17 @@ class Feed:
         return wanted + (["bad 1"] if len(last) > LONGEST_LINE else [])
 
     def sent(self, port, data):
-        """Sends it all while the replies are read. Gives them, and whether the connection was reset."""
+        """Sends it all while the replies are read. Gives them."""
         with connected(port) as sock, ThreadPoolExecutor(1) as sender:
-            is_gone = sender.submit(send, sock, self.draw.pieces(data), True)
+            sender.submit(send, sock, self.draw.pieces(data), True)
             try:
-                got, is_reset = all_of(sock, 3 * HANG)
-                return got, is_gone.result() or is_reset
+                return all_of(sock, 3 * HANG)[0]
             except TimeoutError as late:
                 raise Differs("feed", data, "an end", f"none in {3 * HANG} s") from late
 
-    def compare(self, data, wanted, got, is_cut):
+    def compare(self, data, wanted, got):
         *replies, rest = got.decode("latin-1").split("\n")
-        if rest and not is_cut:
+        if rest:
             raise Differs("feed", data, "whole lines", got[-100:])
         for number, (right, reply) in enumerate(zip(wanted, replies), 1):
             if right == "ok" and reply.startswith("ok "):
@@ -130,8 +128,7 @@ class Feed:
             elif reply != right:
                 raise Differs("feed", data, f"{right} to line {number} after the hello", reply)
             self.told[" ".join(reply.split(" ")[:2 if reply.startswith("bad") else 1])] += 1
-        self.unseen += wanted[len(replies):].count("ok")
-        if len(wanted) != len(replies) and not is_cut:
+        if len(wanted) != len(replies):
             raise Differs("feed", data, f"{len(wanted)} replies", f"{len(replies)}")
 
     def line(self):
@@ -274,7 +271,7 @@ def is_over(known, item):
 def count_shared(feeds):
     """How many events were published on the shared item. Each has a number of its own."""
     numbers = [number for feed in feeds for number in feed.shared]
-    count = len(numbers) + sum(feed.unseen for feed in feeds)
+    count = len(numbers)
     if len(set(numbers)) < len(numbers) or not set(numbers) <= set(range(1, count + 1)):
         raise Differs("the shared item", b"", f"numbers from 1 to {count}, each once", sorted(numbers))
     return count

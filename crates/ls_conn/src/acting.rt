@@ -134,7 +134,8 @@ fn control_at<N: House, R: Wait>(
     shared.control(rt, session, op, now, &mut tokens[place])
 }
 
-/// Opens a session.
+/// Opens a session. It isn't inlined, so that its stack isn't under that of a subscription that is added.
+#[inline(never)]
 fn create_session<N: House, R: Wait>(
     rt: &R,
     alloc: Global,

@@ -1,14 +1,1 @@
-pub mod Bounds
-pub mod Codes
-pub mod Living
-pub mod Turning
-pub mod Agreeing
-pub mod Seeing
-pub mod Changed
-pub mod Sitting
-pub mod CaughtUp
-pub mod Moving
-pub mod Replied
-pub mod Added
-pub mod Asked
-pub mod AddDone
+pub mod Begun

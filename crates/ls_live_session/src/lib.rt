@@ -2,8 +2,8 @@
 //!
 //! A [`LiveSession`] is what stands behind a session's lock: its type keeps that the session stands for a record of which
 //! its history tells, that the record is lawful on what was seen of the items, and that each slot of the record has a
-//! seat. A [`Sight`] is what a caller has seen of a session: a beginning of its history and of those of its items, which
-//! is lawful too. By [`LiveSession::show`] it sees all that the session has:
+//! seat. A [`Sight`](ls_sight::Sight) is what a caller has seen of a session: a beginning of its history and of those of its
+//! items, which is lawful too. By [`LiveSession::show`] it sees all that the session has:
 //!
 //! ```text
 //! let mut live = LiveSession::<N>::open(alloc, 1, &create, now, bell)?.at(place);
@@ -12,25 +12,16 @@
 //! live.show(&register, &mut sight);                // the sight has it too
 //! ```
 //!
-//! While a session's turns are taken, it stands in parts ([`SessionParts`]): each turn says what it makes of whichever
-//! record the parts stand for. It takes no lock and has no threads; no contract speaks of bells.
+//! While a session's turns are taken, it stands in parts ([`SessionParts`](ls_parts::SessionParts)): each turn says what it
+//! makes of whichever record the parts stand for. It takes no lock and has no threads; no contract speaks of bells.
 #![tactic(auto)]
 
 mod adding;
 mod binding;
 mod cross;
-mod giving;
-mod history;
 mod live;
-mod parts;
 mod requests;
 mod showing;
-mod sight;
-mod taking;
-mod watches;
 
 pub use adding::{Adding, NotAdded, Undone};
 pub use live::LiveSession;
-pub use parts::{Left, SessionParts, SubSeats};
-pub use sight::{Sight, SightStart};
-pub use taking::Found;

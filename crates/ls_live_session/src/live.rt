@@ -9,12 +9,14 @@ ghost use Rattle.ls_told.specs.Seen.{IsDeclared};
 ghost use Rattle.ls_told.specs.Requests.{InTime};
 ghost use Rattle.ls_record.specs.Records.{is_alive};
 ghost use Rattle.ls_record.specs.declared.TheConstants.{MOST_UNBOUND};
-ghost use Rattle.ls_live_session.specs.Lives.{Lives, LivesAs, ShowsIt, IsOverdue};
+ghost use Rattle.ls_sight.specs.Sights.{ShowsIt};
+ghost use Rattle.ls_taking.specs.Lives.{Lives};
+ghost use Rattle.ls_parts.specs.Leaving.{IsOverdue};
 
-use crate::history::{History, is_past};
-use crate::parts::SessionParts;
 use ls_bell::Bell;
 use ls_chron::Sign;
+use ls_history::{History, is_past};
+use ls_parts::SessionParts;
 use ls_record::MOST_UNBOUND;
 use ls_register::{House, Place, Told};
 use ls_request::Create;
@@ -34,11 +36,12 @@ pub struct LiveSession<N: House> {
 
 impl<N: House> Model for LiveSession<N> {
     ghost use Rattle.std.specs.Prelude.{◌≡◌, IfSome};
-    ghost use Rattle.ls_live_session.specs.Speaking.{Speaking};
+    ghost use Rattle.ls_sight.specs.Speaking.{Speaking};
 
     ghost Value = { Speaking };
 
-    ghost use Rattle.ls_live_session.specs.Lives.{Lives, ShowsIt};
+    ghost use Rattle.ls_sight.specs.Sights.{ShowsIt};
+    ghost use Rattle.ls_taking.specs.Lives.{Lives};
 
     ghost view = { λ s. record {
       number = s.parts.number;

@@ -3,18 +3,16 @@ ghost use Rattle.std.specs.Prelude.{◌≡◌, [], IfOk, IfSome, IsTrue, IsSome,
 ghost use mathlib.Core.List.{IsPrefix};
 ghost use Rattle.ls_value.specs.Each.{Each};
 ghost use Rattle.ls_told.specs.Seen.{SeesMore, Grows, FitsWatch};
-ghost use Rattle.ls_session.specs.Record.{Record};
-ghost use Rattle.ls_live_session.specs.Lives.{Lives, LivesAs, ShowsIt};
-ghost use Rattle.ls_live_session.specs.Sights.{AreOneItems, ShowsAll};
+ghost use Rattle.ls_sight.specs.Sights.{ShowsIt, AreOneItems, ShowsAll};
+ghost use Rattle.ls_taking.specs.Lives.{Lives};
 
 use crate::live::LiveSession;
-use crate::parts::SessionParts;
-use crate::sight::{Sight, SightStart};
-use crate::watches::{agree_all, all_fit, copies};
 use ls_bell::Bell;
 use ls_chron::Chron;
 use ls_live::Watch;
+use ls_parts::SessionParts;
 use ls_register::{House, Made};
+use ls_sight::{Sight, SightStart, copies};
 use ls_value::NoMemory;
 use std::alloc::Global;
 use std::sync::Arc;
@@ -61,7 +59,7 @@ impl<N: House> LiveSession<N> {
             return false;
         };
         let mut mine = place.again(register);
-        let mut theirs = sight.place.again(register);
+        let mut theirs = sight.place(register);
         mine.is_that(register, &mut theirs)
     }
 
@@ -107,8 +105,7 @@ impl<N: House> LiveSession<N> {
         ensures lines { IsPrefix sight.old.lines self.old.lines }
         ensures later { IsPrefix sight.old.later self.old.lines }
     {
-        self.parts.history.show(&mut sight.later);
-        self.parts.history.show(&mut sight.lines);
+        sight.show_lines(&mut self.parts.history);
     }
 
     /// Of the session's history the sight has all in its later list; all else stays. It takes no memory.
@@ -118,40 +115,7 @@ impl<N: House> LiveSession<N> {
         ensures later { sight.new ≡ record sight.old { later = self.old.lines } }
         ensures begins { IsPrefix sight.old.later self.old.lines }
     {
-        self.parts.history.show(&mut sight.later);
-    }
-}
-
-impl<N: House> SessionParts<N> {
-    /// The sight sees all that the session has, as by [`LiveSession::show`].
-    pub fn show(&mut self, register: &Chron<Made>, sight: &mut Sight<N>)
-        requires register { register.now ≡ N.deed.register }
-        requires lives { Lives N.deed.config self.old.number self.old.history.list self.old.watches.items
-            self.old.subs.items self.old.session }
-        requires of { (sight.old.number ≡ self.old.number) × (sight.old.table ≡ self.old.history.table) }
-        requires one { AreOneItems self.old.watches.items sight.old.watches }
-        ensures rest { self.new ≡ record self.old { watches = self.new.watches; history = self.new.history } }
-        ensures history { self.new.history ≡ self.old.history }
-        ensures more { SeesMore self.old.watches.items self.new.watches.items }
-        ensures fit { Each (FitsWatch N.deed.config) self.new.watches.items }
-        ensures lives { (r : Record) → LivesAs N.deed.config self.old.number self.old.history.list
-            self.old.watches.items self.old.subs.items self.old.session r
-            → LivesAs N.deed.config self.old.number self.old.history.list self.new.watches.items self.old.subs.items
-            self.old.session r }
-        ensures sight { ShowsAll (record {
-          number = self.old.number;
-          place = self.old.place;
-          table = self.old.history.table;
-          lines = self.old.history.list;
-          watches = self.new.watches.items;
-        }) sight.new }
-        ensures mine { sight.new.mine ≡ sight.old.mine }
-        ensures grows { Grows sight.old sight.new }
-    {
-        agree_all(register, &mut self.watches, &mut sight.watches);
-        all_fit(&self.watches);
-        self.history.show(&mut sight.later);
-        self.history.show(&mut sight.lines);
+        sight.show_later(&mut self.parts.history);
     }
 }
 
@@ -178,15 +142,12 @@ fn sight_of<N: House>(
         unreachable!()
     };
     let place = place.again(register);
-    let SightStart { tally, mine } = start;
-    Sight {
-        number: parts.number,
-        lines: parts.history.note(),
-        later: parts.history.note(),
-        tally,
-        mine,
+    Sight::begin(
+        parts.number,
+        &mut parts.history,
         place,
+        start,
         watches,
         bell,
-    }
+    )
 }

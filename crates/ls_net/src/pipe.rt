@@ -9,7 +9,7 @@ use ls_outside::{Got, Pipe, Put, Sink, Source};
 use ls_wake::Wakes;
 use std::alloc::Global;
 use std::io::{Error, ErrorKind, Read, Result, Write};
-use std::net::TcpStream;
+use std::net::{Shutdown, TcpStream};
 use std::os::fd::AsRawFd;
 use std::sync::Arc;
 use std::time::Duration;
@@ -22,6 +22,9 @@ pub const ROOM_MS: u64 = 5_000;
 /// thread of a feed that says nothing looks at the time.
 pub const BYTE_MS: u64 = 1_000;
 
+/// How many pieces of what the peer sends too late are read at most before a connection is closed.
+const LATE_PIECES: usize = 64;
+
 /// Whether the call may be made again: it would have had to wait, or a signal interrupted it.
 pub(crate) fn is_later(error: &Error) -> bool
     ensures { IsTrue result ↔ IsLater (error_kind error.now) }
@@ -33,10 +36,10 @@ pub(crate) fn is_later(error: &Error) -> bool
 ///
 /// A client's read doesn't wait, and a feed's read waits for a byte, at most `BYTE_MS`: where none is there it is
 /// `NotYet`. A write waits for room, at most `ROOM_MS`; after that it is `Failed`, as it is after every other error.
-/// Bytes are sent at once (`set_nodelay`). The connection is closed when the pipe is dropped.
+/// Bytes are sent at once (`set_nodelay`). The connection is closed when the pipe is dropped, in stages (RFC 9112, 9.6), so
+/// that a peer which still sends gets what was written.
 ///
 /// A client's pipe that a watcher watches can have a bell rung when bytes are there (`Wakes`).
-#[derive(Drop)]
 pub struct TcpPipe {
     stream: TcpStream,
     seat: Seat,
@@ -44,6 +47,41 @@ pub struct TcpPipe {
     read_faults: u64,
     idles: u64,
     write_faults: u64,
+}
+
+impl Drop for TcpPipe {
+    fn drop(self) {
+        let TcpPipe {
+            mut stream,
+            seat: _,
+            waits_for_bytes: _,
+            read_faults: _,
+            idles: _,
+            write_faults: _,
+        } = self;
+        close_in_stages(&mut stream);
+    }
+}
+
+/// Says that nothing more is written and, where bytes are there that nobody read, reads on: at most `LATE_PIECES` pieces,
+/// and until none comes for `BYTE_MS`. With bytes unread the system would reset the connection, and the peer might lose the
+/// last reply.
+#[inline(never)]
+fn close_in_stages(stream: &mut TcpStream) {
+    let ended = stream.shutdown(Shutdown::Write);
+    if ended.is_err() || stream.set_nonblocking(true).is_err() {
+        return;
+    }
+    let mut piece = [0; 4096];
+    for late in 0..LATE_PIECES {
+        match stream.read(&mut piece) {
+            Ok(count) if count > 0 => {}
+            _ => return,
+        }
+        if late == 0 && stream.set_nonblocking(false).is_err() {
+            return;
+        }
+    }
 }
 
 impl TcpPipe {

@@ -1,3 +1,1 @@
-pub mod Commands
 pub mod Running
-pub mod Soaks

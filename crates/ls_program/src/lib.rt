@@ -1,8 +1,8 @@
 //! A run of the program, from its words to its status.
 //!
-//! `run` has words, a source and a sink, a clock, a door and a spawner, and a `Status` for its end. `replay` plays a
-//! script, as `run` of ls_run does; `serve` runs a server, as `serve` of ls_serve does; `soak` draws a script and counts
-//! what it prints, as `soak` of ls_soak does. Other words are none of a command:
+//! `run` has words, a source and a sink, a clock, a door and a spawner, and a `Status` for its end. ls_arguments reads
+//! the words. `replay` plays a script, as `run` of ls_run does; `serve` runs a server, as `serve` of ls_serve does;
+//! `soak` draws a script and counts what it prints, as `soak` of ls_soak does. Other words are none of a command:
 //!
 //! ```text
 //! let mut spawner = Spawner::threads(alloc, STACK_BYTES);
@@ -12,13 +12,8 @@
 //! The words don't hold the program's name. The command line and the real objects are the program's own.
 #![tactic(auto)]
 
+mod commands;
 mod running;
-mod soaking;
-mod words;
 
 pub use ls_run::Status;
-pub use ls_serve::Order;
-pub use ls_soak::SoakOrder;
 pub use running::run;
-pub use soaking::soak_of;
-pub use words::order_of;

@@ -1,8 +1,9 @@
 -- What a register says of the sessions and of the slots of a server (this project's profile).
-use Rattle.std.specs.Prelude.{◌≡◌, ◌==◌, ◌≤◌, ◌<◌, ℕ, ◌+◌, ◌-◌, List, [], ◌∷◌, length, Bool, false, not, ◌||◌}
-use Rattle.std.specs.Prelude.{Some, nat_le, slice_get}
+use Rattle.std.specs.Prelude.{◌≡◌, ◌==◌, ◌≤◌, ◌<◌, ℕ, ◌+◌, ◌-◌, List, [], ◌∷◌, length, Bool, false, not, ◌||◌, ◌&&◌}
+use Rattle.std.specs.Prelude.{Some, nat_le, nat_lt, slice_get}
 use Rattle.std.specs.List.{filter}
 use Rattle.atomic_table.specs.Seated.{TableId}
+use Rattle.ls_chron.specs.declared.chron.TheConstants.{MOST_ENTRIES}
 use Rattle.ls_value.specs.Each.{Each}
 use Rattle.ls_value.specs.declared.limits.TheConstants.{GREATEST_NUMBER}
 use Rattle.ls_event.specs.declared.limits.TheConstants.{MOST_SLOTS}
@@ -68,6 +69,14 @@ claimed_of ms = claims_of ms - frees_of ms
 -- how many slots may still be claimed
 abbrev pub free_in : List Made → ℕ
 free_in ms = MOST_SLOTS - claimed_of ms
+
+-- room for so many slots can be given back: so many are claimed, and a shared history takes the entry
+abbrev pub keeps_freed : List Made → ℕ → Bool
+keeps_freed ms slots = nat_le slots (claimed_of ms) && nat_lt (length ms) MOST_ENTRIES
+
+-- and so with the end of the session that claimed it, which is a second entry
+abbrev pub keeps_gone : List Made → ℕ → Bool
+keeps_gone ms slots = nat_le slots (claimed_of ms) && nat_lt (length ms + 1) MOST_ENTRIES
 
 -- a history takes no more entries that a request adds
 abbrev pub is_spent : {A : Type 0} → List A → Bool

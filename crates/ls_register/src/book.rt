@@ -1,10 +1,10 @@
 //! The register's writer with the live sessions, and what is seen of the register.
-ghost use Rattle.std.specs.Prelude.{◌≡◌, ◌≤◌, ◌<◌, ◌+◌, ◌++◌, ◌∷◌, [], ◌^◌, List, true, false, length};
+ghost use Rattle.std.specs.Prelude.{◌≡◌, ◌≤◌, ◌<◌, ◌+◌, ◌++◌, ◌∷◌, [], ◌^◌, ◌&&◌, List, true, false, length};
 ghost use Rattle.std.specs.Prelude.{IfOk, IfSome, IfNone, OnOk, OnErr, OnSome, IsErrOf, IsTrue, IsFalse, is_some, not, nat_lt};
 ghost use mathlib.Core.List.{IsPrefix};
 ghost use Rattle.ls_register.specs.Items.{items_of, facts_of, ShowsSlot};
 ghost use Rattle.ls_register.specs.Places.{Placed};
-ghost use Rattle.ls_register.specs.Sessions.{live_of, is_live, sessions_of, free_in, is_spent, are_spent};
+ghost use Rattle.ls_register.specs.Sessions.{live_of, is_live, sessions_of, free_in, is_spent, are_spent, keeps_freed, keeps_gone};
 ghost use Rattle.ls_register.specs.declared.made.Made.{Made as WasMade};
 ghost use Rattle.ls_register.specs.declared.made.Made.TheVariants.{Session, Slot, Claimed, Freed, Gone};
 ghost use Rattle.ls_register.specs.declared.book.ClaimRefused.TheVariants as ClaimRefused;
@@ -186,14 +186,16 @@ impl<N: House, H: Drop> Book<N, H> {
     }
 
     /// A session that lives is gone, and room for so many slots is given back; what was held of the session is answered.
-    /// `None` comes, and changes nothing, where it doesn't live, where room for fewer slots is claimed, or where the
-    /// register has nearly as many entries as a shared history may.
+    /// `None` comes, and changes nothing, exactly where it doesn't live, where room for fewer slots is claimed, or where
+    /// the register has nearly as many entries as a shared history may.
     pub fn gone(&mut self, register: &Chron<Made>, session: u64, slots: u32) -> Option<H>
         requires { register.now ≡ N.deed.register }
         ensures done { OnSome result (self.new ≡ self.old ++ Freed slots ∷ Gone session ∷ []) }
         ensures gone { OnSome result (is_live self.new session ≡ false) }
         ensures lived { OnSome result (is_live self.old session ≡ true) }
+        ensures held { OnSome result (keeps_gone self.old slots ≡ true) }
         ensures none { IfNone result (self.new ≡ self.old) }
+        ensures cause { IfNone result ((is_live self.old session && keeps_gone self.old slots) ≡ false) }
     {
         if slots > self.claimed || self.entries >= MOST_ENTRIES - 1 {
             return None;
@@ -244,12 +246,13 @@ impl<N: House, H: Drop> Book<N, H> {
         Ok(())
     }
 
-    /// Gives room for so many slots back. `false` comes, and nothing changes, where room for fewer is claimed, or where
-    /// the register has as many entries as a shared history may. It takes no memory.
+    /// Gives room for so many slots back. `false` comes, and nothing changes, exactly where room for fewer is claimed, or
+    /// where the register has as many entries as a shared history may. It takes no memory.
     pub fn free(&mut self, register: &Chron<Made>, slots: u32) -> bool
         requires { register.now ≡ N.deed.register }
         ensures done { IsTrue result → self.new ≡ self.old ++ Freed slots ∷ [] }
         ensures not { IsFalse result → self.new ≡ self.old }
+        ensures exact { result ≡ keeps_freed self.old slots }
     {
         if slots > self.claimed || self.entries >= MOST_ENTRIES {
             return false;

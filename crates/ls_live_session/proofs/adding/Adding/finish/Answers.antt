@@ -1,7 +1,7 @@
 use Rattle.std.proofs.Common.{sym, subst, IfSome}
 use Rattle.ls_told.specs.Heard.{counts_as}
-use Rattle.ls_live_session.specs.Lives.{ShowsIt}
-use Rattle.ls_live_session.specs.Adding.{AddsTo}
+use Rattle.ls_sight.specs.Sights.{ShowsIt}
+use Rattle.ls_joining.specs.Adding.{AddsTo}
 use Rattle.ls_live_session.proofs.adding.Adding.finish.Goals as goal
 
 pub finish_in-requires-clause-none : goal.finish_in-requires-clause-none

@@ -1,6 +1,6 @@
 use Rattle.std.proofs.Common.{List, sym, subst}
 use Rattle.ls_register.specs.Watches.{Watched}
-use Rattle.ls_live_session.specs.Adding.{IsAdding}
+use Rattle.ls_joining.specs.Adding.{IsAdding}
 use Rattle.ls_live_session.proofs.adding.Adding.show_items.Goals as goal
 
 pub invariant_of-self : goal.invariant_of-self

@@ -1,8 +1,9 @@
 use Rattle.std.proofs.Common.{◌∙◌, ap, subst, length, Some, Err}
 use Rattle.std.specs.Vec.{vec_len, vec_capacity}
 use Rattle.ls_record.specs.Acting.{asks_of}
+use Rattle.ls_joining.proofs.Added.{adding_begun, lives_prepared, items_planned}
 use Rattle.ls_live_session.specs.Adding.{FindsAdd, MayBegin}
-use Rattle.ls_live_session.proofs.Added.{adding_begun, lives_prepared, items_planned, seen_begun}
+use Rattle.ls_live_session.proofs.Begun.{seen_begun}
 use Rattle.ls_live_session.proofs.live.LiveSession.begin_add.Goals as goal
 
 pub invariant_of-result : goal.invariant_of-result

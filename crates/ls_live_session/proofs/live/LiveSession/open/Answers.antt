@@ -1,8 +1,8 @@
 use Rattle.std.proofs.Common.{◌≡◌, List, ◌++◌, ◌∷◌, [], sym, ap, ◌∙◌, subst, false}
 use Rattle.ls_register.specs.declared.told.Told.{Told}
 use Rattle.ls_register.specs.declared.told.Told.TheVariants.{Rate, Bound}
-use Rattle.ls_live_session.specs.Lives.{Lives}
-use Rattle.ls_live_session.proofs.Living.{lives_opened}
+use Rattle.ls_taking.specs.Lives.{Lives}
+use Rattle.ls_parts.proofs.Living.{lives_opened}
 use Rattle.ls_live_session.proofs.live.LiveSession.open.Goals as goal
 
 pub invariant_of-result : goal.invariant_of-result

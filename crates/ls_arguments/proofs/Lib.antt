@@ -1,0 +1,4 @@
+pub mod Walking
+pub mod Ties
+pub mod Plain
+pub mod Replays

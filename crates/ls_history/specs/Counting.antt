@@ -1,0 +1,21 @@
+-- What is counted of a session's history.
+use Rattle.std.specs.Prelude.{◌≡◌, ◌≤◌, List, length, Option, Some}
+use Rattle.std.specs.Option.{ForSome}
+use Rattle.ls_value.specs.declared.limits.TheConstants.{GREATEST_TICK}
+use Rattle.ls_register.specs.declared.told.Told.{Told}
+use Rattle.ls_told.specs.Heard.{latest_of, keepalive_of, last_gave, has_rebind}
+use Rattle.ls_history.specs.declared.history.Given.{Given}
+use Rattle.ls_history.specs.declared.history.Counters.{Counters}
+
+-- the line that was given last, if it is known
+abbrev pub GivenIs : Option Given → List Told → Type 0
+GivenIs given es = ForSome given (λ g. last_gave g.epoch es ≡ Some g.tick)
+
+-- what is counted is true of the entries
+pub record Counts (c : Counters) (es : List Told) : Type 0 where
+  pub entries : c.entries ≡ length es
+  pub latest : c.latest ≡ latest_of es
+  pub most : latest_of es ≤ GREATEST_TICK
+  pub keepalive : c.keepalive ≡ keepalive_of es
+  pub given : GivenIs c.given es
+  pub forced : c.forced ≡ has_rebind es

@@ -1,5 +1,0 @@
-use Rattle.ls_live_session.proofs.Agreeing.{fits_seen}
-use Rattle.ls_live_session.proofs.adding.fits.Goals as goal
-
-pub returns : goal.returns
-returns g c = fits_seen g.N.House.deed.config c.args.watch.now c.says.ensures

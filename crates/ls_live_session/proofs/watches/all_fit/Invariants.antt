@@ -1,5 +1,0 @@
-use Rattle.ls_live_session.proofs.Agreeing.{FirstFit}
-use Rattle.ls_live_session.proofs.watches.all_fit.Given as goal
-
-abbrev pub invariant-loop-i : goal.invariant-loop-i
-invariant-loop-i g l = FirstFit g.N.House.deed.config l.i l.watches.items

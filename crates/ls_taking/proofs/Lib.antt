@@ -1,0 +1,4 @@
+pub mod CaughtUp
+pub mod Seeing
+pub mod Moving
+pub mod Catching

@@ -1,0 +1,28 @@
+use Rattle.std.proofs.Common.{◌≡◌, ◌-◌, Some, slice_get, sym, ◌∙◌, ap, subst}
+use Rattle.ls_cell.proofs.Arrivals.{ok_with}
+use Rattle.ls_event.specs.Cuts.{cut}
+use Rattle.ls_seated.specs.Seats.{SeatSeen, IsReady, slot_of}
+use Rattle.ls_sight.proofs.Reading.{read_is}
+use Rattle.ls_taking.specs.Groups.{SubSeen}
+use Rattle.ls_taking.proofs.seats.SubSeats.look.Goals as goal
+
+pub look-requires : goal.look-requires
+look-requires g c =
+    let t = c.requires.seat in
+    let there = ap (λ (x : SubSeen). slice_get x.seats (c.args.rank - 1)) c.self.view_is ∙ t.1 in
+    let same = read_is c.self.inside.seats.items (c.args.rank - 1) c.index.result.now t.0 c.index.ensures there in
+    subst (λ (x : SeatSeen). IsReady x c.args.item.now) (sym same) t.2
+
+pub returns : goal.returns
+returns g c =
+    let h = c.args.item.now.item.history in
+    let p = c.args.item.now.item.shape in
+    let x = c.index.result.now in
+    ok_with (λ o. o ≡ cut h (slot_of p h x.plan x.list))
+    (λ o. (t : SeatSeen) → slice_get c.args.self.now.seats (c.args.rank - 1) ≡ Some t → o ≡ cut h (slot_of p h t.plan t.list))
+    c.look.result
+    (λ o is t at.
+    let there = ap (λ (y : SubSeen). slice_get y.seats (c.args.rank - 1)) c.self.view_is ∙ at in
+    let same = read_is c.self.inside.seats.items (c.args.rank - 1) x t c.index.ensures there in
+    is ∙ ap (λ (y : SeatSeen). cut h (slot_of p h y.plan y.list)) same)
+    c.look.ensures.cut
