@@ -90,6 +90,13 @@ class Session:
         kept = most <= KEPT_LINES and self.size + LONGEST_LINE * (most - len(self.lines)) <= KEPT_BYTES
         return False if kept or self.is_exact() and count >= self.at else None
 
+    def next_asked(self):
+        """Takes the next line of a request. No line of a subscription comes after its UNSUB."""
+        line = self.asked_lines.pop(0)
+        if line.startswith("UNSUB,"):
+            self.gone.remove(next(sub for sub in self.gone if line == f"UNSUB,{sub.values['sub']}"))
+        return line
+
     def is_quiet(self):
         """Whether all came on its stream that has to."""
         if self.stream is None:
@@ -116,7 +123,7 @@ class Stream:
         session.at = session.at if count is None else count
         # A client may say that it has lines which it never heard.
         while len(session.lines) < session.at:
-            session.lines.append(session.asked_lines.pop(0))
+            session.lines.append(session.next_asked())
         session.owed = [f"50000,{values['keepalive']},*", "SERVNAME,tlcpd", f"CONS,{printed(session.rate)}"]
         session.owed += [] if count is None else [f"PROG,{count}"]
         session.stream, session.is_lost = self, False
@@ -167,9 +174,7 @@ class Stream:
         if line.startswith(("U,", "EOS,")):
             self._row(line)
         elif session.asked_lines and line == session.asked_lines[0]:
-            session.asked_lines.pop(0)
-            if line.startswith("UNSUB,"):
-                session.gone.remove(next(sub for sub in session.gone if line == f"UNSUB,{sub.values['sub']}"))
+            session.next_asked()
         else:
             raise ValueError(f"{line} for {session.asked_lines[:1]}")
 
