@@ -1,8 +1,8 @@
 /* Loads a server over loopback: clients' streams, and a feed. bench/serve compiles and runs it.
  *
- * usage: load PORT FEED http|ws STREAMS ITEMS RATE SECONDS
+ * usage: load PORT FEED http|ws MERGE|RAW STREAMS ITEMS RATE SECONDS
  *
- * Each stream is a session of its own, which subscribes to one item in mode MERGE: stream i to item i modulo ITEMS.
+ * Each stream is a session of its own, which subscribes to one item in that mode: stream i to item i modulo ITEMS.
  * The items are named i0, i1 and so on and have the fields seq, stamp, price and size. RATE is how many updates a
  * second the feed publishes, over all items by turns; 0 is as fast as it can, with at most WINDOW lines that have no
  * reply; -1 is no feed.
@@ -11,8 +11,8 @@
  * and all streams must come to the last update of their items. It prints what was counted, a name and a number on each
  * line, then `done`, and waits for another line before it closes the streams.
  *
- * Each client decodes each line. It ends the program with status 1 where a seq doesn't rise, a row isn't the one
- * that was published with its seq, or a line has no place here. A latency is the time from just before the feed's write
+ * Each client decodes each line. It ends the program with status 1 where a seq doesn't rise, in RAW one is left out that
+ * no OV counts, a row isn't the one that was published with its seq, or a line has no place here. A latency is the time from just before the feed's write
  * to just after the client's read. */
 #define _GNU_SOURCE
 #include <arpa/inet.h>
@@ -56,17 +56,18 @@ struct stream {
     char session[24];
     char row[FIELDS][LONGEST_VALUE];
     uint64_t seq;
+    uint64_t lost; /* by OV, since the last update */
     size_t have;
     char buffer[BUFFER];
 };
 
 static int port, feed_port, streams, items, rate;
-static bool ws;
+static bool ws, raw;
 static double seconds;
 static struct stream **all;
 static uint64_t *published; /* the last seq of each item; the feed's thread writes it */
 static _Atomic bool feed_over;
-static uint64_t total_published, lines, probes;
+static uint64_t total_published, lines, probes, lost;
 static uint32_t *latencies;
 
 static void fail(const char *form, ...) {
@@ -201,7 +202,11 @@ static void hear_update(struct stream *s, const char *coded, size_t length, uint
         fail("%s: seq %llu comes after %llu", s->session, (unsigned long long)seq, (unsigned long long)s->seq);
     if (strcmp(price, s->row[2]) != 0 || strcmp(size, s->row[3]) != 0)
         fail("%s: %s, %s isn't the row of seq %llu", s->session, s->row[2], s->row[3], (unsigned long long)seq);
+    if (raw && s->seq != 0 && seq != s->seq + 1 + s->lost)
+        fail("%s: seq %llu comes after %llu and %llu lost", s->session, (unsigned long long)seq,
+             (unsigned long long)s->seq, (unsigned long long)s->lost);
     s->seq = seq;
+    s->lost = 0;
     lines++;
     uint64_t micros = at > stamp ? (at - stamp) / 1000 : 0;
     latencies[micros < MOST_MICROS ? micros : MOST_MICROS]++;
@@ -222,6 +227,9 @@ static void hear_line(struct stream *s, const char *line, size_t length, uint64_
             fail("%.*s", (int)length, line);
         memcpy(s->session, line + 6, (size_t)(comma - line - 6));
         s->session[comma - line - 6] = 0;
+    } else if (raw && begins(line, length, "OV,1,1,")) {
+        s->lost += strtoull(line + 7, NULL, 10);
+        lost++;
     } else if (begins(line, length, "CONF,1,")) {
         s->subscribed = true;
     } else if (begins(line, length, "PROBE")) {
@@ -302,8 +310,8 @@ static bool receive(struct stream *s, int flags) {
 /* Opening */
 
 static const char *add_text(char *text, const struct stream *s, int number) {
-    sprintf(text, "LS_reqId=%d&LS_session=%s&LS_op=add&LS_subId=1&LS_mode=MERGE&LS_group=i%d"
-                  "&LS_schema=seq+stamp+price+size\r\n", number, s->session, s->item);
+    sprintf(text, "LS_reqId=%d&LS_session=%s&LS_op=add&LS_subId=1&LS_mode=%s&LS_group=i%d"
+                  "&LS_schema=seq+stamp+price+size\r\n", number, s->session, raw ? "RAW" : "MERGE", s->item);
     return text;
 }
 
@@ -499,15 +507,16 @@ static void wait_for_line(void) {
 }
 
 int main(int count, char **words) {
-    if (count != 8)
-        fail("usage: load PORT FEED http|ws STREAMS ITEMS RATE SECONDS");
+    if (count != 9)
+        fail("usage: load PORT FEED http|ws MERGE|RAW STREAMS ITEMS RATE SECONDS");
     port = atoi(words[1]);
     feed_port = atoi(words[2]);
     ws = strcmp(words[3], "ws") == 0;
-    streams = atoi(words[4]);
-    items = atoi(words[5]);
-    rate = atoi(words[6]);
-    seconds = atof(words[7]);
+    raw = strcmp(words[4], "RAW") == 0;
+    streams = atoi(words[5]);
+    items = atoi(words[6]);
+    rate = atoi(words[7]);
+    seconds = atof(words[8]);
     all = calloc((size_t)streams, sizeof *all);
     published = calloc((size_t)items, sizeof *published);
     latencies = calloc(MOST_MICROS + 1, sizeof *latencies);
@@ -535,8 +544,9 @@ int main(int count, char **words) {
     used = processor_time() - used;
     if (rate >= 0)
         pthread_join(feed, NULL);
-    printf("seconds %.3f\npublished %llu\nlines %llu\nprobes %llu\n", took, (unsigned long long)total_published,
-           (unsigned long long)lines, (unsigned long long)probes);
+    printf("seconds %.3f\npublished %llu\nlines %llu\nprobes %llu\nlost %llu\n", took,
+           (unsigned long long)total_published, (unsigned long long)lines, (unsigned long long)probes,
+           (unsigned long long)lost);
     printf("median %llu\nmost_of_99 %llu\ngreatest %llu\nown_time %.2f\ndone\n", (unsigned long long)percentile(0.5),
            (unsigned long long)percentile(0.99), (unsigned long long)greatest(), used);
     fflush(stdout);
