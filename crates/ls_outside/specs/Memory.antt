@@ -29,6 +29,12 @@ pub record SinkState : Type 0 where
   pub calls : List Call
   pub faults : ℕ
 
+-- the counts of a pipe of which nothing else is told
+pub record Counts : Type 0 where
+  pub read_faults : ℕ
+  pub idles : ℕ
+  pub write_faults : ℕ
+
 -- how the next call goes
 abbrev pub next_call : List Call → Call
 next_call [] = call.Go

@@ -1,6 +1,7 @@
 //! What may go to another thread.
 use crate::clock::MemClock;
 use crate::gate::{OpenGate, Point};
+use crate::liar::Liar;
 use crate::mem_sink::{MemSink, PlainSink};
 use crate::mem_source::{MemSource, PlainSource};
 use crate::pipe::{MemPipe, PlainPipe};
@@ -16,6 +17,7 @@ pub(crate) fn memory() {
     sends::<MemSource>();
     sends::<MemSink>();
     sends::<MemPipe>();
+    sends::<Liar>();
 }
 
 /// Those that never fail.

@@ -10,8 +10,9 @@
 //! terminal tells nothing, and then nothing is claimed of the bytes; such real objects are made elsewhere.
 //!
 //! A `Pipe` is both, as a connection is, and neither half changes the other; `MemPipe` and `PlainPipe` are made of the
-//! halves above. A `Clock` tells ticks that never fall, and `MemClock` tells those of a list. A `Gate` is passed by
-//! calls that hold a lock; `OpenGate` holds nobody up.
+//! halves above. `Liar` is a pipe that tells nothing and isn't honest about its content. A `Clock` tells ticks that
+//! never fall, and `MemClock` tells those of a list. A `Gate` is passed by calls that hold a lock; `OpenGate` holds
+//! nobody up.
 //!
 //! ```text
 //! let mut pipe = MemPipe { source: MemSource::new(bytes, cuts, calls), sink: MemSink::new(alloc, faults) };
@@ -24,6 +25,7 @@ mod call;
 mod clock;
 mod cross;
 mod gate;
+mod liar;
 mod mem_sink;
 mod mem_source;
 mod pipe;
@@ -33,6 +35,7 @@ mod source;
 pub use call::Call;
 pub use clock::{Clock, MemClock};
 pub use gate::{Gate, OpenGate, Point};
+pub use liar::Liar;
 pub use mem_sink::{MemSink, PlainSink};
 pub use mem_source::{MemSource, PlainSource};
 pub use pipe::{MemPipe, Pipe, PlainPipe};

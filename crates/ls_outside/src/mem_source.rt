@@ -89,7 +89,7 @@ fn way(cuts: &[usize], cut: usize, place: usize) -> usize
 }
 
 /// Copies bytes to the front of a piece, as many as there are and fit, at most this many. Answers how many.
-fn copy_front(piece: &mut [u8], bytes: &[u8], most: usize) -> usize
+pub(crate) fn copy_front(piece: &mut [u8], bytes: &[u8], most: usize) -> usize
     ensures count { result ≡ min most (min (length bytes.now) (length piece.old)) }
     ensures len { length piece.new ≡ length piece.old }
     ensures copied { take result piece.new ≡ take result bytes.now }

@@ -3,7 +3,7 @@ ghost use Rattle.std.specs.Prelude.{◌≡◌, false};
 
 use crate::wakes::Wakes;
 use ls_bell::Bell;
-use ls_outside::{MemPipe, PlainPipe};
+use ls_outside::{Liar, MemPipe, PlainPipe};
 use ls_talk::{MemTalk, PlainTalk};
 use std::alloc::Global;
 use std::sync::Arc;
@@ -17,6 +17,14 @@ impl Wakes for MemPipe {
 }
 
 impl Wakes for PlainPipe {
+    fn wake_with(&self, _: &Arc<Bell, Global>) -> bool
+        ensures { result ≡ false }
+    {
+        false
+    }
+}
+
+impl Wakes for Liar {
     fn wake_with(&self, _: &Arc<Bell, Global>) -> bool
         ensures { result ≡ false }
     {
