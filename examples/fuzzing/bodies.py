@@ -8,7 +8,7 @@ from concurrent.futures import ThreadPoolExecutor
 
 import asked as requests
 import lanes
-from heads import STREAM_HEAD, answer, without_cr, without_end
+from heads import STREAM_HEAD, answer, lines_in, without_end
 from served import World
 from trying import Differs, HANG, PIECE, answer_to, connected, receive, send, serving
 
@@ -258,8 +258,7 @@ def add_line(session, sub, size):
 
 def controls(body):
     """The requests of a control's body."""
-    lines = [without_cr(line) for line in body.split(b"\n")]
-    return [requests.read("http", b"control", line) for line in lines if line]
+    return [requests.read("http", b"control", line) for line in lines_in(body) if line]
 
 
 def unit(draw, count, told):

@@ -186,8 +186,7 @@ def replies(path, query, body):
         if asked.values["set"] not in (None, b"SET"):
             return [answer([requests.refused(asked, 2)])], "code 2"
         return asked, "streams"
-    lines = [without_cr(line) for line in body.split(b"\n")]
-    return [answer([control(line) for line in lines if line])], "answers"
+    return [answer([control(line) for line in lines_in(body) if line])], "answers"
 
 
 def control(line):
@@ -196,12 +195,15 @@ def control(line):
     return requests.refused(asked, 65 if asked.op == "malformed" else 20)
 
 
-def without_cr(line):
-    return line[:-1] if line.endswith(b"\r") else line
+def without_end(text):
+    """A text without the CR LF or LF at its end."""
+    return text.removesuffix(b"\n").removesuffix(b"\r") if text.endswith(b"\n") else text
 
 
-def without_end(body):
-    return without_cr(body[:-1]) if body.endswith(b"\n") else body
+def lines_in(body):
+    """The lines of a body, without the CR LF or LF after each; the last one has none."""
+    pieces = body.split(b"\n")
+    return [without_end(piece + b"\n") for piece in pieces[:-1]] + pieces[-1:]
 
 
 # What is drawn
@@ -383,12 +385,24 @@ def tried(port, data, pieces, ends, pause):
     return word
 
 
+def may_find(data):
+    """Whether a request names a session that may be there: the one that goes on beside, or one of another case."""
+    head = head_of(data)
+    length = body_length(head) if isinstance(head, Head) else None
+    if length is None:
+        return False
+    body = data[head.length:head.length + length]
+    named = [(parameters(text) or {}).get(b"LS_session", b"") for text in [without_end(body)] + lines_in(body)]
+    return any(0 < requests.session(name) < NO_SESSION for name in named)
+
+
 def unit(draw, count, told):
     """Tries so many heads, and gives how many they were. `told` counts what came of them."""
     with serving(CONFIG) as server, ThreadPoolExecutor(AT_ONCE) as several:
         cases = []
         for _ in range(count):
-            data = drawn(draw)
+            while may_find(data := drawn(draw)):
+                pass
             cases.append((server.port, data, draw.pieces(data), draw.chance(0.5), draw.choice([0, 0, 0, 0.002, 0.012])))
         for word in several.map(lambda case: tried(*case), cases):
             told[word] += 1

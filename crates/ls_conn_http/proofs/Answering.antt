@@ -1,8 +1,7 @@
 -- Answers one after another, and parts of texts.
-use Rattle.std.proofs.Common.{◌≡◌, ℕ, List, [], ◌∷◌, ◌++◌, inl, inr, take, drop, map, Bool, true, false, Option, refl, sym, ap, subst, ◌∙◌, append_assoc, append-nil, take-append-drop}
+use Rattle.std.proofs.Common.{◌≡◌, ℕ, List, [], ◌∷◌, ◌++◌, inl, inr, take, drop, Bool, true, false, Option, refl, sym, ap, subst, ◌∙◌, append_assoc, append-nil, take-append-drop}
 use Rattle.std.specs.List.{filter}
 use Rattle.std.proofs.lemmas.Grind.{flat_map-append}
-use Rattle.std.proofs.lemmas.List.{map-append}
 use Rattle.std.proofs.lemmas.List.Elements.{filter-append}
 use mathlib.Core.List.{IsPrefix}
 use Rattle.ls_register.specs.Deeds.{Deed}
@@ -15,7 +14,7 @@ use Rattle.ls_conn.specs.declared.acted.Acted.{Acted}
 use Rattle.ls_conn.specs.declared.acted.Acted.TheVariants as acted
 use Rattle.ls_conn.specs.Acting.{Acts, Known, known}
 use Rattle.ls_conn.specs.Streaming.{lines_of}
-use Rattle.ls_conn_http.specs.Bodies.{Answers, Grows, IsReply, answer_text, asked, is_some_text, params_in, version_line, without_cr}
+use Rattle.ls_conn_http.specs.Bodies.{Answers, Grows, IsReply, answer_text, asked, is_some_text, params_in, version_line}
 use Rattle.ls_conn.specs.declared.ended.ConnEnd.{ConnEnd}
 use Rattle.ls_conn.specs.declared.ended.ConnEnd.TheVariants as end
 use Rattle.ls_conn_http.specs.Replying.{Answered, RepliesBy, WritesRefusal, WritesReply}
@@ -55,18 +54,15 @@ answered_both deed name ps qs a b c lines lines2 lines3 p q =
           ∙ ap (λ (x : List ℕ). lines ++ x) (sym (flat_map-append line_bytes p.texts q.texts));
     }
 
--- the requests of pieces
-pub params_both : (xs ys : List (List ℕ)) → params_in (xs ++ ys) ≡ params_in xs ++ params_in ys
-params_both xs ys = ap (λ (zs : List (List ℕ)). filter is_some_text zs) (map-append without_cr xs ys) ∙ filter-append is_some_text (map without_cr xs) (map without_cr ys)
+-- the requests of lines
+pub answered_more : (deed : Deed) (name : List ℕ) (done : List (List ℕ)) (line : List ℕ) (a b c : Known) (lines lines2 lines3 : List ℕ) → Answered deed name (params_in done) a b lines lines2
+    → Answered deed name (params_in (line ∷ [])) b c lines2 lines3 → Answered deed name (params_in (done ++ line ∷ [])) a c lines lines3
+answered_more deed name done line a b c lines lines2 lines3 p q =
+    subst (λ (ps : List (List ℕ)). Answered deed name ps a c lines lines3) (sym (filter-append is_some_text done (line ∷ [])))
+    (answered_both deed name (params_in done) (params_in (line ∷ [])) a b c lines lines2 lines3 p q)
 
-pub answered_more : (deed : Deed) (name : List ℕ) (done : List (List ℕ)) (piece : List ℕ) (a b c : Known) (lines lines2 lines3 : List ℕ) → Answered deed name (params_in done) a b lines lines2
-    → Answered deed name (params_in (piece ∷ [])) b c lines2 lines3 → Answered deed name (params_in (done ++ piece ∷ [])) a c lines lines3
-answered_more deed name done piece a b c lines lines2 lines3 p q =
-    subst (λ (ps : List (List ℕ)). Answered deed name ps a c lines lines3) (sym (params_both done (piece ∷ [])))
-    (answered_both deed name (params_in done) (params_in (piece ∷ [])) a b c lines lines2 lines3 p q)
-
-pub more_pieces : (all here done rest : List (List ℕ)) (piece : List ℕ) → all ≡ done ++ here → here ≡ piece ∷ rest → all ≡ (done ++ piece ∷ []) ++ rest
-more_pieces all here done rest piece e f = e ∙ ap (λ (xs : List (List ℕ)). done ++ xs) f ∙ sym (append_assoc done (piece ∷ []) rest)
+pub more_lines : (all here done rest : List (List ℕ)) (line : List ℕ) → all ≡ done ++ here → here ≡ line ∷ rest → all ≡ (done ++ line ∷ []) ++ rest
+more_lines all here done rest line e f = e ∙ ap (λ (xs : List (List ℕ)). done ++ xs) f ∙ sym (append_assoc done (line ∷ []) rest)
 
 -- a reply that was written, or a part of it
 pub replies_by : (e : ConnEnd) (old new : Option (List ℕ)) (text : List ℕ) (P : Bool → List ℕ → Type 0) → ((w : Bool) → P w text) → WritesReply e old new text

@@ -4,3 +4,5 @@ pub mod Unread
 pub mod Sending
 pub mod Streams
 pub mod Whole
+pub mod LineEnds
+mod Examples

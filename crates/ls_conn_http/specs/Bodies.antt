@@ -1,6 +1,7 @@
 -- The requests that a body holds, and how they are answered (TLCP 2.1, HTTP transport; this project's profile).
-use Rattle.std.specs.Prelude.{◌≡◌, ◌==◌, ◌-◌, ℕ, List, [], ◌∷◌, ◌++◌, length, take, map, Bool, true, false, ◌&&◌, nat_le, None}
-use Rattle.std.specs.Prelude.{slice_index, if◌then◌else◌, codes}
+use Rattle.std.specs.Prelude.{◌≡◌, ◌==◌, ℕ, List, [], ◌∷◌, ◌++◌, length, Bool, true, false, ◌&&◌, nat_le, Option, None, Some}
+use Rattle.std.specs.Prelude.{if◌then◌else◌, codes}
+use Rattle.std.specs.Borrow.{Bor}
 use Rattle.std.specs.List.{filter}
 use mathlib.Core.List.{IsPrefix}
 use Rattle.ls_words.specs.Words.{divided}
@@ -19,21 +20,32 @@ use Rattle.ls_conn.specs.Streaming.{AreGiven, EndsBy, lines_of}
 use Rattle.ls_conn.specs.declared.report.StreamEnd.{StreamEnd}
 use Rattle.ls_conn.specs.declared.report.StreamEnd.TheVariants as stream
 
--- whether bytes end in this one
-abbrev pub ends_in : ℕ → List ℕ → Bool
-ends_in b xs = nat_le 1 (length xs) && (slice_index xs (length xs - 1) == b)
+-- whether a text is a line end: CR LF, or LF alone
+abbrev pub is_line_end : List ℕ → Bool
+is_line_end [] = false
+is_line_end (x ∷ []) = x == 10
+is_line_end (x ∷ y ∷ []) = (x == 13) && (y == 10)
+is_line_end (x ∷ y ∷ z ∷ rest) = false
 
--- bytes without the last one
-abbrev pub without_last : List ℕ → List ℕ
-without_last xs = take (length xs - 1) xs
-
--- a text without a CR at its end
-abbrev pub without_cr : List ℕ → List ℕ
-without_cr xs = if ends_in 13 xs then without_last xs else xs
-
--- a text without a CR LF or LF at its end
+-- a text without the line end that stands at its end
 abbrev pub without_end : List ℕ → List ℕ
-without_end xs = if ends_in 10 xs then without_cr (without_last xs) else xs
+without_end [] = []
+without_end (x ∷ xs) = if is_line_end (x ∷ xs) then [] else x ∷ without_end xs
+
+-- pieces that LF divides, as lines: each but the last one has its LF
+abbrev pub as_lines : List (List ℕ) → List (List ℕ)
+as_lines [] = []
+as_lines (piece ∷ []) = piece ∷ []
+as_lines (piece ∷ next ∷ pieces) = without_end (piece ++ 10 ∷ []) ∷ as_lines (next ∷ pieces)
+
+-- the lines of a body, without their line ends
+abbrev pub lines_in : List ℕ → List (List ℕ)
+lines_in body = as_lines (divided 10 body)
+
+-- those of the rest of a body, where there is one
+abbrev pub lines_after : Option (Bor (List ℕ)) → List (List ℕ)
+lines_after None = []
+lines_after (Some rest) = lines_in rest.now
 
 -- whether a text has a byte
 abbrev pub is_some_text : List ℕ → Bool
@@ -41,10 +53,10 @@ is_some_text xs = nat_le 1 (length xs)
 
 -- the parameters of control requests, one text a line; empty lines are none
 abbrev pub params_in : List (List ℕ) → List (List ℕ)
-params_in pieces = filter is_some_text (map without_cr pieces)
+params_in lines = filter is_some_text lines
 
 abbrev pub params_of : List ℕ → List (List ℕ)
-params_of body = params_in (divided 10 body)
+params_of body = params_in (lines_in body)
 
 -- a request that came over HTTP, at a tick
 abbrev pub asked : List ℕ → List ℕ → ℕ → Asked

@@ -1,39 +1,36 @@
-//! The requests that a body holds.
-ghost use Rattle.std.specs.Prelude.{◌≡◌};
-ghost use Rattle.ls_conn_http.specs.Bodies.{ends_in, without_cr, without_end, without_last};
+//! The lines that a body holds.
+ghost use Rattle.std.specs.Prelude.{◌≡◌, ◌++◌, ◌∷◌, []};
+ghost use Rattle.ls_conn_http.specs.Bodies.{lines_after, lines_in, without_end};
 
-/// Whether bytes end in this one.
-fn ends_in(byte: u8, bytes: &[u8]) -> bool
-    ensures { result ≡ ends_in byte bytes.now }
-{
-    !bytes.is_empty() && bytes[bytes.len() - 1] == byte
-}
+use ls_words::first_piece;
 
-/// Bytes without the last one.
-fn without_last(bytes: &[u8]) -> &[u8]
-    ensures { result.now ≡ without_last bytes.now }
+/// A text that LF follows, without the CR of that CR LF.
+fn before_lf(text: &[u8]) -> &[u8]
+    ensures { result.now ≡ without_end (text.now ++ 10 ∷ []) }
 {
-    &bytes[..bytes.len().saturating_sub(1)]
-}
-
-/// A text without a CR at its end.
-pub(crate) fn without_cr(text: &[u8]) -> &[u8]
-    ensures { result.now ≡ without_cr text.now }
-{
-    if ends_in(b'\r', text) {
-        without_last(text)
-    } else {
-        text
+    match text.strip_suffix(b"\r") {
+        Some(line) => line,
+        None => text,
     }
 }
 
-/// A text without a CR LF or LF at its end.
+/// A text without the CR LF or LF at its end. A CR alone is no line end.
 pub(crate) fn without_end(text: &[u8]) -> &[u8]
     ensures { result.now ≡ without_end text.now }
 {
-    if ends_in(b'\n', text) {
-        without_cr(without_last(text))
-    } else {
-        text
+    match text.strip_suffix(b"\n") {
+        Some(line) => before_lf(line),
+        None => text,
+    }
+}
+
+/// The first line of a body, without the CR LF or LF that ends it, and what is after that, where the body goes on.
+pub(crate) fn first_line(body: &[u8]) -> (&[u8], Option<&[u8]>)
+    ensures { lines_in body.now ≡ result.0.now ∷ lines_after result.1 }
+{
+    let (line, rest) = first_piece(b'\n', body);
+    match rest {
+        Some(rest) => (before_lf(line), Some(rest)),
+        None => (line, None),
     }
 }

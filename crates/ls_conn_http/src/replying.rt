@@ -12,7 +12,7 @@ ghost use Rattle.ls_conn_http.specs.Bodies.{ControlReply, answer_text, params_in
 ghost use Rattle.ls_conn_http.specs.Replying.{Answered, RepliesBy, WritesRefusal, WritesReply};
 ghost use Rattle.ls_http.specs.Replies.{answer_head, refusal_text};
 
-use crate::bodies::without_cr;
+use crate::bodies::first_line;
 use ls_conn::{Acted, ConnEnd, Seen, act};
 use ls_http::{append_answer_head, append_refusal};
 use ls_line::{Line, into_text};
@@ -21,7 +21,6 @@ use ls_register::{House, View};
 use ls_request::LinkKind;
 use ls_shared::Shared;
 use ls_value::{Bytes, NoMemory, Text};
-use ls_words::first_piece;
 use std::alloc::Global;
 use std::sync::Wait;
 
@@ -70,27 +69,26 @@ fn answer_of(alloc: Global, lines: &[u8]) -> Result<Vec<u8>, NoMemory>
     Ok(text)
 }
 
-/// Does a control request that stands in a piece of a body, and appends its answer. A piece without parameters is none.
-fn answer_piece<N: House, R: Wait, K: Clock>(
+/// Does a control request that stands in a line of a body, and appends its answer. An empty line is none.
+fn answer_line<N: House, R: Wait, K: Clock>(
     rt: &R,
     alloc: Global,
     shared: &Shared<N>,
     clock: &mut K,
     name: &[u8],
-    piece: &[u8],
+    line: &[u8],
     view: &mut View<N>,
     seen: &mut Seen<N>,
     lines: &mut Vec<u8>,
 ) -> Result<(), NoMemory>
     requires { is_opening name.now ≡ false }
-    ensures { OnOk result (Answered N.deed name.now (params_in (piece.now ∷ [])) (known view.old seen.old)
+    ensures { OnOk result (Answered N.deed name.now (params_in (line.now ∷ [])) (known view.old seen.old)
         (known view.new seen.new) lines.old.items lines.new.items) }
 {
-    let params = without_cr(piece);
-    if params.is_empty() {
+    if line.is_empty() {
         return Ok(());
     }
-    answer_request(rt, alloc, shared, clock, name, params, view, seen, lines)
+    answer_request(rt, alloc, shared, clock, name, line, view, seen, lines)
 }
 
 /// Does a control request, and appends its answer.
@@ -149,8 +147,8 @@ fn answer_all<N: House, R: Wait, K: Clock>(
 {
     let mut rest = Some(body);
     while let Some(text) = rest {
-        let (piece, others) = first_piece(b'\n', text);
-        match answer_piece(rt, alloc, shared, clock, name, piece, view, seen, lines) {
+        let (line, others) = first_line(text);
+        match answer_line(rt, alloc, shared, clock, name, line, view, seen, lines) {
             Ok(()) => {}
             Err(NoMemory) => return Err(NoMemory),
         }

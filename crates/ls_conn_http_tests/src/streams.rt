@@ -5,7 +5,7 @@ use std::alloc::{AllocError, Global};
 use std::test::Fail;
 
 /// A request for a session.
-const CREATE: &[u8] =
+pub(crate) const CREATE: &[u8] =
     b"POST /lightstreamer/create_session.txt?LS_protocol=TLCP-2.1.0 HTTP/1.1\r\nContent-Length: 2\r\n\r\n\r\n";
 
 /// A request for a subscription.
@@ -19,7 +19,7 @@ const BIND: &[u8] =
 LS_session=S1&LS_content_length=1000\r\n";
 
 /// How a stream begins.
-const OPENED: &[u8] = b"HTTP/1.1 200 OK\r\nContent-Type: text/plain; charset=utf-8\r\n\
+pub(crate) const OPENED: &[u8] = b"HTTP/1.1 200 OK\r\nContent-Type: text/plain; charset=utf-8\r\n\
 Cache-Control: no-store\r\nConnection: close\r\n\r\n\
 CONOK,S1,50000,5000,*\r\nSERVNAME,tlcpd\r\nCONS,unlimited\r\n";
 
