@@ -55,14 +55,20 @@ def need_files(wanted):
         resource.setrlimit(resource.RLIMIT_NOFILE, (wanted, most))
 
 
+# Whom a server runs as that may have only so many threads, where this process is root's: root's aren't limited.
+NOBODY = 61234
+
+
 class Server:
     """A server with a config, and where it is asked for a proxy before it. For the ports 0 the system chooses some. It
-    may open so many files, or as many as this process where `files` is None. What it says on standard error goes into
-    the file `errors`, or where this process says it."""
+    may open so many files, or as many as this process where `files` is None, and have so many threads, or as many as
+    the system gives where `threads` is None. What it says on standard error goes into the file `errors`, or where this
+    process says it."""
 
-    def __init__(self, config, nginx=False, ports=(0, 0), files=None, errors=None):
+    def __init__(self, config, nginx=False, ports=(0, 0), files=None, threads=None, errors=None):
         self.config = config
         self.most_files = files
+        self.most_threads = threads
         self.errors = errors
         self.ports = ports
         self.nginx = nginx
@@ -75,7 +81,14 @@ class Server:
         subprocess.run(PROGRAM + ["--version"], check=True, stdin=subprocess.DEVNULL, stdout=subprocess.DEVNULL)
         words = PROGRAM + ["serve"] + [str(port) for port in self.ports]
         pipe = subprocess.PIPE
-        self.process = subprocess.Popen(words, stdin=pipe, stdout=pipe, stderr=self.errors, preexec_fn=self._limit)
+        user = {}
+        if self.most_threads is not None and os.getuid() == 0:
+            user = {"user": NOBODY, "group": NOBODY, "extra_groups": []}
+        try:
+            self.process = subprocess.Popen(words, stdin=pipe, stdout=pipe, stderr=self.errors,
+                                            preexec_fn=self._limit, **user)
+        except PermissionError:
+            skip("the program can't be run as another user")
         try:
             self._begin()
         except BaseException:
@@ -86,6 +99,9 @@ class Server:
     def _limit(self):
         if self.most_files is not None:
             resource.setrlimit(resource.RLIMIT_NOFILE, (self.most_files, self.most_files))
+        if self.most_threads is not None:
+            most = self.most_threads + (0 if os.getuid() == 0 else threads_of(os.getuid()))
+            resource.setrlimit(resource.RLIMIT_NPROC, (most, most))
 
     def _begin(self):
         self.process.stdin.write(self.config.encode())
@@ -123,6 +139,12 @@ class Server:
             told = dict(line.split(":", 1) for line in status)
         return int(told["VmRSS"].split()[0]), int(told["Threads"])
 
+    def processor_seconds(self):
+        """How long it has used a processor."""
+        with open(f"/proc/{self.process.pid}/stat", encoding="ascii") as stat:
+            told = stat.read().rsplit(")", 1)[1].split()
+        return (int(told[11]) + int(told[12])) / os.sysconf("SC_CLK_TCK")
+
     def files(self):
         """How many files it has open, sockets among them."""
         return len(os.listdir(f"/proc/{self.process.pid}/fd"))
@@ -137,6 +159,18 @@ class Server:
         self.process.kill()
         self.process.wait()
         self.killed = True
+
+
+def threads_of(user):
+    """How many threads a user has."""
+    count = 0
+    for number in filter(str.isdigit, os.listdir("/proc")):
+        try:
+            if os.stat(f"/proc/{number}").st_uid == user:
+                count += len(os.listdir(f"/proc/{number}/task"))
+        except OSError:
+            pass
+    return count
 
 
 class Proxy:
