@@ -1,8 +1,14 @@
 pub mod Keys
 pub mod Turns
 pub mod Queues
-pub mod Inserted
+pub mod Placing
+pub mod Renewing
+pub mod Adding
+pub mod Taking
+pub mod Clearing
+pub mod Listing
 pub mod Owed
+pub mod Owing
 pub mod Moves
 pub mod Joins
 pub mod Widths

@@ -23,7 +23,7 @@ use Rattle.ls_event.specs.declared.snapshot.Snapshot.TheVariants as state
 use Rattle.ls_event.specs.CommandCuts.{has_key, key_cursor, queue_after, queue_from, queue_since, owed_keys, command_queue, touched_keys}
 use Rattle.ls_event.proofs.Cuts.{between-next, between_none}
 use Rattle.ls_event.proofs.UpdatesBetween.{ClearIn, between_length, last_clear_is, last_clear-next}
-use Rattle.ls_command.specs.declared.queue.Queued.{Queued}
+use Rattle.ls_command.specs.declared.kept.Queued.{Queued}
 use Rattle.ls_command.specs.Command.{Command, StandsCommand, keys_of, with_queued, is_touched, RowsOf, AreMarked, AreDistinct, command_head_of, key_head}
 use Rattle.ls_command.specs.Command.{command_head, command_ended, turn_passed, first_waits, command_passed_of, command_passed, key_touched, command_after}
 use Rattle.ls_command.specs.Command.{key_in}
@@ -74,6 +74,10 @@ owed_same : (n : ℕ) (ks : List (List ℕ)) (o : Option ℕ) → (o ≡ None �
 owed_same n ks (Some c) f = refl
 owed_same n ks None f = ap (λ k. last_of k ks) (sym (f refl))
 
+listed_same : (n : ℕ) (o : Option ℕ) → (o ≡ None → n ≡ 0) → cond (is_some o) 0 n ≡ cond (is_some o) 0 0
+listed_same n (Some c) f = refl
+listed_same n None f = f refl
+
 command_ended_stands : (b : Command) (s : Slot) (h : List Entry) → StandsCommand b s h → (last_clear h s.cursor s.last ≡ None → s.owed ≡ 0)
     → StandsCommand (command_ended b) (passed s taken.EndOfSnapshot) h
 command_ended_stands b s h st none =
@@ -101,6 +105,7 @@ command_ended_stands b s h st none =
       rows = st.rows;
       marked = subst (λ t. AreMarked t b.queue) (sym touched) st.marked;
       waiting = st.waiting ∙ sym (ap length touched);
+      listed = st.listed ∙ listed_same s.owed (last_clear h s.cursor s.last) none;
       placed = st.placed;
     }
 
@@ -146,6 +151,7 @@ command_cleared b s h c false st is t =
       rows = st.rows;
       marked = subst (λ t. AreMarked t b.queue) (sym touched) st.marked;
       waiting = st.waiting ∙ sym (ap length touched);
+      listed = st.listed ∙ ap (λ o. cond (is_some o) 0 s.owed) is ∙ sym (ap (λ o. cond (is_some o) 0 s.owed) x.none ∙ none_owed);
       placed = λ k. omega (arith, x.reached, ap (λ o. unwrap_or o s.last) x.none);
     }
   where
@@ -223,6 +229,7 @@ command_key b s h y ys st is at =
       waiting = ap (λ q. b.waiting - first_waits q) at ∙ ap (λ n. n - (if y.touched then 1 else 0)) st.waiting
           ∙ ap (λ v. length t - (if v then 1 else 0)) marks.0
           ∙ sym (without_length k t (touched_distinct h s)) ∙ sym (ap length gone);
+      listed = ap (λ n. n - 1) (st.listed ∙ ap (λ o. cond (is_some o) 0 s.owed) is) ∙ sym (ap (λ o. cond (is_some o) 0 (s.owed - 1)) is);
       placed = λ j. by_same j (text_eq k j);
     }
   where
@@ -345,6 +352,7 @@ command_next b s h (Update cells) row e st more next is after =
       marked = subst (λ z. AreMarked z (with_queued b.queue new)) (sym touched) (marked_queued t new b.queue refl distinct st.marked);
       waiting = ap (λ v. b.waiting + (if v then 0 else 1)) mark ∙ ap (λ n. n + (if has_key t k then 0 else 1)) st.waiting ∙ sym (with_length t k)
           ∙ sym (ap length touched);
+      listed = st.listed ∙ sym (ap (λ o. cond (is_some o) 0 s.owed) clear);
       placed = λ j. subst (λ o. key_cursor s.key_cursors s.cursor j ≤ unwrap_or o (s.last + 1)) (sym clear)
           (grow (key_cursor s.key_cursors s.cursor j) s.last lc (st.placed j));
     })
@@ -386,6 +394,7 @@ command_next b s h Clear row e st more next is after =
       rows = tt;
       marked = tt;
       waiting = sym (ap length touched);
+      listed = sym (ap (λ o. cond (is_some o) 0 s.owed) clear);
       placed = λ j. subst (λ o. key_cursor s.key_cursors s.cursor j ≤ unwrap_or o to) (sym clear)
           (omega (arith, st.placed j, placed_within s h st.behind st.within));
     }

@@ -4,12 +4,12 @@ use Rattle.std.proofs.lemmas.List.{append_assoc}
 use Rattle.ls_value.specs.Values.{text_eq}
 use Rattle.ls_event.specs.declared.snapshot.KeyedRow.{KeyedRow}
 use Rattle.ls_event.specs.CommandCuts.{has_key}
-use Rattle.ls_command.specs.declared.queue.Queued.{Queued}
+use Rattle.ls_command.specs.declared.kept.Queued.{Queued}
 use Rattle.ls_command.specs.Command.{keys_of, with_queued, AreDistinct, owed_key, with_owed}
 use Rattle.ls_command.proofs.Keys.{text_eq-sym, or_false}
 
 -- a key that isn't there goes last
-goes_last : (qs : List Queued) (new : Queued) → has_key (keys_of qs) new.key ≡ false → with_queued qs new ≡ qs ++ new ∷ []
+pub goes_last : (qs : List Queued) (new : Queued) → has_key (keys_of qs) new.key ≡ false → with_queued qs new ≡ qs ++ new ∷ []
 goes_last [] new none = refl
 goes_last (q ∷ qs) new none = let o = or_false (text_eq q.key new.key) (has_key (keys_of qs) new.key) none in ap
     (λ v. cond v (new ∷ qs) (q ∷ with_queued qs new)) o.0 ∙ ap (λ z. q ∷ z) (goes_last qs new o.1)

@@ -9,7 +9,7 @@ use Rattle.ls_event.specs.declared.snapshot.KeyedRow.{KeyedRow}
 use Rattle.ls_event.specs.Shapes.{Shape}
 use Rattle.ls_event.specs.Keyed.{is_before, key_of, deletes, row_at, row_with, with_row, without, keyed_after}
 use Rattle.ls_event.specs.CommandCuts.{has_key}
-use Rattle.ls_command.specs.declared.queue.Queued.{Queued}
+use Rattle.ls_command.specs.declared.kept.Queued.{Queued}
 use Rattle.ls_command.specs.Command.{keys_of, with_queued, is_touched, RowsOf, AreMarked, AreDistinct, owed_key}
 use Rattle.ls_command.proofs.Keys.{text_eq-sym, or_false}
 use Rattle.ls_command.proofs.Turns.{with_key, without_key, has_with, has_without}

@@ -7,7 +7,7 @@ use Rattle.ls_event.specs.declared.event.Event.{Event}
 use Rattle.ls_event.specs.declared.event.Event.TheVariants.{Update, Clear}
 use Rattle.ls_event.specs.declared.snapshot.KeyedRow.{KeyedRow}
 use Rattle.ls_event.specs.History.{RowFits}
-use Rattle.ls_command.specs.declared.queue.Queued.{Queued}
+use Rattle.ls_command.specs.declared.kept.Queued.{Queued}
 use Rattle.ls_command.specs.Command.{Command, AreKeysWide, with_queued, command_after, key_in, owed_key, with_owed}
 
 abbrev Wide : ℕ → Queued → Type 0

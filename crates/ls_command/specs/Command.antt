@@ -1,7 +1,10 @@
 -- What a buffer of mode COMMAND holds, and the slots that it stands for.
 use Rattle.std.specs.Prelude.{◌≡◌, ◌==◌, ℕ, ◌+◌, ◌-◌, ◌≤◌, ◌<◌, List, [], ◌∷◌, length, map, drop, Bool, true, false}
 use Rattle.std.specs.Prelude.{◌&&◌, Option, None, Some, is_some, if◌then◌else◌, option_map, slice_get, unwrap_or, All}
+use Rattle.std.specs.Prelude.{◌++◌, IsSome, get_or}
+use Rattle.std.specs.List.{range_with_len}
 use Rattle.std.specs.Option.{option_map_or}
+use Rattle.ls_links.specs.Chains.{Link, Chains, list_of}
 use Rattle.ls_value.specs.declared.row.Value.{Value}
 use Rattle.ls_value.specs.declared.row.Cell.{Cell}
 use Rattle.ls_value.specs.declared.row.Cell.TheVariants as cell
@@ -21,7 +24,7 @@ use Rattle.ls_event.specs.Slots.{Plan, Slot}
 use Rattle.ls_event.specs.Updates.{last_clear}
 use Rattle.ls_event.specs.Keyed.{text_of_cell, row_at, keyed}
 use Rattle.ls_event.specs.CommandCuts.{has_key, key_cursor, command_queue, touched_keys}
-use Rattle.ls_command.specs.declared.queue.Queued.{Queued}
+use Rattle.ls_command.specs.declared.kept.Queued.{Queued}
 
 -- the keys of a queue
 abbrev pub keys_of : List Queued → List (List ℕ)
@@ -37,9 +40,23 @@ abbrev pub is_touched : List Queued → List ℕ → Bool
 is_touched [] key = false
 is_touched (q ∷ queue) key = if text_eq q.key key then q.touched else is_touched queue key
 
+-- the values of the keys' nodes, in the order of a queue, with that of one more key: a key that doesn't stand there gets
+-- the number of those that do
+abbrev pub values_with : List Queued → List ℕ → List ℕ → List ℕ
+values_with queue values key = if has_key (keys_of queue) key then values else values ++ length queue ∷ []
+
+-- the greatest value becomes another one
+abbrev pub moved_value : ℕ → ℕ → ℕ → ℕ
+moved_value greatest to value = if value == greatest then to else value
+
+-- the values after the turn of the first key: the greatest one becomes that of the first node
+abbrev pub values_turned : List ℕ → List ℕ
+values_turned [] = []
+values_turned (v ∷ vs) = map (moved_value (length vs) v) vs
+
 -- the key's place among the fields, the last number, how many keys of the snapshot are owed and whether its end is, the
--- last Clear that no cut took, the keys that have a turn, each with its row at the last number, and how many of them
--- were touched
+-- last Clear that no cut took, the keys that have a turn, each with its row at the last number, the values of their
+-- nodes, how many nodes list 0 has, and how many of the keys were touched
 pub record Command : Type 0 where
   pub key : ℕ
   pub last : ℕ
@@ -47,6 +64,8 @@ pub record Command : Type 0 where
   pub ends : Bool
   pub cleared : Option ℕ
   pub queue : List Queued
+  pub values : List ℕ
+  pub listed : ℕ
   pub waiting : ℕ
 
 -- each row is the one that its key has among these
@@ -77,6 +96,7 @@ pub record StandsCommand (b : Command) (s : Slot) (h : List Entry) : Type 0 wher
   pub rows : RowsOf (keyed s.plan.shape h s.last) b.queue
   pub marked : AreMarked (touched_keys h s) b.queue
   pub waiting : b.waiting ≡ length (touched_keys h s)
+  pub listed : b.listed ≡ (if is_some (last_clear h s.cursor s.last) then 0 else s.owed)
   pub placed : (k : List ℕ) → key_cursor s.key_cursors s.cursor k ≤ unwrap_or (last_clear h s.cursor s.last) s.last
 
 -- what a Clear gives: the end of the snapshot, where it is owed, and then itself
@@ -124,6 +144,7 @@ abbrev pub key_touched : Command → List ℕ → Option (List Value) → Comman
 key_touched b key row =
     record b {
       queue = with_queued b.queue (record { key = key; row = row; touched = true });
+      values = values_with b.queue b.values key;
       waiting = b.waiting + (if is_touched b.queue key then 0 else 1);
       last = b.last + 1;
     }
@@ -131,7 +152,8 @@ key_touched b key row =
 -- after the event of the next number, after which its key has this row: a Clear empties the queue
 abbrev pub command_after : Command → Event → Option (List Value) → Command
 command_after b (Update cells) row = key_touched b (key_in b.key cells) row
-command_after b Clear row = record b { queue = []; waiting = 0; cleared = Some (b.last + 1); last = b.last + 1 }
+command_after b Clear row =
+    record b { queue = []; values = []; listed = 0; waiting = 0; cleared = Some (b.last + 1); last = b.last + 1 }
 
 -- after the end of the snapshot
 abbrev pub command_ended : Command → Command
@@ -143,7 +165,14 @@ first_waits queue = option_map_or (λ q. if q.touched then 1 else 0) (slice_get 
 
 -- after the turn of the first key
 abbrev pub turn_passed : Command → Command
-turn_passed b = record b { queue = drop 1 b.queue; waiting = b.waiting - first_waits b.queue; owed = b.owed - 1 }
+turn_passed b =
+    record b {
+      queue = drop 1 b.queue;
+      values = values_turned b.values;
+      listed = b.listed - 1;
+      waiting = b.waiting - first_waits b.queue;
+      owed = b.owed - 1;
+    }
 
 -- after its next cut, by the last Clear that no cut took
 abbrev pub command_passed_of : Command → Option ℕ → Command
@@ -196,6 +225,8 @@ command_joining base key first =
       ends = is_some first;
       cleared = None;
       queue = with_owed [] (command_rows first);
+      values = range_with_len 0 (length (with_owed [] (command_rows first)));
+      listed = length (with_owed [] (command_rows first));
       waiting = 0;
     }
 
@@ -213,3 +244,23 @@ IsSnapshotOf p h None None = Unit {0}
 IsSnapshotOf p h None (Some asked) = ⊥
 IsSnapshotOf p h (Some first) None = ⊥
 IsSnapshotOf p h (Some first) (Some asked) = command_rows (Some first) ≡ keyed p.shape h p.base
+
+-- the nodes of the queue: those of list 0, and then those of list 1
+abbrev pub nodes_of : List (List Link) → List Link
+nodes_of lists = get_or lists 0 [] ++ get_or lists 1 []
+
+-- the key whose node has a value
+abbrev pub key_valued : List ℕ → List Queued → ℕ → Option (List ℕ)
+key_valued [] queue value = None
+key_valued (v ∷ vs) [] value = None
+key_valued (v ∷ vs) (q ∷ queue) value = if v == value then Some q.key else key_valued vs queue value
+
+abbrev pub key_of_value : Command → ℕ → Option (List ℕ)
+key_of_value b value = key_valued b.values b.queue value
+
+-- what the links say of the queue of a slot: read by their values they are its keys in order. List 0 has the keys of the
+-- snapshot that are owed, and is empty where a Clear is pending
+pub record TellsQueue (b : Command) (c : Chains) (s : Slot) (h : List Entry) : Type 0 where
+  pub keys : map (λ l. key_of_value b l.value) (nodes_of c.lists) ≡ map (λ k. Some k) (command_queue h s)
+  pub owed : length (list_of c 0) ≡ (if is_some (last_clear h s.cursor s.last) then 0 else s.owed)
+  pub cleared : IsSome (last_clear h s.cursor s.last) → list_of c 0 ≡ []

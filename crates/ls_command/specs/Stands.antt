@@ -12,7 +12,7 @@ use Rattle.ls_event.specs.CommandCuts.{key_cursor, queue_from, queue_since, owed
 use Rattle.ls_event.specs.CommandCuts.{command_cut_by}
 use Rattle.ls_event.specs.Cuts.{cut, cut_of, is_pending, pending_of, waiting_count, waiting_of}
 use Rattle.ls_event.proofs.Cuts.{between-append}
-use Rattle.ls_command.specs.declared.queue.Queued.{Queued}
+use Rattle.ls_command.specs.declared.kept.Queued.{Queued}
 use Rattle.ls_command.specs.Command.{Command, StandsCommand, keys_of, RowsOf, AreMarked, command_head_of, key_head}
 use Rattle.ls_command.specs.Command.{command_head, command_is_pending}
 
@@ -84,5 +84,6 @@ command_longer b s h more st =
       rows = subst (λ ks. RowsOf ks b.queue) (sym now) st.rows;
       marked = subst (λ t. AreMarked t b.queue) (sym (since [])) st.marked;
       waiting = st.waiting ∙ sym (ap length (since []));
+      listed = st.listed ∙ sym (ap (λ o. cond (is_some o) 0 s.owed) clear);
       placed = λ k. subst (λ o. key_cursor s.key_cursors s.cursor k ≤ unwrap_or o s.last) (sym clear) (st.placed k);
     }

@@ -1,18 +1,23 @@
 //! The buffer of a slot in mode COMMAND.
 ghost use Rattle.std.specs.Prelude.{◌≡◌, ◌↔◌, ◌+◌, ◌-◌, ◌<◌, ◌≤◌, ℕ, List, All, Option, None, IfOk, OnOk, OnErr};
-ghost use Rattle.std.specs.Prelude.{IsSome, IsTrue, length, map};
+ghost use Rattle.std.specs.Prelude.{IsSome, IsTrue, Some, [], length, map};
+ghost use Rattle.std.specs.Option.{option_map};
 ghost use Rattle.ls_value.specs.Values.{cell_at};
 ghost use Rattle.ls_value.specs.declared.limits.TheConstants.{GREATEST_NUMBER};
-ghost use Rattle.ls_event.specs.Slots.{Plan};
+ghost use Rattle.ls_event.specs.Slots.{Plan, Slot};
 ghost use Rattle.ls_event.specs.Joining.{command_joined};
 ghost use Rattle.ls_event.specs.declared.event.Entry.{Entry};
+ghost use Rattle.ls_links.specs.Chains.{list_of};
 ghost use Rattle.ls_command.specs.Command.{StandsCommand, IsJoining, IsSnapshotOf, IsOfCommand, IsText, NamesKey};
 ghost use Rattle.ls_command.specs.Command.{AreDistinct, AreKeysWide, command_rows, command_joining, command_head};
 ghost use Rattle.ls_command.specs.Command.{command_after, command_passed, command_is_pending, command_ended, is_whole};
 ghost use Rattle.ls_command.specs.Command.{key_touched, owed_key, turn_passed, key_in};
+ghost use Rattle.ls_command.specs.Command.{key_of_value, nodes_of, TellsQueue};
 
-use crate::queue::{Queue, Queued, copied_row, owed_queue};
+use crate::linked::copied_row;
+use crate::queue::{Queue, owed_queue};
 use ls_event::{Event, KeyedRow, Snapshot, Stored, Taken};
+use ls_links::Links;
 use ls_value::{Cell, Cells, NoMemory, Row, Text};
 use std::alloc::Global;
 use std::marker::Model;
@@ -33,7 +38,7 @@ pub struct CommandBuffer {
 }
 
 impl Model for CommandBuffer {
-    ghost use Rattle.std.specs.Prelude.{◌≤◌};
+    ghost use Rattle.std.specs.Prelude.{◌≡◌, ◌≤◌, IsSome};
     ghost use Rattle.ls_command.specs.Command.{Command};
 
     ghost Value = { Command };
@@ -44,11 +49,13 @@ impl Model for CommandBuffer {
       owed = b.owed;
       ends = b.ends;
       cleared = b.cleared;
-      queue = b.queue;
+      queue = b.queue.keys;
+      values = b.queue.values;
+      listed = b.queue.owed;
       waiting = b.waiting;
     } };
 
-    ghost invariant = { λ b. b.waiting ≤ b.last };
+    ghost invariant = { λ b. (b.waiting ≤ b.last) × (IsSome b.cleared → b.queue.owed ≡ 0) };
 }
 
 impl CommandBuffer {
@@ -153,11 +160,7 @@ impl CommandBuffer {
         ensures ok { OnOk result (self.new ≡ key_touched self.old key row) }
         ensures err { OnErr result (self.new ≡ self.old) }
     {
-        let touched = self.queue.put(Queued {
-            key,
-            row,
-            touched: true,
-        })?;
+        let touched = self.queue.touch(key, row)?;
         self.last += 1;
         if !touched {
             self.waiting += 1;
@@ -174,6 +177,29 @@ impl CommandBuffer {
         self.cleared = Some(self.last);
         self.queue.clear();
         self.waiting = 0;
+    }
+
+    /// The links of the nodes: list 0 has the keys of the snapshot that are owed, and list 1 the other keys of the queue,
+    /// which [`key_of`](CommandBuffer::key_of) reads by the nodes' values. Where a Clear is pending, list 0 is empty. It
+    /// takes no memory.
+    pub fn queue(&self) -> &Links
+        ensures lists { length result.now.lists ≡ 2 }
+        ensures keys { map (λ l. key_of_value self.now l.value) (nodes_of result.now.lists)
+            ≡ map (λ q. Some q.key) self.now.queue }
+        ensures values { map (λ l. l.value) (nodes_of result.now.lists) ≡ self.now.values }
+        ensures listed { length (list_of result.now 0) ≡ self.now.listed }
+        ensures cleared { IsSome self.now.cleared → list_of result.now 0 ≡ [] }
+        ensures stands { (s : Slot) (h : List Entry) → StandsCommand self.now s h
+            → TellsQueue self.now result.now s h }
+    {
+        self.queue.links()
+    }
+
+    /// The key whose node has a value; `None` exactly where no key of the queue has it. It takes no memory.
+    pub fn key_of(&self, value: usize) -> Option<&Text>
+        ensures { option_map (λ t. t.now) result ≡ key_of_value self.now value }
+    {
+        self.queue.key_of(value)
     }
 
     /// The next cut: where a Clear came, the snapshot's end, if it is owed, and then the Clear; else the snapshot's

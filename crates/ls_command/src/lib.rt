@@ -10,6 +10,9 @@
 
 mod as_buffer;
 mod command;
+mod kept;
+mod key_text;
+mod linked;
 mod queue;
 
 pub use command::CommandBuffer;

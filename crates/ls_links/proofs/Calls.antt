@@ -8,7 +8,7 @@ use Rattle.std.proofs.lemmas.List.Elements.{All-replicate}
 use Rattle.std.proofs.lemmas.List.FromFn.{get_or-map-range_with_len, length-map-range_with_len, fill_by_all}
 use Rattle.std.proofs.lemmas.List.Sums.{sum_by-le, sum_by-set}
 use Rattle.ls_links.specs.declared.node.Node.{Node}
-use Rattle.ls_links.specs.Chains.{Link, Chains, without, with_last, is_node, pushed, unlinked, moved_back}
+use Rattle.ls_links.specs.Chains.{Link, Chains, without, with_last, is_node, pushed, unlinked, moved_back, link_given, value_given}
 use Rattle.ls_links.specs.Nodes.{LinkedNodes, Chain, IsOf, IsRing, IsSound, ring, follow, link_of, links_of, chains_of, node_of, after_of, before_of, with_value}
 use Rattle.ls_links.specs.Nodes.{one_less, shifted, added, alone}
 use Rattle.ls_links.proofs.Chaining.{differs, Lacks, but, but_lacking, unlike, once_before, once_behind}
@@ -106,28 +106,59 @@ first_free k some =
     let r = follow_some k.nodes (get_or k.lengths k.free 0) (after_of k.nodes k.free) some in
     record { front = []; back = r.0; is = r.1 }
 
--- a free node has a value
+-- a node has a value
 abbrev pub valued : ℕ → ℕ → LinkedNodes → LinkedNodes
 valued n v k = record k { nodes = with_value n v k.nodes }
 
 pub record Values (k : LinkedNodes) (n v : ℕ) : Type 0 where
   pub sound : IsSound (valued n v k)
   pub rings_same : (u : ℕ) → u ≤ k.free → ring (valued n v k) u ≡ ring k u
-  pub found : Found (ring (valued n v k)) k.free n
 
-pub value_written : (k : LinkedNodes) (n v : ℕ) → IsSound k → Found (ring k) k.free n → Values k n v
-value_written k n v sound f =
-    let me : IsOf k.nodes k.free k.free n = found_own k.nodes k.free k.free n (ring k) (sound.rings k.free (omega arith)) f in
+pub value_written : (k : LinkedNodes) (n v : ℕ) → IsSound k → n < length k.nodes → Values k n v
+value_written k n v sound in' =
     let rings : Rings (with_value n v k.nodes) k.lengths k.free (ring k) =
-    rings_alike k.nodes (with_value n v k.nodes) k.lengths k.free (ring k) (valued_alike n v k.nodes me.within) (rings_of k sound) in
+    rings_alike k.nodes (with_value n v k.nodes) k.lengths k.free (ring k) (valued_alike n v k.nodes in') (rings_of k sound) in
     let total : sum_by (λ n. n) k.lengths + length k.lengths ≡ length k.nodes = sound.total in
     let l : length (with_value n v k.nodes) ≡ length k.nodes = length-set k.nodes n _ in
-    let same : (u : ℕ) → u ≤ k.free → ring (valued n v k) u ≡ ring k u = ring_is (valued n v k) (ring k) rings in
     record {
       sound = sound_of (valued n v k) (ring k) sound.lists (total ∙ sym l) rings;
-      rings_same = same;
-      found = record { front = f.front; back = f.back; is = same k.free (omega arith) ∙ f.is };
+      rings_same = ring_is (valued n v k) (ring k) rings;
     }
+
+-- a free node's number is in range
+free_in_range : (k : LinkedNodes) (n : ℕ) → IsSound k → Found (ring k) k.free n → n < length k.nodes
+free_in_range k n sound f =
+    let me : IsOf k.nodes k.free k.free n = found_own k.nodes k.free k.free n (ring k) (sound.rings k.free (omega arith)) f in
+    me.within
+
+pub still_free : (k : LinkedNodes) (n v : ℕ) → Values k n v → Found (ring k) k.free n → Found (ring (valued n v k)) k.free n
+still_free k n v w f = record { front = f.front; back = f.back; is = w.rings_same k.free (omega arith) ∙ f.is }
+
+-- what is seen of a node that has another value
+link_valued : (ns : List Node) (n v z : ℕ) → n < length ns → link_of (with_value n v ns) z ≡ link_given n v (link_of ns z)
+link_valued ns n v z in' = by_test (z == n) refl
+  where
+    by_test : (b : Bool) → (z == n) ≡ b → link_of (with_value n v ns) z ≡ cond b (record (link_of ns z) { value = v }) (link_of ns z)
+    by_test true e =
+        ap (λ (x : ℕ). record { node = z; value = (node_of (with_value n v ns) x).value }) (eqb-true z n e)
+        ∙ ap (λ (x : ℕ). record { node = z; value = x }) (field_written (λ m. m.value) ns n (record (node_of ns n) { value = v }) in')
+    by_test false e =
+        ap (λ (x : ℕ). record { node = z; value = x })
+        (field_other (λ m. m.value) ns n (record (node_of ns n) { value = v }) z (λ q. differs (z == n) (eq-eqb z n q) e))
+
+links_given : (ns : List Node) (n v : ℕ) (xs : List ℕ) → n < length ns
+    → map (link_of (with_value n v ns)) xs ≡ map (link_given n v) (map (link_of ns) xs)
+links_given ns n v [] in' = refl
+links_given ns n v (x ∷ xs) in' =
+    rw (link_valued ns n v x in') (ap (λ (ls : List Link). link_given n v (link_of ns x) ∷ ls) (links_given ns n v xs in'))
+
+pub given_view : (k : LinkedNodes) (n v : ℕ) → n < length k.nodes → Values k n v → chains_of (valued n v k) ≡ value_given n v (chains_of k)
+given_view k n v in' w =
+    chains_same _ _ _ _
+    (rows_alike (links_of (valued n v k)) (λ u. map (link_given n v) (links_of k u)) 0 k.free (λ u a b.
+    ap (map (link_of (with_value n v k.nodes))) (w.rings_same u (omega arith)) ∙ links_given k.nodes n v (ring k u) in')
+    ∙ sym (map_rows (map (link_given n v)) (links_of k) 0 k.free))
+    refl
 
 links_valued : (ns : List Node) (n v : ℕ) (xs : List ℕ) → Lacks n xs → map (link_of (with_value n v ns)) xs ≡ map (link_of ns) xs
 links_valued ns n v [] l = refl
@@ -137,8 +168,8 @@ links_valued ns n v (x ∷ xs) l =
 pushed_links : (k : LinkedNodes) (t n v : ℕ) → IsSound k → t < k.free → Found (ring k) k.free n → (u : ℕ) → u < k.free
     → links_of (shifted t n (valued n v k)) u ≡ links_of k u ++ map (link_of (with_value n v k.nodes)) (last_if u t n)
 pushed_links k t n v sound l f u ul =
-    let w : Values k n v = value_written k n v sound f in
-    let sh : Shifts (valued n v k) t n = shift (valued n v k) k.free t n w.sound (omega arith) (omega arith) w.found in
+    let w : Values k n v = value_written k n v sound (free_in_range k n sound f) in
+    let sh : Shifts (valued n v k) t n = shift (valued n v k) k.free t n w.sound (omega arith) (omega arith) (still_free k n v w f) in
     let me : IsOf k.nodes k.free k.free n = found_own k.nodes k.free k.free n (ring k) (sound.rings k.free (omega arith)) f in
     let own : (node_of k.nodes n).list ≡ k.free = me.list in
     let rg : IsRing k.nodes k.free u (ring k u) = sound.rings u (omega arith) in

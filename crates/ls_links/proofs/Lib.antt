@@ -7,3 +7,4 @@ pub mod Views
 pub mod Places
 pub mod Calls
 pub mod Linked
+pub mod Members

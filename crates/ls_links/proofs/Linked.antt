@@ -4,14 +4,14 @@ use Rattle.std.specs.List.{sum_by}
 use Rattle.std.proofs.lemmas.List.{get_or_read}
 use Rattle.std.proofs.lemmas.List.FromFn.{length-map-range_with_len}
 use Rattle.ls_links.specs.declared.node.Node.{Node}
-use Rattle.ls_links.specs.Chains.{Chains, IsAt, IsLinked, pushed, unlinked, moved_back}
+use Rattle.ls_links.specs.Chains.{Chains, IsAt, IsLinked, pushed, unlinked, moved_back, value_given}
 use Rattle.ls_links.specs.Nodes.{LinkedNodes, IsOf, IsRing, IsSound, MayShift, ring, links_of, chains_of, node_of, after_of, before_of, with_value, shifted, added}
 use Rattle.ls_links.specs.Nodes.{alone}
 use Rattle.ls_links.proofs.Chaining.{each_weaker, last_of}
 use Rattle.ls_links.proofs.Rings.{Found, found_own}
 use Rattle.ls_links.proofs.Shifts.{shift}
 use Rattle.ls_links.proofs.Places.{Stands, stands, found, may_shift}
-use Rattle.ls_links.proofs.Calls.{valued, Values, value_written, first_free, unlinked_view, back_view, pushed_view, Enlarges, enlarges}
+use Rattle.ls_links.proofs.Calls.{valued, Values, value_written, still_free, given_view, first_free, unlinked_view, back_view, pushed_view, Enlarges, enlarges}
 
 pub node_is : (ns : List Node) (n : ℕ) (x : Node) → n < length ns → x ≡ get_or ns n x → x ≡ node_of ns n
 node_is ns n x in' h = get_or_read ns n x in' h (alone 0)
@@ -67,6 +67,12 @@ may_move k n list sound r is =
     let b : r.list < k.free = r.below in
     subst (λ (t : ℕ). MayShift k.nodes k.lengths t n) (sym (is ∙ r.own)) (may_shift k r.list r.list n sound (omega arith) (omega arith) r.found)
 
+-- a linked node has another value
+pub gives : (k : LinkedNodes) (n v : ℕ) → IsSound k → InRing k n → Leaves k (valued n v k) (value_given n v (chains_of k))
+gives k n v sound r =
+    let w : Values k n v = value_written k n v sound r.within in
+    record { sound = w.sound; view = given_view k n v r.within w }
+
 -- a free node is linked
 pub record Free (k : LinkedNodes) (n : ℕ) : Type 0 where
   pub found : Found (ring k) k.free n
@@ -85,16 +91,16 @@ lists_number k t l = let n : length (chains_of k).lists ≡ k.free = length-map-
 pub links : (k : LinkedNodes) (t n v : ℕ) → IsSound k → t < k.free → Free k n
     → Leaves k (shifted t n (valued n v k)) (pushed t (record { node = n; value = v }) (chains_of k))
 links k t n v sound l f =
-    let w : Values k n v = value_written k n v sound f.found in
+    let w : Values k n v = value_written k n v sound f.within in
     record {
-      sound = (shift (valued n v k) k.free t n w.sound (omega arith) (omega arith) w.found).sound;
+      sound = (shift (valued n v k) k.free t n w.sound (omega arith) (omega arith) (still_free k n v w f.found)).sound;
       view = pushed_view k t n v sound l f.found;
     }
 
 pub may_link : (k : LinkedNodes) (t n v : ℕ) → IsSound k → t < k.free → Free k n → MayShift (with_value n v k.nodes) k.lengths t n
 may_link k t n v sound l f =
-    let w : Values k n v = value_written k n v sound f.found in
-    may_shift (valued n v k) k.free t n w.sound (omega arith) (omega arith) w.found
+    let w : Values k n v = value_written k n v sound f.within in
+    may_shift (valued n v k) k.free t n w.sound (omega arith) (omega arith) (still_free k n v w f.found)
 
 pub was_free : (k : LinkedNodes) (n list place v : ℕ) → IsSound k → Free k n → IsAt (chains_of k) list place n v → ⊥
 was_free k n list place v sound f h =

@@ -1,6 +1,6 @@
 -- Lists of nodes, and what each call makes of them.
 use Rattle.std.specs.Prelude.{◌≡◌, ℕ, ◌+◌, ◌-◌, List, [], ◌∷◌, ◌++◌, map, set, get_or, not, ◌==◌, slice_get}
-use Rattle.std.specs.Prelude.{Option, Some, Bool}
+use Rattle.std.specs.Prelude.{Option, Some, Bool, if◌then◌else◌}
 use Rattle.std.specs.List.{filter}
 use Rattle.std.specs.Option.{option_map}
 
@@ -36,6 +36,10 @@ pub record IsLinked (c : Chains) (node : ℕ) : Type 0 where
   pub value : ℕ
   pub here : IsAt c list place node value
 
+-- an element is in a list
+abbrev pub In : {A : Type 0} → List A → A → Type 0
+In xs x = (i : ℕ) × (slice_get xs i ≡ Some x)
+
 -- a node stands at one place of one list at most
 abbrev pub Apart : Chains → Type 0
 Apart c = (node list list' place place' value value' : ℕ) → IsAt c list place node value
@@ -64,3 +68,11 @@ unlinked node c = record { lists = map (without node) c.lists; spare = c.spare +
 -- a node is the last of its list
 abbrev pub moved_back : ℕ → Chains → Chains
 moved_back node c = record c { lists = map (with_last node) c.lists }
+
+-- this node has this value
+abbrev pub link_given : ℕ → ℕ → Link → Link
+link_given node value l = if is_node node l then record l { value = value } else l
+
+-- a linked node has this value
+abbrev pub value_given : ℕ → ℕ → Chains → Chains
+value_given node value c = record c { lists = map (map (link_given node value)) c.lists }

@@ -1,7 +1,7 @@
 //! Doubly linked lists over one vector of nodes.
 ghost use Rattle.std.specs.Prelude.{◌≡◌, ◌+◌, ◌<◌, ℕ, [], IfOk, OnOk, OnErr, length, map, max, replicate};
 ghost use Rattle.std.specs.List.{range_with_len};
-ghost use Rattle.ls_links.specs.Chains.{IsAt, IsLinked, Apart, node_at, pushed, unlinked, moved_back};
+ghost use Rattle.ls_links.specs.Chains.{IsAt, IsLinked, Apart, node_at, pushed, unlinked, moved_back, value_given};
 ghost use Rattle.ls_links.specs.Nodes.{alone};
 
 use crate::node::Node;
@@ -96,6 +96,14 @@ impl Links {
     {
         let list = self.nodes[node].list;
         shift(&mut self.nodes, &mut self.lengths, list, node);
+    }
+
+    /// Gives a node another value. It stays where it stands.
+    pub fn set_value(&mut self, node: usize, value: usize)
+        requires { IsLinked self.old node }
+        ensures { self.new ≡ value_given node value self.old }
+    {
+        set_value(&mut self.nodes, node, value);
     }
 
     /// The first node of a list, `None` where it is empty.

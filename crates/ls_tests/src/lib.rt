@@ -45,6 +45,8 @@ mod pair;
 #[cfg(test)]
 mod plain;
 #[cfg(test)]
+mod queue;
+#[cfg(test)]
 mod register;
 #[cfg(test)]
 mod request;

@@ -25,7 +25,7 @@ fn node_at(links: &Links, list: usize, place: usize) -> Option<usize>
 }
 
 /// The value at a place of a list, `None` past the last.
-fn value_at(links: &Links, list: usize, place: usize) -> Option<usize>
+pub fn value_at(links: &Links, list: usize, place: usize) -> Option<usize>
     requires { list < length links.now.lists }
 {
     match node_at(links, list, place) {
@@ -81,6 +81,16 @@ fn move_to_back(links: &mut Links, list: usize, place: usize)
     }
 }
 
+/// Gives the node at a place another value, where there is one.
+fn set_value(links: &mut Links, list: usize, place: usize, value: usize)
+    requires { list < length links.old.lists }
+    ensures { length links.new.lists ≡ length links.old.lists }
+{
+    if let Some(node) = node_at(links, list, place) {
+        links.set_value(node, value);
+    }
+}
+
 /// Unlinks the node at a place, and answers its value, `None` where there is no node.
 fn unlink(links: &mut Links, list: usize, place: usize) -> Option<usize>
     requires { list < length links.old.lists }
@@ -92,7 +102,7 @@ fn unlink(links: &mut Links, list: usize, place: usize) -> Option<usize>
     }
 }
 
-/// Whether three nodes of a list are pushed, one goes to the back, and one is unlinked.
+/// Whether three nodes of a list are pushed, one goes to the back, one is unlinked, and one gets another value.
 fn a_list_changes(alloc: Global) -> Result<bool, NoMemory> {
     let mut links = Links::new(alloc, 1)?;
     links.reserve(3)?;
@@ -102,7 +112,9 @@ fn a_list_changes(alloc: Global) -> Result<bool, NoMemory> {
     let moved = has_values(&links, 0, &[2, 3, 1]) && links.spare() == 0;
     let unlinked = unlink(&mut links, 0, 1) == Some(3);
     let last = has_values(&links, 0, &[2, 1]) && links.spare() == 1;
-    Ok(pushed && first && moved && unlinked && last)
+    set_value(&mut links, 0, 1, 4);
+    let valued = has_values(&links, 0, &[2, 4]) && links.spare() == 1;
+    Ok(pushed && first && moved && unlinked && last && valued)
 }
 
 /// Whether a list stays as it is while another one loses its node.

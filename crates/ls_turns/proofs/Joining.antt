@@ -6,14 +6,14 @@ use Rattle.std.specs.List.{list_any, range_with_len}
 use Rattle.std.proofs.lemmas.List.{map-append, length_push, length-set, get_or-set_same, get_or-set_other, get_or_append_left, length-replicate}
 use Rattle.std.proofs.lemmas.List.FromFn.{length-range_with_len}
 use Rattle.std.proofs.lemmas.Option.{slice_get_within}
-use Rattle.ls_links.specs.Chains.{Link, Chains, Apart, list_of, pushed}
+use Rattle.ls_links.specs.Chains.{In, Link, Chains, Apart, list_of, pushed}
 use Rattle.ls_turns.specs.declared.row.Row.{Row}
 use Rattle.ls_turns.specs.declared.row.SlotName.{SlotName}
 use Rattle.ls_turns.specs.declared.slot_ref.SlotRef.{SlotRef}
 use Rattle.ls_turns.specs.Round.{Seat, Round, is_named, Joins, has_slot}
 use Rattle.ls_turns.specs.Seats.{is_name}
-use Rattle.ls_turns.specs.Kept.{Table, In, IsOwn, IsTold, IsFree, IsKept, HasRoom, IsSound, links_of, round_of, seat_of, row_of, name_of, no_row}
-use Rattle.ls_turns.proofs.Members.{nothing_there, differs, map_agree_in, append_in_left, in_push, last_at, in_append, in_range, map_in}
+use Rattle.ls_turns.specs.Kept.{Table, IsOwn, IsTold, IsFree, IsKept, HasRoom, IsSound, links_of, round_of, seat_of, row_of, name_of, no_row}
+use Rattle.ls_links.proofs.Members.{nothing_there, differs, map_agree_in, append_in_left, in_push, last_at, in_append, in_range, map_in}
 use Rattle.ls_turns.proofs.Reading.{name_named}
 use Rattle.ls_turns.proofs.Leaving.{is_name_same, name_is_itself}
 

@@ -7,13 +7,13 @@ use Rattle.std.proofs.lemmas.Bool.{eqb-true, eq-eqb}
 use Rattle.std.proofs.lemmas.List.{map-append, append-nil, length-map, length_push}
 use Rattle.std.proofs.lemmas.List.Filters.{length-filter_both}
 use Rattle.std.proofs.lemmas.Option.{slice_get_within}
-use Rattle.ls_links.specs.Chains.{Link, Apart, IsLinked, is_node, without, with_last, unlinked, moved_back}
+use Rattle.ls_links.specs.Chains.{In, Link, Apart, IsLinked, is_node, without, with_last, unlinked, moved_back}
 use Rattle.ls_turns.specs.declared.row.SlotName.{SlotName}
 use Rattle.ls_turns.specs.Round.{Seat, is_named, gave, left_one}
 use Rattle.ls_turns.specs.Seats.{is_name}
-use Rattle.ls_turns.specs.Kept.{Table, In, IsOwn, IsTold, IsFree, IsKept, HasRoom, IsSound, links_of, round_of, seat_of, row_of, name_of}
-use Rattle.ls_turns.proofs.Members.{nothing_there, differs, filter_agree_in, filter_map, filter_none, filter_all, in_filter, filter_in, in_append}
-use Rattle.ls_turns.proofs.Members.{append_in_left, append_in_right, in_push, one_passes}
+use Rattle.ls_turns.specs.Kept.{Table, IsOwn, IsTold, IsFree, IsKept, HasRoom, IsSound, links_of, round_of, seat_of, row_of, name_of}
+use Rattle.ls_links.proofs.Members.{nothing_there, differs, filter_agree_in, filter_map, filter_none, filter_all, in_filter, filter_in, in_append}
+use Rattle.ls_links.proofs.Members.{append_in_left, append_in_right, in_push, one_passes}
 use Rattle.ls_turns.proofs.Reading.{one_place, one_link, member_linked, named_is, none_named}
 
 abbrev pub named : ℕ → ℕ → SlotName

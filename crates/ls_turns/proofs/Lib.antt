@@ -1,4 +1,3 @@
-pub mod Members
 pub mod Reading
 pub mod Leaving
 pub mod Joining

@@ -10,7 +10,7 @@ use Rattle.ls_value.proofs.Rows.{and_left, and_right}
 use Rattle.ls_turns.specs.declared.slot_ref.SlotRef.{SlotRef}
 use Rattle.ls_turns.specs.Round.{Seat, Round, AreApart, Joins, slots_of, is_named, has_slot, left, gave}
 use Rattle.ls_turns.specs.Moves.{Joined, Left, is_same, IsMoved, GivesAt}
-use Rattle.ls_turns.proofs.Members.{filter_agree_in, filter_map, one_passes}
+use Rattle.ls_links.proofs.Members.{filter_agree_in, filter_map, one_passes}
 
 equal_either_way : (m n : ℕ) → (m == n) ≡ (n == m)
 equal_either_way m n = grind (arith, nat_tests)

@@ -6,7 +6,7 @@ use Rattle.std.specs.List.{filter, Contains}
 use Rattle.std.proofs.lemmas.Bool.{eqb-true, eq-eqb}
 use Rattle.ls_turns.specs.declared.slot_ref.SlotRef.{SlotRef}
 use Rattle.ls_turns.specs.Moves.{Move, Gave, Joined, Left, is_same, after_move, MayMoveAll, Stays, HasGiven}
-use Rattle.ls_turns.proofs.Members.{differs}
+use Rattle.ls_links.proofs.Members.{differs}
 
 contains_here : {A : Type 0} (y x : A) (xs : List A) → y ≡ x → Contains (y ∷ xs) x
 contains_here y x xs e = (0, omega arith, e)

@@ -5,13 +5,13 @@ use Rattle.std.specs.Prelude.{slice_get}
 use Rattle.std.specs.Option.{option_map}
 use Rattle.std.specs.List.{filter}
 use Rattle.std.proofs.lemmas.Bool.{eqb-true, eq-eqb}
-use Rattle.ls_links.specs.Chains.{Link, IsAt, IsLinked, node_at}
+use Rattle.ls_links.specs.Chains.{In, Link, IsAt, IsLinked, node_at}
 use Rattle.ls_turns.specs.declared.row.Row.{Row}
 use Rattle.ls_turns.specs.declared.row.SlotName.{SlotName}
 use Rattle.ls_turns.specs.declared.slot_ref.SlotRef.{SlotRef}
 use Rattle.ls_turns.specs.Round.{Seat, seat_at, node_of_place, slot_of_value, link_of, IsSeated, AreApart, is_named, HasPlacesTo}
-use Rattle.ls_turns.specs.Kept.{Table, In, IsTold, IsKept, links_of, round_of, seat_of, row_of, name_of}
-use Rattle.ls_turns.proofs.Members.{nothing_there, differs, bool_same, in_map, filter_none, filter_map}
+use Rattle.ls_turns.specs.Kept.{Table, IsTold, IsKept, links_of, round_of, seat_of, row_of, name_of}
+use Rattle.ls_links.proofs.Members.{nothing_there, differs, bool_same, in_map, filter_none, filter_map}
 
 -- a seat's link
 pub seat_in : (t : Table) (i : ℕ) (s : Seat) → seat_at (round_of t) i ≡ Some s → (l : Link) × (slice_get (links_of t) i ≡ Some l) × (seat_of t.rows l ≡ s)

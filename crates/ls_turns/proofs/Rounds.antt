@@ -8,7 +8,7 @@ use Rattle.std.proofs.lemmas.Bool.{eqb-true, eqb-false, eq-eqb, ltb-true, ltb-fa
 use Rattle.std.proofs.lemmas.List.Sums.{length-filter, count_by-le-length}
 use Rattle.ls_turns.specs.declared.slot_ref.SlotRef.{SlotRef}
 use Rattle.ls_turns.specs.Round.{Seat, Round, cleared, is_of, is_named, left, left_one, left_below, seat_at, node_of_place, HasPlacesTo}
-use Rattle.ls_turns.proofs.Members.{nothing_there, filter_agree_in, filter_all}
+use Rattle.ls_links.proofs.Members.{nothing_there, filter_agree_in, filter_all}
 
 pub filter_twice : {A : Type 0} (p q : A → Bool) (xs : List A) → filter p (filter q xs) ≡ filter (λ x. q x && p x) xs
 filter_twice p q [] = refl

@@ -1,6 +1,6 @@
 -- What is kept of a round, and what it is seen as.
 use Rattle.std.specs.Prelude.{◌≡◌, ℕ, ◌+◌, ◌<◌, ◌≤◌, List, map, length, get_or, slice_get, Option, Some}
-use Rattle.ls_links.specs.Chains.{Link, Chains, Apart, list_of}
+use Rattle.ls_links.specs.Chains.{Link, Chains, Apart, In, list_of}
 use Rattle.ls_turns.specs.declared.row.Row.{Row}
 use Rattle.ls_turns.specs.declared.row.SlotName.{SlotName}
 use Rattle.ls_turns.specs.declared.slot_ref.SlotRef.{SlotRef}
@@ -33,10 +33,6 @@ round_of t = record { seats = map (seat_of t.rows) (links_of t); spare = t.spare
 
 abbrev pub name_of : SlotRef → SlotName
 name_of s = record { sub = s.sub; place = s.place }
-
--- an element is in a list
-abbrev pub In : {A : Type 0} → List A → A → Type 0
-In xs x = (i : ℕ) × (slice_get xs i ≡ Some x)
 
 -- a link's seat has its row, and the slot's name has the seat
 pub record IsOwn (t : Table) (look : SlotName → Option ℕ) (l : Link) : Type 0 where

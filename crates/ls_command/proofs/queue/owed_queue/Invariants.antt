@@ -1,7 +1,8 @@
 use Rattle.std.proofs.Common.{◌≡◌, []}
 use Rattle.ls_command.specs.Command.{with_owed}
+use Rattle.ls_command.proofs.Owing.{IsOwing}
 use Rattle.ls_command.proofs.queue.owed_queue.Given as goal
 
--- the queue with the keys that the rest gives is that of all keys
-abbrev pub invariant-loop-key : goal.invariant-loop-key
-invariant-loop-key l = with_owed l.queue l.key-iterator.rest.items ≡ with_owed [] l.fn.rows.items
+-- the keys with those that the rest gives are all keys
+abbrev pub invariant-loop-row : goal.invariant-loop-row
+invariant-loop-row l = (with_owed l.queue.keys l.row-iterator.rest.items ≡ with_owed [] l.fn.rows.items) × IsOwing l.queue

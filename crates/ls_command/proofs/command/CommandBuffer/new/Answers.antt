@@ -1,9 +1,10 @@
-use Rattle.std.proofs.Common.{◌≡◌, ◌∙◌, ap, arith, sym, refl, subst, length, []}
+use Rattle.std.proofs.Common.{◌≡◌, ◌∙◌, [], ap, arith, length, refl, sym, subst}
 use Rattle.std.proofs.lemmas.List.Elements.{All-nil}
 use Rattle.ls_event.specs.History.{RowFits}
 use Rattle.ls_event.specs.Joining.{command_joined}
-use Rattle.ls_command.specs.declared.queue.Queued.{Queued}
-use Rattle.ls_command.specs.Command.{Command, StandsCommand, command_rows, with_owed}
+use Rattle.ls_command.specs.declared.kept.Queued.{Queued}
+use Rattle.ls_command.specs.Command.{Command, StandsCommand, command_rows}
+use Rattle.ls_command.specs.Entries.{LinkedKeys, keys_owing}
 use Rattle.ls_command.proofs.Joins.{command_joins}
 use Rattle.ls_command.proofs.Widths.{RowsWide, with_owed_wide}
 use Rattle.ls_command.proofs.Owed.{with_owed_is}
@@ -20,7 +21,7 @@ returns-clause-queue c = λ d. rw (c.in_ok-owed_queue.ensures, c.rows_from-rows.
 
 pub returns-clause-fields : goal.returns-clause-fields
 returns-clause-fields c = λ n rows.
-    subst (RowsWide n) (sym (c.in_ok-owed_queue.ensures ∙ ap (with_owed []) c.rows_from-rows.ensures))
+    subst (λ (q : LinkedKeys). RowsWide n q.keys) (sym (c.in_ok-owed_queue.ensures ∙ ap keys_owing c.rows_from-rows.ensures))
     (with_owed_wide n [] (command_rows c.args.first) (All-nil (λ (q : Queued). RowFits n q.row)) rows)
 
 pub returns-clause-stands : goal.returns-clause-stands

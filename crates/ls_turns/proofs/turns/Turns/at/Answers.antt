@@ -3,7 +3,7 @@ use Rattle.std.proofs.lemmas.List.{get_or_read}
 use Rattle.ls_turns.specs.declared.row.Row.{Row}
 use Rattle.ls_turns.specs.Kept.{no_row}
 use Rattle.ls_turns.specs.Round.{Round, slot_of_value}
-use Rattle.ls_turns.proofs.Members.{nothing_there}
+use Rattle.ls_links.proofs.Members.{nothing_there}
 use Rattle.ls_turns.proofs.Reading.{at_some, at_other, at_past}
 use Rattle.ls_turns.proofs.turns.Turns.at.Goals as goal
 

@@ -3,7 +3,7 @@ use Rattle.std.proofs.Common.{◌≡◌, ℕ, suc, zero, ◌+◌, ◌<◌, List,
 use Rattle.std.proofs.Common.{Option, inl, inr}
 use Rattle.std.specs.Prelude.{slice_get, ◌⊎◌}
 use Rattle.std.specs.List.{filter, range_with_len}
-use Rattle.ls_turns.specs.Kept.{In}
+use Rattle.ls_links.specs.Chains.{In}
 
 pub nothing_there : {A : Type 0} (x : A) (o : Option A) → o ≡ None → o ≡ Some x → ⊥
 nothing_there x o p q = cc
