@@ -1,3 +1,4 @@
+pub mod Places
 pub mod Least
 pub mod Trimming
 pub mod Losing

@@ -1,6 +1,6 @@
 -- Lines are given up one after the other.
 use Rattle.std.proofs.Common.{◌≡◌, ◌≤◌, ◌<◌, ℕ, ◌+◌, ◌-◌, ◌^◌, List, [], ◌∷◌, ◌++◌, length, drop, Bool, true, false, nat_le, nat_lt}
-use Rattle.std.proofs.Common.{refl, sym, ◌∙◌, ap, arith, cond, Option, Some, None, slice_get}
+use Rattle.std.proofs.Common.{refl, sym, ◌∙◌, ap, subst, arith, cond, Option, Some, None, slice_get}
 use Rattle.std.proofs.Common.{unwrap_or, not, ◌*◌, ◌&&◌}
 use Rattle.std.proofs.lemmas.Bool.{and_from, ltb-true, ltb-false, le-leb, lt-ltb}
 use Rattle.std.proofs.lemmas.List.{length-append, length-drop, drop-drop, drop-append-le, get_or-drop}
@@ -10,6 +10,7 @@ use Rattle.std.proofs.lemmas.Option.{slice_get-get_or, unwrap_or-slice_get}
 use Rattle.ls_value.specs.declared.limits.TheConstants.{GREATEST_NUMBER}
 use Rattle.ls_keep.specs.Keeping.{Numbered, bytes_of, may_keep, given_up_after, trimmed, pushed, marked}
 use Rattle.ls_keep.specs.Kept.{KeptLines, IsSound, StandsKeep, GaveUp, IsTrim, last_of, kept_text, text_of, given_of, first_given_up}
+use Rattle.ls_keep.specs.Texts.{HeldTexts}
 use Rattle.ls_keep.proofs.Least.{given_up_after-is, least_keeping-append}
 
 -- the first line that is kept is given up
@@ -23,6 +24,17 @@ sound_behind bytes line rest sent given_up sound less =
       numbered = omega (arith, sound.numbered);
       most = omega (arith, sound.most);
     }
+
+pub sound_popped : (bytes : ℕ) (texts : List (List ℕ)) (sent given_up : ℕ) → IsSound bytes texts sent given_up → given_up < sent
+    → IsSound (bytes - length (text_of texts 1)) (drop 1 texts) sent (given_up + 1)
+sound_popped bytes [] sent given_up sound less = absurd (omega (arith, less, sound.numbered))
+sound_popped bytes (line ∷ rest) sent given_up sound less = sound_behind bytes line rest sent given_up sound less
+
+-- its bytes are counted
+pub popped_fits : (bytes : ℕ) (texts : List (List ℕ)) (sent given_up : ℕ) → IsSound bytes texts sent given_up
+    → length (text_of texts 1) ≤ bytes
+popped_fits bytes [] sent given_up sound = omega arith
+popped_fits bytes (line ∷ rest) sent given_up sound = omega (arith, sound.bytes_are, sum_by-cons length line rest)
 
 -- a line is numbered
 pub sound_with : (bytes : ℕ) (texts : List (List ℕ)) (text : List ℕ) (sent given_up : ℕ) → IsSound bytes texts sent given_up
@@ -58,6 +70,34 @@ gave_up_none k given =
       room = omega arith;
     }
 
+-- there was more room
+pub gave_up_in_less : (old new : KeptLines) (spare : ℕ) → spare ≤ old.spare → GaveUp old new → GaveUp (record old { spare = spare }) new
+gave_up_in_less old new spare less gave =
+    record {
+      texts = gave.texts;
+      sent = gave.sent;
+      rose = gave.rose;
+      given = gave.given;
+      over = gave.over;
+      freed = gave.freed;
+      same = gave.same;
+      room = omega (arith, less, gave.room);
+    }
+
+-- a line is numbered, and lines are given up
+abbrev pub kept_of : HeldTexts → ℕ → ℕ → KeptLines
+kept_of held sent given_up =
+    record { texts = held.texts; sent = sent; given_up = given_up; freed = held.left; spare = held.spare }
+
+pub gave_up_with : (old new : KeptLines) (held more : HeldTexts) (text : List ℕ) (sent given_up : ℕ)
+    → kept_of held sent given_up ≡ old → more ≡ record held { texts = held.texts ++ text ∷ []; spare = more.spare }
+    → held.spare ≤ more.spare + 1 → GaveUp (kept_of more sent given_up) new
+    → GaveUp (record old { texts = old.texts ++ text ∷ []; spare = old.spare - 1 }) new
+gave_up_with old new held more text sent given_up view is room gave =
+    subst (λ (v : KeptLines). GaveUp (record v { texts = v.texts ++ text ∷ []; spare = v.spare - 1 }) new) view
+    (gave_up_in_less (kept_of (record held { texts = held.texts ++ text ∷ []; spare = more.spare }) sent given_up) new (held.spare - 1)
+    (omega (arith, room)) (subst (λ (h : HeldTexts). GaveUp (kept_of h sent given_up) new) is gave))
+
 -- a test that says no
 pub says_no : (v : Bool) → true ≡ not v → v ≡ false
 says_no true is = is
@@ -79,9 +119,9 @@ some_text : (texts : List (List ℕ)) (i : ℕ) → i < length texts → slice_g
 some_text texts i within =
     slice_get-get_or texts i [] within ∙ ap (λ (t : List ℕ). Some t) (sym (unwrap_or-slice_get texts i []))
 
-pub gave_up_more : (old new : KeptLines) → GaveUp old new → new.given_up < new.sent → old.sent ≤ last_of old
-    → may_keep new.texts 0 ≡ false → GaveUp old (first_given_up new)
-gave_up_more old new gave less numbered over =
+pub gave_up_more : (old new : KeptLines) (spare : ℕ) → GaveUp old new → new.given_up < new.sent → old.sent ≤ last_of old
+    → may_keep new.texts 0 ≡ false → new.spare ≤ spare → GaveUp old (first_given_up spare new)
+gave_up_more old new spare gave less numbered over room =
     let many : ℕ = new.given_up - old.given_up in
     let sent : new.sent ≡ old.sent = gave.sent in
     let rose : old.given_up ≤ new.given_up = gave.rose in
@@ -99,7 +139,7 @@ gave_up_more old new gave less numbered over =
           ∙ ap (λ (ts : List (List ℕ)). slice_get ts 0) (sym gave.texts)
           ∙ some_text new.texts 0 (omega (arith, numbered, ap length gave.texts, length-drop many old.texts));
       same = λ none. absurd (omega (arith, none));
-      room = omega (arith, gave.room);
+      room = omega (arith, gave.room, room);
     }
   where
     by_order : (n : ℕ) → old.given_up + n < new.given_up + 1 → (v : Bool) → nat_lt (old.given_up + n) new.given_up ≡ v

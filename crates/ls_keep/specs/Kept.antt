@@ -50,10 +50,10 @@ text_of texts n = unwrap_or (slice_get texts (n - 1)) []
 abbrev pub given_of : KeptLines → List ℕ
 given_of k = unwrap_or (kept_text k k.sent) k.freed
 
--- the first line that is kept is given up
-abbrev pub first_given_up : KeptLines → KeptLines
-first_given_up k =
-    record k { texts = drop 1 k.texts; given_up = k.given_up + 1; freed = text_of k.texts 1; spare = k.spare + 1 }
+-- the first line that is kept is given up, and then there is so much room
+abbrev pub first_given_up : ℕ → KeptLines → KeptLines
+first_given_up spare k =
+    record k { texts = drop 1 k.texts; given_up = k.given_up + 1; freed = text_of k.texts 1; spare = spare }
 
 -- lines were given up in their order, each one as it was given and as the lines from it on were too many to keep or too
 -- long; and the text of the last of them is still there, or the one before where none was

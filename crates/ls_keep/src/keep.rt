@@ -6,9 +6,9 @@ ghost use Rattle.ls_keep.specs.Keeping.{Numbered, may_keep, pushed, marked, resu
 ghost use Rattle.ls_keep.specs.Kept.{StandsKeep, last_of, kept_text, text_of, given_of, first_given_up, GaveUp, IsTrim};
 
 use crate::limits::{MOST_KEPT_BYTES, MOST_KEPT_LINES};
+use crate::texts::LineTexts;
 use ls_value::{Bytes, NoMemory};
 use std::alloc::Global;
-use std::collections::VecDeque;
 use std::marker::Model;
 
 /// Why a client can't go on behind the lines that it has.
@@ -23,31 +23,27 @@ pub enum ResumeRefused {
 /// The numbered lines of a session that are kept, how many were given, and the given-up number.
 #[derive(Drop)]
 pub struct Keep {
-    lines: VecDeque<Bytes>,
+    lines: LineTexts,
     /// Of the lines that are kept. There may be 2^60 lines, each shorter than 2^64, so a `u64` is too short by type.
     bytes: u128,
     sent: u64,
     given_up: u64,
-    /// The line that was given up last: it may be the one that was given last.
-    freed: Bytes,
 }
 
 impl Model for Keep {
-    ghost use Rattle.std.specs.Prelude.{◌-◌};
-    ghost use Rattle.std.specs.VecDeque.{deque_len, deque_capacity};
     ghost use Rattle.ls_keep.specs.Kept.{KeptLines, IsSound};
 
     ghost Value = { KeptLines };
 
     ghost view = { λ k. record {
-      texts = k.lines.items;
+      texts = k.lines.texts;
       sent = k.sent;
       given_up = k.given_up;
-      freed = k.freed;
-      spare = deque_capacity k.lines - deque_len k.lines;
+      freed = k.lines.left;
+      spare = k.lines.spare;
     } };
 
-    ghost invariant = { λ k. IsSound k.bytes k.lines.items k.sent k.given_up };
+    ghost invariant = { λ k. IsSound k.bytes k.lines.texts k.sent k.given_up };
 }
 
 impl Keep {
@@ -58,11 +54,10 @@ impl Keep {
         ensures memory { OnErr result ⊥ }
     {
         Ok(Keep {
-            lines: VecDeque::new(alloc),
+            lines: LineTexts::new(alloc),
             bytes: 0,
             sent: 0,
             given_up: 0,
-            freed: Bytes::from_vec(Vec::new(alloc)),
         })
     }
 
@@ -79,7 +74,7 @@ impl Keep {
     pub fn spare(&self) -> usize
         ensures { result ≡ self.now.spare }
     {
-        self.lines.capacity() - self.lines.len()
+        self.lines.spare()
     }
 
     /// Numbers a line, and answers its number. Lines that aren't to be kept any more are given up. No memory is taken.
@@ -95,10 +90,46 @@ impl Keep {
         ensures room { self.old.spare ≤ self.new.spare + 1 }
     {
         self.bytes += text.len() as u128;
-        self.lines.push_back_reserved(text);
+        self.lines.push(text);
+        self.numbered()
+    }
+
+    /// The same with a line whose memory may be that of the next blank one.
+    pub fn push_text(&mut self, text: Vec<u8>) -> u64
+        requires room { 0 < self.old.spare }
+        requires number { last_of self.old < GREATEST_NUMBER }
+        ensures number { result ≡ last_of self.old + 1 }
+        ensures gave_up { GaveUp (record self.old {
+          texts = self.old.texts ++ text.items ∷ [];
+          spare = self.old.spare - 1;
+        }) self.new }
+        ensures stands { (n : Numbered) → StandsKeep self.old n → StandsKeep self.new (pushed text.items n) }
+        ensures room { self.old.spare ≤ self.new.spare + 1 }
+    {
+        self.bytes += text.len() as u128;
+        self.lines.push_text(text);
+        self.numbered()
+    }
+
+    /// A line was numbered: lines that aren't to be kept any more are given up. Its number is answered.
+    fn numbered(&mut self) -> u64
+        requires given { self.old.given_up ≤ self.old.sent }
+        requires numbered { self.old.sent ≤ last_of self.old }
+        ensures number { result ≡ last_of self.old }
+        ensures gave_up { GaveUp self.old self.new }
+        ensures is_trim { IsTrim self.new }
+    {
         let number = self.last();
         self.trim();
         number
+    }
+
+    /// A blank text with room for so many bytes, for a line. It takes memory only where that of a line isn't left.
+    pub fn blank(&mut self, bytes: usize) -> Result<Vec<u8>, NoMemory>
+        ensures items { IfOk result (λ text. text.items ≡ []) }
+        ensures rest { self.new ≡ self.old }
+    {
+        self.lines.blank(bytes)
     }
 
     /// The next line is given, which is the one that `given` tells. Lines that aren't to be kept any more are given up.
@@ -150,8 +181,7 @@ impl Keep {
         } }
     {
         self.clear();
-        self.lines = VecDeque::new(alloc);
-        self.freed = Bytes::from_vec(Vec::new(alloc));
+        self.lines = LineTexts::new(alloc);
     }
 
     /// All lines are given up, as if each was given. The room for lines stays. No memory is taken.
@@ -179,8 +209,7 @@ impl Keep {
             return None;
         }
         let place = usize::try_from(n - self.given_up - 1).ok()?;
-        let line = self.lines.get(place)?;
-        Some(line.as_slice())
+        self.lines.get(place)
     }
 
     /// The text of the line that `mark` gave last, before any other call that changes the lines.
@@ -189,7 +218,7 @@ impl Keep {
     {
         match self.get(self.sent) {
             Some(line) => line,
-            None => self.freed.as_slice(),
+            None => self.lines.left(),
         }
     }
 
@@ -236,12 +265,10 @@ impl Keep {
     /// The first line that is kept is given up, which was given.
     fn give_up(&mut self)
         requires { self.old.given_up < self.old.sent }
-        ensures { self.new ≡ first_given_up self.old }
+        ensures lines { self.new ≡ first_given_up self.new.spare self.old }
+        ensures room { self.old.spare ≤ self.new.spare }
     {
-        if let Some(line) = self.lines.pop_front() {
-            self.bytes -= line.len() as u128;
-            self.given_up += 1;
-            self.freed = line;
-        }
+        self.bytes -= self.lines.pop() as u128;
+        self.given_up += 1;
     }
 }

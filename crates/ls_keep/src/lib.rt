@@ -12,13 +12,16 @@
 //! resume(4)             Beyond { last: 3 }
 //! ```
 //!
-//! `reserve` takes room for so many more lines, and no other call but `new` takes memory. A line's text is never
-//! copied.
+//! The texts of the lines lie in one piece of memory, each after the one before, and are lent from there. `reserve` takes
+//! room for so many more lines and gives back what those that were given up had, and `blank` takes the memory in which a
+//! text is written; no other call takes memory.
 #![tactic(auto)]
 
 mod keep;
 mod law;
 mod limits;
+mod queue;
+mod texts;
 
 pub use keep::{Keep, ResumeRefused};
 pub use law::{

@@ -18,7 +18,7 @@ use crate::session::{Ask, Reply, Session};
 use ls_budget::Due;
 use ls_event::Taken;
 use ls_subs::{CutLine, SlotRef};
-use ls_value::{Bytes, GREATEST_NUMBER, NoMemory};
+use ls_value::{GREATEST_NUMBER, NoMemory};
 
 /// The room that a line's text begins with, in bytes. Most lines need no more.
 const LINE_ROOM: usize = 64;
@@ -110,8 +110,7 @@ impl Session {
             return Ok(false);
         }
         are_small(slot.sub, slot.place);
-        self.lines.reserve(1)?;
-        let mut text = Vec::with_capacity(self.alloc, LINE_ROOM)?;
+        let mut text = self.lines.blank(LINE_ROOM)?;
         let told = self
             .subs
             .accept(&slot, taken, self.asking.tick(), &mut text)?;
@@ -141,7 +140,7 @@ impl Session {
             ≡ with_turns (gave slot.now.sub slot.now.place self.old.asking.turns) self.old.asking }
         ensures rest { self.new ≡ record self.old { lines = self.new.lines; asking = self.new.asking } }
     {
-        self.lines.number(Bytes::from_vec(text));
+        self.lines.number_text(text);
         self.asking.give(slot);
     }
 

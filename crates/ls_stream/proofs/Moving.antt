@@ -1,7 +1,7 @@
 -- What is kept of lines stands for another session.
 use Rattle.std.proofs.Common.{◌≡◌, ℕ, List, [], ◌∷◌, ◌++◌, length, Option, true, false, sym, ◌∙◌, ap, subst, arith}
 use Rattle.ls_keep.specs.Keeping.{Numbered, given_up_after, trimmed}
-use Rattle.ls_keep.specs.Kept.{StandsKeep}
+use Rattle.ls_keep.specs.Kept.{KeptLines as KeptNumbered, StandsKeep}
 use Rattle.ls_keep.proofs.Trimming.{trimmed_twice}
 use Rattle.ls_value.specs.Each.{Each}
 use Rattle.ls_record.specs.Lines.{Line, line_text, texts_behind}
@@ -56,6 +56,12 @@ lines_roomier k k' s st is =
         end = st.short.end;
       };
     })
+
+-- and after that nothing
+pub room_stays : (k : Kept) (roomy same : KeptNumbered) → roomy ≡ record k.keep { spare = roomy.spare } → same ≡ roomy
+    → IsRoomier k (record k { keep = same })
+room_stays k roomy same more is =
+    ap (λ (x : KeptNumbered). record k { keep = x }) (is ∙ more ∙ ap (λ (x : KeptNumbered). record k.keep { spare = x.spare }) (sym is))
 
 -- a line is numbered
 abbrev pub with_next : Line → List LiveSlot → Board → Board

@@ -16,7 +16,7 @@
 //! ```
 //!
 //! `number` numbers a line, `owe` adds one that isn't numbered, `unbind` leaves the session without a stream, `force`
-//! has the stream be over, and `end` ends the session. Only `new`, `bind`, `reserve` and `owe` take memory.
+//! has the stream be over, and `end` ends the session. Only `new`, `bind`, `reserve`, `blank` and `owe` take memory.
 #![tactic(auto)]
 
 mod binding;

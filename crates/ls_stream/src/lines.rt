@@ -131,12 +131,41 @@ impl Lines {
         self.clear_ended();
     }
 
+    /// The same with a text whose memory may be that of the next blank one.
+    pub fn number_text(&mut self, text: Vec<u8>)
+        requires { IsReadyFor 1 self.old }
+        ensures { NumbersLine self.old text.items self.new }
+    {
+        self.push_text(text);
+        self.clear_ended();
+    }
+
     /// A line is numbered.
     fn push(&mut self, text: Bytes)
         requires { IsReadyFor 1 self.old }
         ensures { PushesLine self.old text self.new }
     {
         self.keep.push(text);
+    }
+
+    /// A line is numbered, whose memory may be that of the next blank text.
+    fn push_text(&mut self, text: Vec<u8>)
+        requires { IsReadyFor 1 self.old }
+        ensures { PushesLine self.old text.items self.new }
+    {
+        self.keep.push_text(text);
+    }
+
+    /// A blank text with room for so many bytes, and room for one line more, so that [`Lines::number_text`] may number
+    /// it. It takes memory only where lines left none, or too little. After `NoMemory` the lines are as before.
+    pub fn blank(&mut self, bytes: usize) -> Result<Vec<u8>, NoMemory>
+        ensures items { IfOk result (λ text. text.items ≡ []) }
+        ensures room { OnOk result (1 ≤ room_of self.new) }
+        ensures rest { IsRoomier self.old self.new }
+    {
+        self.keep.reserve(1)?;
+        let text = self.keep.blank(bytes)?;
+        Ok(text)
     }
 
     /// No line is kept of a session that has ended.

@@ -15,6 +15,17 @@ fn push(keep: &mut Keep, text: Bytes) -> u64 {
     keep.push(text)
 }
 
+/// The same with a text whose memory may be that of the next blank one.
+fn push_text(keep: &mut Keep, text: Vec<u8>) -> u64 {
+    if keep.spare() == 0 {
+        return 0;
+    }
+    if keep.last() >= GREATEST_NUMBER {
+        return 0;
+    }
+    keep.push_text(text)
+}
+
 /// Gives the next line, and answers whether there was one.
 fn mark(keep: &mut Keep) -> bool {
     if keep.sent() >= keep.last() {
@@ -55,6 +66,27 @@ fn push_lines(alloc: Global, keep: &mut Keep, lines: u64) -> Result<bool, NoMemo
     Ok(true)
 }
 
+/// Numbers a line of one byte in the memory of one before, and answers whether it has the number behind the last one.
+fn push_blank(keep: &mut Keep) -> Result<bool, NoMemory> {
+    let next = keep.last().saturating_add(1);
+    keep.reserve(1)?;
+    let mut text = keep.blank(1)?;
+    text.push(byte_of(next))?;
+    Ok(push_text(keep, text) == next)
+}
+
+/// Numbers so many pairs of lines of one byte each, the first in the memory of one before, and answers whether all of
+/// them are.
+fn push_pairs(alloc: Global, keep: &mut Keep, pairs: u64) -> Result<bool, NoMemory> {
+    for _ in 0..pairs {
+        let is_first = push_blank(keep)?;
+        if !is_first || !push_line(alloc, keep)? {
+            return Ok(false);
+        }
+    }
+    Ok(true)
+}
+
 /// Gives the line of a number, and answers whether it is the next one, and told.
 fn gives(keep: &mut Keep, number: u64) -> bool {
     mark(keep) && keep.sent() == number && is_line(keep.given(), number)
@@ -66,6 +98,21 @@ fn has(keep: &Keep, number: u64) -> bool {
         Some(text) => is_line(text, number),
         None => false,
     }
+}
+
+/// Whether of 600 lines each has its own text, wherever that lies.
+fn have_own_texts(alloc: Global) -> Result<bool, NoMemory> {
+    let mut keep = Keep::new(alloc)?;
+    let is_numbered = push_pairs(alloc, &mut keep, 300)?;
+    let is_first_told = has(&keep, 1) && has(&keep, 2) && has(&keep, 255);
+    let is_last_told = has(&keep, 256) && has(&keep, 599) && has(&keep, 600);
+    Ok(is_numbered && is_first_told && is_last_told && gives(&mut keep, 1))
+}
+
+#[test]
+fn lines_have_their_own_texts(rt: HostRuntime) -> Result<(), Fail> {
+    assert!(rt; have_own_texts(rt.alloc())?);
+    Ok(())
 }
 
 /// Lines from 1 to a number, each given as it was numbered.

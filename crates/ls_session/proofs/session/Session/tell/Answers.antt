@@ -15,9 +15,9 @@ pub returns-in-Nothing-clause-told : goal.returns-in-Nothing-clause-told
 returns-in-Nothing-clause-told c = λ r v st is named suits light.
     let parts = question_parts r (record { live = v; due = true }) is in
     let tick : c.tick.result ≡ r.tick = c.tick.ensures ∙ st.round.tick in
-    answered_silent c.args.self.now c.reserve.new.self c.accept.new.self c.again.new.self r v c.args.taken
+    answered_silent c.args.self.now c.blank.new.self c.accept.new.self c.again.new.self r v c.args.taken
     (record { told = c.in_ok-told.told; before = c.in_ok-text.text.items; after = c.accept.new.text.items }) st
-    c.in_ok-reserve.ensures.rest c.again.ensures c.in-Nothing.is
+    c.in_ok-text.ensures.rest c.again.ensures c.in-Nothing.is
     (c.in_ok-told.ensures.accepted (asked_slot r v) parts.0 (sym named) (sym tick) (subst (λ (n : ℕ). n ≤ GREATEST_TICK) (sym tick) st.round.most) suits
     st.subs)
 
@@ -25,15 +25,15 @@ pub returns-in-Update-clause-told : goal.returns-in-Update-clause-told
 returns-in-Update-clause-told c = λ r v st is named suits light.
     let parts = question_parts r (record { live = v; due = true }) is in
     let tick : c.tick.result ≡ r.tick = c.tick.ensures ∙ st.round.tick in
-    let k₁ : Kept = record c.args.self.now { lines = c.reserve.new.self; subs = c.accept.new.self } in
+    let k₁ : Kept = record c.args.self.now { lines = c.blank.new.self; subs = c.accept.new.self } in
     let whole : c.note.new.self ≡ record k₁ {
       lines = c.note.new.self.lines;
       asking = c.note.new.self.asking;
       bandwidth = c.spend.new.self.bandwidth;
     } = c.note.ensures.rest ∙ ap (λ (x : Kept). record x { lines = c.note.new.self.lines; asking = c.note.new.self.asking }) c.spend.ensures.rest in
-    let p = answered_line c.args.self.now c.reserve.new.self c.note.new.self.lines c.accept.new.self c.note.new.self.asking c.spend.new.self.bandwidth r v
+    let p = answered_line c.args.self.now c.blank.new.self c.note.new.self.lines c.accept.new.self c.note.new.self.asking c.spend.new.self.bandwidth r v
     c.args.taken (record { told = c.in_ok-told.told; before = c.in_ok-text.text.items; after = c.accept.new.text.items }) st
-    c.in_ok-reserve.ensures.rest
+    c.in_ok-text.ensures.rest
     (subst (λ (x : Kept). NumbersLine x.lines c.accept.new.text.items c.note.new.self.lines) c.spend.ensures.rest c.note.ensures.line)
     c.in_ok-text.ensures.items parts.0
     (c.note.ensures.back ∙ ap (λ (x : Kept). with_turns (gave c.args.slot.sub c.args.slot.place x.asking.turns) x.asking) c.spend.ensures.rest
@@ -52,10 +52,10 @@ pub returns-in-Other-clause-told : goal.returns-in-Other-clause-told
 returns-in-Other-clause-told c = λ r v st is named suits light.
     let parts = question_parts r (record { live = v; due = true }) is in
     let tick : c.tick.result ≡ r.tick = c.tick.ensures ∙ st.round.tick in
-    let p = answered_line c.args.self.now c.reserve.new.self c.note-in-Other.new.self.lines c.accept.new.self c.note-in-Other.new.self.asking
+    let p = answered_line c.args.self.now c.blank.new.self c.note-in-Other.new.self.lines c.accept.new.self c.note-in-Other.new.self.asking
     c.args.self.now.bandwidth r v
     c.args.taken (record { told = c.in_ok-told.told; before = c.in_ok-text.text.items; after = c.accept.new.text.items }) st
-    c.in_ok-reserve.ensures.rest c.note-in-Other.ensures.line
+    c.in_ok-text.ensures.rest c.note-in-Other.ensures.line
     c.in_ok-text.ensures.items parts.0
     (c.note-in-Other.ensures.back
     ∙ ap (λ (s : SlotRef). with_turns (gave s.sub s.place c.args.self.now.asking.turns) c.args.self.now.asking) named)
