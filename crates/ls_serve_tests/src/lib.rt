@@ -5,8 +5,6 @@
 #![tactic(auto)]
 
 #[cfg(test)]
-mod doors;
-#[cfg(test)]
 mod ends;
 #[cfg(test)]
 mod listener;

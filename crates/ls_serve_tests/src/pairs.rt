@@ -1,8 +1,8 @@
 //! Two visitors in threads, the first of whom waits for what the second is answered.
 ghost use Rattle.std.specs.Prelude.{◌≡◌, ◌≤◌, length, None, refl};
 
-use crate::doors::ListDoor;
 use crate::running::{Input, ran, ticks_of};
+use ls_callers::ListDoor;
 use ls_door::{Bell, STACK_BYTES, Spawner, Visit};
 use ls_outside::{Got, Pipe, Put, Sink, Source};
 use ls_program::Status;

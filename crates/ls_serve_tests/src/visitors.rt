@@ -1,7 +1,7 @@
 //! Visitors over ducts, served at once or not at all, and sessions that end without a stream.
-use crate::doors::ListDoor;
 use crate::running::{Input, ran, ticks_of};
 use crate::talk::{ADDED, CREATE, GET, NOT_ALLOWED, OPENED, knock};
+use ls_callers::ListDoor;
 use ls_door::{Duct, Spawner, Visit};
 use ls_outside::{Got, Source};
 use ls_program::Status;

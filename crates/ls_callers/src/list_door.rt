@@ -9,7 +9,7 @@ use std::vec::IntoIter;
 
 /// A door whose calls of `accept` answer by a list, and past its end `Idle`. It listens on the ports that are asked for.
 #[derive(Drop)]
-pub(crate) struct ListDoor<C> {
+pub struct ListDoor<C> {
     visits: IntoIter<Visit<C>>,
     port: u16,
     feed: u16,
@@ -19,7 +19,7 @@ pub(crate) struct ListDoor<C> {
 
 impl<C> ListDoor<C> {
     /// A door with these visits.
-    pub(crate) fn new(visits: Vec<Visit<C>>) -> ListDoor<C> {
+    pub fn new(visits: Vec<Visit<C>>) -> ListDoor<C> {
         ListDoor {
             visits: visits.into_iter(),
             port: 0,
