@@ -1,15 +1,16 @@
 //! A session's history, and what its entries say so far.
-ghost use Rattle.std.specs.Prelude.{◌≡◌, ◌≤◌, ◌<◌, ◌+◌, ◌^◌, ◌++◌, ◌∷◌, [], ℕ, List, Some, None, IfOk, IsTrue, IsSome, false, length};
+ghost use Rattle.std.specs.Prelude.{◌≡◌, ◌≤◌, ◌<◌, ◌+◌, ◌^◌, ◌++◌, ◌∷◌, [], ℕ, List, Some, None, IfOk, IsTrue, IsFalse, IsSome, false, length};
+ghost use Rattle.std.specs.Prelude.{option_map};
 ghost use mathlib.Core.List.{IsPrefix};
 ghost use Rattle.ls_value.specs.declared.limits.TheConstants.{GREATEST_TICK};
 ghost use Rattle.ls_line.specs.declared.limits.TheConstants.{LONGEST_TEXT};
 ghost use Rattle.ls_register.specs.declared.told.Told.{Told as Entry};
 ghost use Rattle.ls_register.specs.declared.told.Told.TheVariants as told_is;
 ghost use Rattle.ls_register.specs.declared.told.Numbered.{Numbered as LineTold};
-ghost use Rattle.ls_told.specs.Heard.{tick_or, keepalive_or, rebind_or, counts_as, keepalive_of, has_rebind};
+ghost use Rattle.ls_told.specs.Heard.{tick_or, keepalive_or, rebind_or, counts_as, keepalive_of, has_rebind, last_given};
 ghost use Rattle.ls_told.specs.Requests.{is_spent};
-ghost use Rattle.ls_told.specs.Turns.{IsSilent};
-ghost use Rattle.ls_history.specs.Counting.{Counts, GivenIs};
+ghost use Rattle.ls_told.specs.Turns.{IsSilent, SpokeInTime};
+ghost use Rattle.ls_history.specs.Counting.{Counts, GivenIs, line_given};
 
 use ls_chron::{Chron, Reader, Sign, Writer};
 use ls_line::LineBuf;
@@ -132,7 +133,8 @@ impl History {
     /// Whether the line that was given last is of this epoch, and was given its keep-alive before a tick, in ms, or earlier
     /// (TLCP 2.1, PROBE).
     pub fn is_silent(&self, epoch: u64, tick: u64) -> bool
-        ensures { IsTrue result → IsSilent epoch tick self.now.list }
+        ensures silent { IsTrue result → IsSilent epoch tick self.now.list }
+        ensures spoke { IsFalse result → SpokeInTime epoch tick self.now.list }
     {
         match self.counters.given {
             None => false,
@@ -332,7 +334,9 @@ fn keepalive_by(keepalive: u32, told: &Told) -> u32
 
 /// The line that was given last with one entry more.
 fn given_by(given: Option<Given>, told: &Told) -> Option<Given>
-    ensures { (es : List Entry) → GivenIs given es → GivenIs result (es ++ told.now ∷ []) }
+    ensures given { (es : List Entry) → GivenIs given es → GivenIs result (es ++ told.now ∷ []) }
+    ensures last { (es : List Entry) → option_map line_given given ≡ last_given es
+        → option_map line_given result ≡ last_given (es ++ told.now ∷ []) }
 {
     match told {
         Told::Gave { epoch, tick, .. } => Some(Given {
@@ -356,8 +360,10 @@ fn forced_by(forced: bool, told: &Told) -> bool
 
 /// Whether a line of this epoch was given a keep-alive before a tick or earlier.
 fn is_silent(last: Given, keepalive: u32, epoch: u64, tick: u64) -> bool
-    ensures { (es : List Entry) → IsTrue result → GivenIs (Some last) es → keepalive ≡ keepalive_of es
+    ensures silent { (es : List Entry) → IsTrue result → GivenIs (Some last) es → keepalive ≡ keepalive_of es
         → IsSilent epoch tick es }
+    ensures spoke { (es : List Entry) → IsFalse result → Some (line_given last) ≡ last_given es
+        → keepalive ≡ keepalive_of es → SpokeInTime epoch tick es }
 {
     if last.epoch == epoch {
         is_past(last.tick, keepalive as u64, tick)

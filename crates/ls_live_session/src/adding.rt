@@ -207,6 +207,7 @@ impl<'a, N: House> Adding<'a, N> {
         ensures sight { sight.new ≡ record sight.old { watches = sight.new.watches } }
         ensures more { SeesMore sight.old.watches sight.new.watches }
         ensures one { IfOk result (λ yes. IsTrue yes → AreOneItems self.old.watches sight.new.watches) }
+        ensures not_one { IfOk result (λ yes. IsFalse yes → AreOneItems self.old.watches sight.new.watches → ⊥) }
         ensures err { OnErr result (sight.new ≡ sight.old) }
     {
         let Adding { parts, .. } = self;

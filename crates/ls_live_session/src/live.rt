@@ -4,7 +4,7 @@ ghost use Rattle.std.specs.Option.{ForSome};
 ghost use Rattle.ls_value.specs.Each.{Each};
 ghost use Rattle.ls_value.specs.declared.limits.TheConstants.{GREATEST_TICK};
 ghost use Rattle.ls_register.specs.declared.told.Told.TheVariants as told_is;
-ghost use Rattle.ls_told.specs.Heard.{heard, counts_as, keepalive_of, CountsOn};
+ghost use Rattle.ls_told.specs.Heard.{heard, counts_as, CountsOn};
 ghost use Rattle.ls_told.specs.Seen.{IsDeclared};
 ghost use Rattle.ls_told.specs.Requests.{InTime};
 ghost use Rattle.ls_record.specs.Records.{is_alive};
@@ -173,13 +173,6 @@ impl<N: House> LiveSession<N> {
         ensures { result ≡ (heard self.now.number self.now.lines).unbound }
     {
         self.parts.session.since()
-    }
-
-    /// The keep-alive of the newest stream, in ms.
-    pub fn keepalive(&self) -> u32
-        ensures { result ≡ keepalive_of self.now.lines }
-    {
-        self.parts.history.keepalive()
     }
 
     /// How many streams it has had: the epoch of the newest one.

@@ -43,7 +43,7 @@ impl<N: House> LiveSession<N> {
         requires sub { IsOrdinal sub }
         ensures accepted { IfOk result (λ left. Finds N.deed.config self.old.number self.old.lines self.old.watches
             (op.Delete sub) None × EndsSub N.deed.config self.old.number sub (counts_as now self.old.lines)
-            self.old.lines self.new.lines self.old.watches left.slots) }
+            self.old.lines self.new.lines self.old.watches left.slots left.subs.items) }
         ensures refused { (code : ℕ) → IsErrOf result (Refusal.Code code) → Finds N.deed.config self.old.number
             self.old.lines self.old.watches (op.Delete sub) (Some code) }
         ensures err { OnErr result (self.new.lines ≡ self.old.lines) }
@@ -79,7 +79,7 @@ impl<N: House> LiveSession<N> {
             ⊎ ((code ≡ timed_out) × IsOverdue (counts_as now self.old.lines) (heard self.old.number self.old.lines)) }
         ensures alive { is_alive (heard self.old.number self.old.lines).life ≡ true
             → EndsAll N.deed.config self.old.number code (counts_as now self.old.lines) self.old.lines self.new.lines
-            self.old.watches result.slots }
+            self.old.watches result.slots result.subs.items }
         ensures ended { is_alive (heard self.old.number self.old.lines).life ≡ false
             → (self.new.lines ≡ self.old.lines) × (result.slots ≡ 0) }
         ensures rest { self.new ≡ record self.old { lines = self.new.lines } }

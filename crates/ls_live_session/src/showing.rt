@@ -1,5 +1,5 @@
 //! What a session shows to callers.
-ghost use Rattle.std.specs.Prelude.{◌≡◌, [], IfOk, IfSome, IsTrue, IsSome, OnErr};
+ghost use Rattle.std.specs.Prelude.{◌≡◌, [], IfOk, IfSome, IsTrue, IsFalse, IsSome, OnErr};
 ghost use mathlib.Core.List.{IsPrefix};
 ghost use Rattle.ls_value.specs.Each.{Each};
 ghost use Rattle.ls_told.specs.Seen.{SeesMore, Grows, FitsWatch};
@@ -75,6 +75,7 @@ impl<N: House> LiveSession<N> {
         ensures sight { sight.new ≡ record sight.old { watches = sight.new.watches } }
         ensures more { SeesMore sight.old.watches sight.new.watches }
         ensures one { IfOk result (λ yes. IsTrue yes → AreOneItems self.old.watches sight.new.watches) }
+        ensures not_one { IfOk result (λ yes. IsFalse yes → AreOneItems self.old.watches sight.new.watches → ⊥) }
         ensures err { OnErr result (sight.new ≡ sight.old) }
     {
         sight.watch_items(register, &mut self.parts.watches)

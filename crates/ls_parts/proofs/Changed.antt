@@ -1,10 +1,11 @@
 -- What the end of a subscription, and another frequency of it, make of what is kept of a session in threads.
-use Rattle.std.proofs.Common.{◌≡◌, ◌≤◌, ◌<◌, ◌^◌, ℕ, suc, zero, ◌+◌, List, [], ◌∷◌, ◌++◌, length, refl, sym, ◌∙◌, ap, arith, subst, cond, Bool, true}
+use Rattle.std.proofs.Common.{◌≡◌, ◌≤◌, ◌<◌, ◌^◌, ℕ, suc, zero, ◌+◌, ◌-◌, List, [], ◌∷◌, ◌++◌, length, refl, sym, ◌∙◌, ap, arith, subst, cond, Bool, true}
 use Rattle.std.proofs.Common.{false, Option, Some, None, slice_get, take, drop, inl, inr, ◌⊎◌}
 use Rattle.std.specs.Prelude.{unwrap_or}
 use Rattle.std.specs.List.{filter, remove}
 use Rattle.std.specs.Option.{ForSome}
-use Rattle.std.proofs.lemmas.Bool.{eq-eqb, lt-leb}
+use Rattle.std.proofs.lemmas.Bool.{cases_lt, eq-eqb, eqb-true, lt-leb}
+use Rattle.std.proofs.Math.Nat.{eq-or-lt_of_le}
 use Rattle.ls_value.specs.Each.{Each}
 use Rattle.ls_value.specs.declared.limits.TheConstants.{GREATEST_NUMBER, GREATEST_TICK}
 use Rattle.ls_event.specs.declared.item.ItemDef.{ItemDef}
@@ -34,10 +35,20 @@ use Rattle.ls_event.specs.declared.event.Mode.TheVariants as mode
 use Rattle.ls_request.specs.declared.request.Op.TheVariants as op
 use Rattle.ls_taking.specs.Groups.{SubSeen}
 use Rattle.ls_taking.specs.Lives.{LivesAs, HasSeat, NoneBehind}
+use Rattle.ls_taking.specs.Taking.{NoneFrom}
 use Rattle.ls_parts.specs.Leaving.{Finds, EndsSub, SetsFrequency, HasLast}
 use Rattle.ls_parts.proofs.Bounds.{fits_numbered}
 use Rattle.ls_parts.proofs.Living.{latest_at}
 use Rattle.ls_parts.proofs.Codes.{change_by}
+
+-- what holds of each holds of those that are sorted out
+each_filtered : {A : Type 0} (f : A → Bool) (P Q : A → Type 0) (xs : List A) → ((x : A) → f x ≡ true → P x → Q x) → Each P xs → Each Q (filter f xs)
+each_filtered f P Q [] h each = tt
+each_filtered f P Q (x ∷ xs) h each = by_test (f x) refl (each_filtered f P Q xs h each.1)
+  where
+    by_test : (b : Bool) → f x ≡ b → Each Q (filter f xs) → Each Q (cond b (x ∷ filter f xs) (filter f xs))
+    by_test true is rest = (h x is each.0, rest)
+    by_test false is rest = rest
 
 -- a change is found to be refused, or not, by the record
 pub finds_delete : (config : List ItemDef) (number : ℕ) (es : List Told) (ws : List Watched) (subs : List SubSeen) (k : Kept) (r : Record) (sub : ℕ)
@@ -218,10 +229,12 @@ module _ (config : List ItemDef) (number : ℕ) (es : List Told) (ws : List Watc
       by_test true e = ap suc e
       by_test false e = e
 
-  pub ends_removed : (sub slots : ℕ) (es2 : List Told) (k2 : Kept) → IsOrdinal sub → slots ≡ length (slots_of sub r.session.board.round)
-      → es2 ≡ es ++ plain (line_text [] (Ends sub)) tick ∷ [] → StandsSession k2 (begun_again (numbered (removed sub) r.session) r)
-      → EndsSub config number sub tick es es2 ws slots
-  ends_removed sub slots es2 k2 ordinal count lines stands =
+  pub ends_removed : (sub slots : ℕ) (es2 : List Told) (left : List SubSeen) (k2 : Kept) → IsOrdinal sub
+      → slots ≡ length (slots_of sub r.session.board.round)
+      → es2 ≡ es ++ plain (line_text [] (Ends sub)) tick ∷ []
+      → ((v : LiveSlot) → is_of sub v ≡ true → HasSeat config ws subs v → HasSeat config ws left v)
+      → StandsSession k2 (begun_again (numbered (removed sub) r.session) r) → EndsSub config number sub tick es es2 ws slots left
+  ends_removed sub slots es2 left k2 ordinal count lines taken stands =
       record {
         lines = lines;
         earlier = r.session;
@@ -232,6 +245,7 @@ module _ (config : List ItemDef) (number : ℕ) (es : List Told) (ws : List Watc
         gone = without_used sub sub r.session.board.round
             ∙ ap (λ (b : Bool). cond b false (is_used sub r.session.board.round)) (eq-eqb sub sub refl);
         count = count ∙ slots_filtered sub r.session.board.round;
+        seats = each_filtered (is_of sub) (HasSeat config ws subs) (HasSeat config ws left) r.session.board.round taken l.seated;
       }
 
   pub sets_reconfigured : (sub : ℕ) (frequency : Option ℕ) (es2 : List Told)
@@ -317,3 +331,49 @@ has_seat_removed config ws xs i g sub v is named other h = by_side (order h.plac
     by_side (inl low) = at_place h.place (take_drop xs i h.place h.group low h.there) (low_only low)
     by_side (inr (inl e)) = absurd (same_sub e)
     by_side (inr (inr high)) = before_it h.place refl high h.there
+
+-- the seats of a subscription, which are the last ones, stand alone among those that were taken out
+pub has_seat_taken : (config : List ItemDef) (ws : List Watched) (xs : List SubSeen) (k : ℕ) (g : SubSeen) (sub : ℕ) (v : LiveSlot)
+    → slice_get xs k ≡ Some g → g.sub ≡ sub → NoneBehind xs k sub → is_of sub v ≡ true → HasSeat config ws xs v → HasSeat config ws (g ∷ []) v
+has_seat_taken config ws xs k g sub v there named last of h =
+    record {
+      place = 0;
+      group = g;
+      seat = h.seat;
+      there = refl;
+      named = named ∙ own;
+      only = λ j other behind is same. alone j other behind is;
+      ranked = subst (λ (x : SubSeen). slice_get x.seats (v.rank - 1) ≡ Some h.seat) one h.ranked;
+      of = h.of;
+    }
+  where
+    own : sub ≡ v.sub
+    own = eqb-true sub v.sub of
+
+    not_behind : k < h.place → ⊥
+    not_behind low = last h.place h.group low h.there (h.named ∙ sym own)
+
+    not_before : h.place < k → ⊥
+    not_before low = h.only k g low there (named ∙ own)
+
+    same_place : (k < h.place) ⊎ (h.place ≤ k) → h.place ≡ k
+    same_place (inl low) = absurd (not_behind low)
+    same_place (inr high) = by_other (eq-or-lt_of_le high)
+      where
+        by_other : (h.place ≡ k) ⊎ (h.place < k) → h.place ≡ k
+        by_other (inl is) = is
+        by_other (inr low) = absurd (not_before low)
+
+    one : h.group ≡ g
+    one =
+        let x : Some h.group ≡ Some g = sym h.there ∙ (ap (slice_get xs) (same_place (cases_lt k h.place)) ∙ there) in
+        cc
+
+    alone : (j : ℕ) (other : SubSeen) → 0 < j → slice_get (g ∷ []) j ≡ Some other → ⊥
+    alone zero other low is = omega (arith, low)
+    alone (suc j) other low is = let x : None ≡ Some other = is in cc
+
+-- where it has none, none of its slots has one
+pub has_no_seat : (config : List ItemDef) (ws : List Watched) (xs : List SubSeen) (sub : ℕ) (v : LiveSlot) → NoneFrom xs 0 sub → is_of sub v ≡ true
+    → HasSeat config ws xs v → ⊥
+has_no_seat config ws xs sub v none of h = none h.place h.group (omega arith) h.there (h.named ∙ sym (eqb-true sub v.sub of))

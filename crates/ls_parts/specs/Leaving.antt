@@ -1,5 +1,6 @@
 -- What requests make of the slots of a session in threads, by its history (TLCP 2.1, control).
 use Rattle.std.specs.Prelude.{◌≡◌, ◌≤◌, ◌<◌, ℕ, ◌+◌, List, [], ◌∷◌, ◌++◌, length, true, false, Option, Some}
+use Rattle.ls_value.specs.Each.{Each}
 use Rattle.ls_event.specs.declared.item.ItemDef.{ItemDef}
 use Rattle.ls_request.specs.declared.request.Op.{Op}
 use Rattle.ls_record.specs.declared.TheConstants.{MOST_UNBOUND}
@@ -15,6 +16,8 @@ use Rattle.ls_told.specs.Requests.{op_code, is_spent, plain, slots_in}
 use Rattle.ls_record.specs.Lines.{Ends, Configures, line_text, text_at}
 use Rattle.ls_register.specs.declared.told.Told.TheVariants.{Ended}
 use Rattle.ls_stream.specs.Standing.{IsShort}
+use Rattle.ls_taking.specs.Groups.{SubSeen}
+use Rattle.ls_taking.specs.Lives.{HasSeat}
 
 -- a session that hasn't ended is without a stream for too long at a tick
 pub record IsOverdue (tick : ℕ) (p : Spoken) : Type 0 where
@@ -29,8 +32,10 @@ pub record Finds (config : List ItemDef) (number : ℕ) (es : List Told) (ws : L
   pub told : KeepsTold config number es ws session
   pub code_is : op_code config 0 (is_spent es) session o ≡ code
 
--- a subscription has ended: UNSUB was numbered at a tick, and so many slots are gone
-pub record EndsSub (config : List ItemDef) (number sub tick : ℕ) (before es : List Told) (ws : List Watched) (slots : ℕ) : Type 0 where
+-- a subscription has ended: UNSUB was numbered at a tick, and so many slots are gone, each of which has its seat among
+-- those that are handed back
+pub record EndsSub (config : List ItemDef) (number sub tick : ℕ) (before es : List Told) (ws : List Watched) (slots : ℕ)
+    (left : List SubSeen) : Type 0 where
   pub lines : es ≡ before ++ plain (line_text [] (Ends sub)) tick ∷ []
   pub earlier : Session
   pub was : KeepsTold config number before ws earlier
@@ -38,6 +43,7 @@ pub record EndsSub (config : List ItemDef) (number sub tick : ℕ) (before es : 
   pub told : KeepsTold config number es ws session
   pub gone : is_used sub session.board.round ≡ false
   pub count : slots ≡ length (slots_in sub earlier)
+  pub seats : Each (HasSeat config ws left) (slots_in sub earlier)
 
 -- a subscription has another greatest frequency: CONF was numbered at a tick
 pub record SetsFrequency (config : List ItemDef) (number sub : ℕ) (frequency : Option ℕ) (tick : ℕ) (before es : List Told)
@@ -50,12 +56,15 @@ pub record SetsFrequency (config : List ItemDef) (number sub : ℕ) (frequency :
       (is_filtered (mode_in sub earlier.board.round)))) tick
       ∷ []
 
--- a session has ended at a tick for the cause of a code, and all its slots, so many, are gone
-pub record EndsAll (config : List ItemDef) (number code tick : ℕ) (before es : List Told) (ws : List Watched) (slots : ℕ) : Type 0 where
+-- a session has ended at a tick for the cause of a code, and all its slots, so many, are gone, each of which has its seat
+-- among those that are handed back
+pub record EndsAll (config : List ItemDef) (number code tick : ℕ) (before es : List Told) (ws : List Watched) (slots : ℕ)
+    (left : List SubSeen) : Type 0 where
   pub lines : es ≡ before ++ Ended code tick ∷ []
   pub earlier : Session
   pub was : KeepsTold config number before ws earlier
   pub count : slots ≡ length earlier.board.round
+  pub seats : Each (HasSeat config ws left) earlier.board.round
 
 -- what is kept of a session has this text as that of its last line, which is short
 pub record HasLast (k : Kept) (text : List ℕ) : Type 0 where

@@ -8,7 +8,7 @@ ghost use Rattle.ls_session.specs.Session.{StandsSession};
 ghost use Rattle.ls_told.specs.Spoken.{spoken_of, next_of, GivesNothing};
 ghost use Rattle.ls_told.specs.Heard.{heard, counts_as};
 ghost use Rattle.ls_told.specs.Requests.{is_spent};
-ghost use Rattle.ls_told.specs.Turns.{IsSilent, probe_text};
+ghost use Rattle.ls_told.specs.Turns.{IsSilent, SpokeInTime, probe_text};
 ghost use Rattle.ls_taking.specs.Lives.{Lives, LivesAs};
 ghost use Rattle.ls_parts.specs.Giving.{speaks, Gives};
 
@@ -61,6 +61,8 @@ impl<N: House> SessionParts<N> {
         ensures gave { IsTrue result → (into.new ≡ probe_text) × (self.new.history.list ≡ self.old.history.list
             ++ told_is.Gave epoch probe_text (counts_as now self.old.history.list) ∷ []) }
         ensures stays { IsFalse result → self.new.history.list ≡ self.old.history.list }
+        ensures spoke { IsFalse result
+            → SpokeInTime epoch (counts_as now self.old.history.list) self.old.history.list }
         ensures lives { (r : Record) → LivesAs N.deed.config self.old.number self.old.history.list
             self.old.watches.items self.old.subs.items self.old.session r
             → LivesAs N.deed.config self.old.number self.new.history.list self.old.watches.items self.old.subs.items

@@ -1,6 +1,6 @@
 //! What requests make of a session in threads (TLCP 2.1, control).
-ghost use Rattle.std.specs.Prelude.{◌≡◌, ◌≤◌, ◌<◌, ◌⊎◌, ◌+◌, ◌^◌, ◌++◌, ◌∷◌, [], ℕ, List, Option, None, Some, IfOk, IfSome};
-ghost use Rattle.std.specs.Prelude.{OnOk, OnErr, IsErrOf, length, true, false, slice_get};
+ghost use Rattle.std.specs.Prelude.{◌≡◌, ◌≤◌, ◌<◌, ◌⊎◌, ◌+◌, ◌^◌, ◌++◌, ◌∷◌, [], ℕ, List, Option, None, Some, IfOk};
+ghost use Rattle.std.specs.Prelude.{OnOk, OnErr, IsErrOf, length, true, false};
 ghost use Rattle.std.specs.Vec.{vec_len, vec_capacity};
 ghost use Rattle.std.specs.Option.{ForSome};
 ghost use Rattle.ls_value.specs.declared.limits.TheConstants.{GREATEST_NUMBER, GREATEST_TICK};
@@ -14,7 +14,6 @@ ghost use Rattle.ls_register.specs.declared.told.Told.TheVariants as told_is;
 ghost use Rattle.ls_told.specs.Heard.{heard, counts_as};
 ghost use Rattle.ls_told.specs.Seen.{Watched};
 ghost use Rattle.ls_told.specs.Requests.{plain};
-ghost use Rattle.ls_taking.specs.Groups.{SubSeen};
 ghost use Rattle.ls_taking.specs.Lives.{Lives, HasSeat};
 ghost use Rattle.ls_parts.specs.Leaving.{Finds, IsOverdue, EndsSub, SetsFrequency, EndsAll, HasLast};
 
@@ -24,7 +23,7 @@ use ls_history::{History, no_cut};
 use ls_register::{House, Told};
 use ls_session::Session;
 use ls_subs::Refusal;
-use ls_taking::SubSeats;
+use ls_taking::{SubSeats, last_place};
 use std::mem::replace;
 
 impl<N: House> SessionParts<N> {
@@ -90,7 +89,7 @@ impl<N: House> SessionParts<N> {
         ensures accepted { IfOk result (λ left. Finds N.deed.config self.old.number self.old.history.list
             self.old.watches.items (op.Delete sub) None
             × EndsSub N.deed.config self.old.number sub (counts_as now self.old.history.list) self.old.history.list
-            self.new.history.list self.old.watches.items left.slots) }
+            self.new.history.list self.old.watches.items left.slots left.subs.items) }
         ensures refused { (code : ℕ) → IsErrOf result (Refusal.Code code) → Finds N.deed.config self.old.number
             self.old.history.list self.old.watches.items (op.Delete sub) (Some code) }
         ensures err { OnErr result (self.new.history.list ≡ self.old.history.list) }
@@ -168,7 +167,7 @@ impl<N: House> SessionParts<N> {
             self.old.subs.items self.old.session }
         ensures alive { is_alive (heard self.old.number self.old.history.list).life ≡ true
             → EndsAll N.deed.config self.old.number code (counts_as now self.old.history.list) self.old.history.list
-            self.new.history.list self.old.watches.items result.slots }
+            self.new.history.list self.old.watches.items result.slots result.subs.items }
         ensures ended { is_alive (heard self.old.number self.old.history.list).life ≡ false
             → (self.new.history.list ≡ self.old.history.list) × (result.slots ≡ 0) }
         ensures lives { Lives N.deed.config self.old.number self.new.history.list self.old.watches.items
@@ -199,7 +198,7 @@ impl<N: House> SessionParts<N> {
         requires lives { Lives N.deed.config self.old.number self.old.history.list self.old.watches.items
             self.old.subs.items self.old.session }
         ensures ends { EndsAll N.deed.config self.old.number code (counts_as now self.old.history.list)
-            self.old.history.list self.new.history.list self.old.watches.items result.slots }
+            self.old.history.list self.new.history.list self.old.watches.items result.slots result.subs.items }
         ensures lives { Lives N.deed.config self.old.number self.new.history.list self.old.watches.items
             self.new.subs.items self.new.session }
         ensures table { self.new.history.table ≡ self.old.history.table }
@@ -249,26 +248,17 @@ fn has_64(number: u64)
     let _ = number;
 }
 
-/// Takes the seats of a subscription out of those of all. There is room for them.
+/// Takes the seats of a subscription, the last ones, out of those of all. There is room for them.
 fn take_sub<N: House>(all: &mut Vec<SubSeats<N>>, sub: u32, taken: &mut Vec<SubSeats<N>>)
-    requires { vec_len taken.old + 1 ≤ vec_capacity taken.old }
-    ensures { (config : List ItemDef) (ws : List Watched) (v : LiveSlot) → is_of sub v ≡ false
+    requires room { vec_len taken.old + 1 ≤ vec_capacity taken.old }
+    requires none { taken.old.items ≡ [] }
+    ensures others { (config : List ItemDef) (ws : List Watched) (v : LiveSlot) → is_of sub v ≡ false
         → HasSeat config ws all.old.items v → HasSeat config ws all.new.items v }
+    ensures taken { (config : List ItemDef) (ws : List Watched) (v : LiveSlot) → is_of sub v ≡ true
+        → HasSeat config ws all.old.items v → HasSeat config ws taken.new.items v }
 {
-    if let Some(place) = place_of(all, sub) {
-        taken.push_reserved(all.remove(place));
-    }
-}
-
-/// Where the seats of a subscription stand among those of all.
-fn place_of<N: House>(all: &Vec<SubSeats<N>>, sub: u32) -> Option<usize>
-    ensures { IfSome result (λ place. (g : SubSeen) × (slice_get all.now.items place ≡ Some g) × (g.sub ≡ sub)) }
-{
-    for i in 0..all.len() {
-        let group = &all[i];
-        if group.sub() == sub {
-            return Some(i);
-        }
-    }
-    None
+    let Some(place) = last_place(all, sub) else {
+        return;
+    };
+    taken.push_reserved(all.remove(place));
 }

@@ -1,5 +1,5 @@
 //! What a slot tells is taken from its item.
-ghost use Rattle.std.specs.Prelude.{◌≡◌, ◌≤◌, ◌<◌, ◌^◌, ◌-◌, ◌++◌, ◌∷◌, ◌⊎◌, [], ℕ, List, Some, None, IfOk, IfSome, OnErr, IsTrue, IsFalse};
+ghost use Rattle.std.specs.Prelude.{◌≡◌, ◌≤◌, ◌<◌, ◌^◌, ◌-◌, ◌++◌, ◌∷◌, ◌⊎◌, [], ℕ, List, Some, None, IfOk, IfSome, IfNone, OnErr, IsTrue, IsFalse};
 ghost use Rattle.std.specs.Prelude.{true, false, length, slice_get};
 ghost use Rattle.ls_value.specs.declared.limits.TheConstants.{GREATEST_TICK, GREATEST_NUMBER};
 ghost use Rattle.ls_event.specs.Cuts.{cut};
@@ -12,6 +12,7 @@ ghost use Rattle.ls_session.specs.Session.{StandsSession, ask_in};
 ghost use Rattle.ls_told.specs.Heard.{heard};
 ghost use Rattle.ls_told.specs.Seen.{SeesMore, seen_of};
 ghost use Rattle.ls_taking.specs.Groups.{SubSeen};
+ghost use Rattle.ls_sight.specs.Sights.{NoneBefore};
 ghost use Rattle.ls_parts.specs.Leaving.{HasLast};
 ghost use Rattle.ls_taking.specs.Lives.{LivesAs, HasNothing};
 ghost use Rattle.ls_taking.specs.Taking.{IsFound, IsCaught, IsAskedFrom, IsWhole, caught_up};
@@ -99,12 +100,13 @@ impl<N: House> SessionParts<N> {
         }
     }
 
-    /// How many entries the history of an item has now, which is no fewer than were seen of it; `None` where the item
+    /// How many entries the history of an item has now, which is no fewer than were seen of it; `None` only where the item
     /// isn't watched. It takes no lock and no memory.
     pub fn count(&mut self, item: u32) -> Option<u64>
         ensures rest { self.new ≡ record self.old { watches = self.new.watches } }
         ensures same { self.new.watches.items ≡ self.old.watches.items }
         ensures count { IfSome result (λ n. length (seen_of self.old.watches.items item) ≤ n) }
+        ensures none { IfNone result (NoneBefore self.old.watches.items (length self.old.watches.items) item) }
     {
         count_of(&mut self.watches, item)
     }

@@ -1,6 +1,6 @@
 //! How a slot joined its item, and why it can't.
 
-ghost use Rattle.std.specs.Prelude.{◌≡◌, IsTrue};
+ghost use Rattle.std.specs.Prelude.{◌≡◌, IsTrue, IsFalse};
 
 use ls_event::{Mode, Snap};
 
@@ -26,7 +26,8 @@ pub enum JoinRefused {
 
 /// Whether two slots joined in one way.
 pub fn are_same(a: Planned, b: Planned) -> bool
-    ensures { IsTrue result → a ≡ b }
+    ensures same { IsTrue result → a ≡ b }
+    ensures other { IsFalse result → a ≡ b → ⊥ }
 {
     a == b
 }

@@ -2,6 +2,7 @@
 ghost use Rattle.std.specs.Prelude.{◌≡◌, ◌≢◌, ◌≤◌, ◌<◌, ◌++◌, ◌∷◌, [], ℕ, true, ◌&&◌, ◌==◌, is_some, false, None, length};
 ghost use Rattle.std.specs.Prelude.{IfOk, IfErr, OnOk, OnErr, IsSome, IsTrue, IsFalse};
 ghost use Rattle.std.specs.Arc.{arc_value};
+ghost use Rattle.std.specs.Option.{option_map_or};
 ghost use mathlib.Core.List.{IsPrefix};
 ghost use Rattle.ls_event.specs.declared.limits.TheConstants.{MOST_ADAPTERS as MOST, MOST_BUFFER_SIZE, MOST_SLOTS};
 ghost use Rattle.ls_event.specs.History.{HasFields};
@@ -155,6 +156,7 @@ impl<N: House> Seated<N> {
     pub fn is_watch(&mut self, register: &Chron<Made>, watch: &mut Watch<N>) -> bool
         requires { register.now ≡ N.deed.register }
         ensures same { (self.new ≡ self.old) × (watch.new ≡ watch.old) }
+        ensures exact { result ≡ option_map_or (λ p. p.at == watch.old.at) self.old.item.place false }
         ensures one { IsTrue result → IsWatchOf watch.old self.old.item }
     {
         self.live.is_watch(register, watch)

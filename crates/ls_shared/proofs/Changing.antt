@@ -7,6 +7,7 @@ use Rattle.ls_register.specs.declared.made.Made.TheVariants.{Freed, Gone}
 use Rattle.ls_register.specs.Sessions.{Gains}
 use Rattle.ls_register.proofs.Showing.{at_end}
 use Rattle.ls_told.specs.Requests.{Reconfigures, EndsSub, Destroys, DoneBy, Does, InTime, op_refusals}
+use Rattle.ls_taking.specs.Groups.{SubSeen}
 use Rattle.ls_parts.specs.Leaving.{SetsFrequency, EndsSub as Ended, EndsAll}
 use Rattle.ls_record.specs.Acting.{destroyed}
 use Rattle.ls_record.specs.Cases.{first_code}
@@ -132,10 +133,10 @@ reconfigures_as config live new sub f tick es watches lines s =
     }
 
 -- the end of a subscription
-pub ends_as : (config : List ItemDef) (live : Speaking) (new : Testified) (sub tick slots : ℕ) (es : List Told) (old : List Made)
-    → new.watches ≡ live.watches → new.lines ≡ es → Ended config live.number sub tick live.lines es live.watches slots
+pub ends_as : (config : List ItemDef) (live : Speaking) (new : Testified) (sub tick slots : ℕ) (left : List SubSeen) (es : List Told) (old : List Made)
+    → new.watches ≡ live.watches → new.lines ≡ es → Ended config live.number sub tick live.lines es live.watches slots left
     → Gains (Freed slots) old new.register → EndsSub config live.number sub tick live.lines new old
-ends_as config live new sub tick slots es old watches lines s freed =
+ends_as config live new sub tick slots left es old watches lines s freed =
     record {
       lines = lines ∙ s.lines;
       earlier = s.earlier;
@@ -165,10 +166,10 @@ finds_alive config live s k lives =
     by_test false is = absurd (let x : false ≡ true = is in cc)
 
 -- the end of a session
-pub destroys_as : (config : List ItemDef) (live : Speaking) (new : Testified) (tick slots : ℕ) (es : List Told) (old : List Made)
-    → new.watches ≡ live.watches → new.lines ≡ es → EndsAll config live.number destroyed tick live.lines es live.watches slots
+pub destroys_as : (config : List ItemDef) (live : Speaking) (new : Testified) (tick slots : ℕ) (left : List SubSeen) (es : List Told) (old : List Made)
+    → new.watches ≡ live.watches → new.lines ≡ es → EndsAll config live.number destroyed tick live.lines es live.watches slots left
     → Gains (Freed slots) old new.register → Gains (Gone live.number) old new.register → Destroys config live.number tick live.lines new old
-destroys_as config live new tick slots es old watches lines s freed gone =
+destroys_as config live new tick slots left es old watches lines s freed gone =
     record {
       lines = lines ∙ s.lines;
       earlier = s.earlier;

@@ -14,7 +14,7 @@ use Rattle.ls_session.specs.declared.session.Turn.TheVariants as turn
 use Rattle.ls_told.specs.Heard.{heard, counts_as, epoch_or, epoch_after, epoch_of, CountsOne, CountsOn}
 use Rattle.ls_told.specs.Seen.{FitsWatch, Testified, Grows, Sends, SeesMore, Watched}
 use Rattle.ls_told.specs.Requests.{HasBound}
-use Rattle.ls_told.specs.Turns.{GivesLine, HasEnded, IsIdle, IsNotDue, IsProbe, IsSpent, IsStill, IsUnbound}
+use Rattle.ls_told.specs.Turns.{GivesLine, HasEnded, IsIdle, IsNotDue, IsProbe, IsSpent, IsStill, IsUnbound, SpokeInTime}
 use Rattle.ls_told.specs.Spoken.{next_of, text_of_next}
 use Rattle.ls_told.proofs.Facts.{streams_counted}
 use Rattle.ls_told.proofs.Watching.{sees_twice}
@@ -207,11 +207,13 @@ module _ (config : List ItemDef) (number epoch now : ℕ) (old new : Testified) 
       by_turn (turn.Ask ask) g sent quiet = g
       by_turn turn.Idle g sent quiet = (
         quiet (λ s. absurd (let x : turn.Idle ≡ turn.Send = s in cc)),
-        subst (λ (q : List Told). IsIdle config old.number epoch q new.watches old.watches) (sym all) (idle_then es counts there g),
+        subst (λ (q : List Told). IsIdle config old.number epoch q new.watches old.watches) (sym all) (idle_then es counts there g.0),
+        subst (λ (q : List Told). SpokeInTime epoch (counts_as now q) q) (sym all) g.1,
       )
       by_turn (turn.NotDue at) g sent quiet = (
         quiet (λ s. absurd (let x : turn.NotDue at ≡ turn.Send = s in cc)),
-        subst (λ (q : List Told). IsNotDue config old.number epoch (counts_as now q) at q new.watches old.watches) (sym all) (not_due_then es counts there at g),
+        subst (λ (q : List Told). IsNotDue config old.number epoch (counts_as now q) at q new.watches old.watches) (sym all) (not_due_then es counts there at g.0),
+        subst (λ (q : List Told). SpokeInTime epoch (counts_as now q) q) (sym all) g.1,
       )
       by_turn (turn.Ended code) g sent quiet = (
         quiet (λ s. absurd (let x : turn.Ended code ≡ turn.Send = s in cc)),

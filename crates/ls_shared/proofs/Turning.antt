@@ -21,7 +21,7 @@ use Rattle.ls_told.specs.Spoken.{spoken_of}
 use Rattle.ls_told.specs.Heard.{heard, counts_as}
 use Rattle.ls_told.specs.Seen.{Watched}
 use Rattle.ls_told.specs.Requests.{HasBound}
-use Rattle.ls_told.specs.Turns.{HasEnded, IsSilent, IsSpent, IsUnbound, probe_text}
+use Rattle.ls_told.specs.Turns.{HasEnded, IsSilent, SpokeInTime, IsSpent, IsUnbound, probe_text}
 use Rattle.ls_taking.specs.Groups.{SubSeen}
 use Rattle.ls_taking.specs.Lives.{Lives, LivesAs}
 use Rattle.ls_parts.specs.Giving.{GivesNext, StaysStill, given, speaks}
@@ -29,7 +29,7 @@ use Rattle.ls_parts.specs.Giving.{Gives as GivesTurn}
 use Rattle.ls_taking.specs.Taking.{IsAskedFrom}
 use Rattle.ls_parts.specs.Replying.{Replies}
 use Rattle.ls_shared.specs.Asking.{QuietRound}
-use Rattle.ls_shared.specs.Taking.{EndsTurn, GaveLast, GaveProbe, GivesNone, IsQuietTurn}
+use Rattle.ls_shared.specs.Taking.{EndsQuiet, EndsTurn, GaveLast, GaveProbe, GivesNone}
 use Rattle.ls_shared.proofs.Grown.{newer_there}
 
 -- a property of both branches
@@ -130,22 +130,12 @@ module _ (config : List ItemDef) (number epoch now : ℕ) (before es : List Told
 
   -- an answer that ends the turn
   pub gave_ends : (held : List Watched) (t : Turn) → answer ≡ t → ((ask : Asking) → t ≡ turn.Ask ask → ⊥)
-      → (t ≡ turn.Idle → QuietRound config number es held ws (counts_as now es) None)
-      → ((at : ℕ) → t ≡ turn.NotDue at → QuietRound config number es held ws (counts_as now es) (Some at))
+      → (t ≡ turn.Idle → ⊥) → ((at : ℕ) → t ≡ turn.NotDue at → ⊥)
       → EndsTurn config number epoch now held before es ws text t
   gave_ends held turn.Send is asks idle late = record { before = before; begins = prefix_self before; gave = inl (g.sent is) }
   gave_ends held (turn.Ask ask) is asks idle late = absurd (asks ask refl)
-  gave_ends held turn.Idle is asks idle late =
-      record {
-        still = subst (StaysStill number epoch) (sym (g.stays (λ s. absurd (let x : turn.Send ≡ turn.Idle = sym s ∙ is in cc)))) (g.idle is);
-        quiet = idle refl;
-      }
-  gave_ends held (turn.NotDue at) is asks idle late =
-      record {
-        still =
-            subst (StaysStill number epoch) (sym (g.stays (λ s. absurd (let x : turn.Send ≡ turn.NotDue at = sym s ∙ is in cc)))) (g.not_due at is);
-        quiet = late at refl;
-      }
+  gave_ends held turn.Idle is asks idle late = absurd (idle refl)
+  gave_ends held (turn.NotDue at) is asks idle late = absurd (late at refl)
   gave_ends held (turn.Ended code) is asks idle late =
       subst (HasEnded number code) (sym (g.stays (λ s. absurd (let x : turn.Send ≡ turn.Ended code = sym s ∙ is in cc)))) (g.ended code is)
   gave_ends held (turn.Superseded e) is asks idle late =
@@ -158,6 +148,24 @@ module _ (config : List ItemDef) (number epoch now : ℕ) (before es : List Told
       subst (IsUnbound number) (sym (g.stays (λ s. absurd (let x : turn.Send ≡ turn.Unbound = sym s ∙ is in cc)))) (g.unbound is)
   gave_ends held turn.Spent is asks idle late =
       subst (IsSpent number) (sym (g.stays (λ s. absurd (let x : turn.Send ≡ turn.Spent = sym s ∙ is in cc)))) (g.spent is)
+
+  -- one that gives nothing
+  pub gave_none : (held : List Watched) → answer ≡ turn.Idle → QuietRound config number es held ws (counts_as now es) None
+      → EndsQuiet config number epoch now held es ws turn.Idle
+  gave_none held is quiet =
+      record {
+        still = subst (StaysStill number epoch) (sym (g.stays (λ s. absurd (let x : turn.Send ≡ turn.Idle = sym s ∙ is in cc)))) (g.idle is);
+        quiet = quiet;
+      }
+
+  pub gave_late : (held : List Watched) (at : ℕ) → answer ≡ turn.NotDue at → QuietRound config number es held ws (counts_as now es) (Some at)
+      → EndsQuiet config number epoch now held es ws (turn.NotDue at)
+  gave_late held at is quiet =
+      record {
+        still =
+            subst (StaysStill number epoch) (sym (g.stays (λ s. absurd (let x : turn.Send ≡ turn.NotDue at = sym s ∙ is in cc)))) (g.not_due at is);
+        quiet = quiet;
+      }
 
 -- a turn that ends so ends so behind a shorter history too
 pub ends_later : (config : List ItemDef) (number epoch now : ℕ) (held : List Watched) (old mid new : List Told) (ws : List Watched) (text : List ℕ) (t : Turn)
@@ -208,19 +216,19 @@ lives_same config number number' es ws ws' subs subs' k n w s lives =
 
 -- a turn that gives nothing, or PROBE in its place
 pub quiet_ends : (config : List ItemDef) (number number' epoch now : ℕ) (held : List Watched) (old mid new : List Told) (ws ws' ws2 : List Watched) (text : List ℕ)
-    (quiet t : Turn) → number' ≡ number → ws' ≡ ws → ws2 ≡ ws' → IsPrefix old mid → EndsTurn config number epoch now held mid mid ws text quiet
-    → (EndsTurn config number' epoch now held mid mid ws' text quiet → EndsTurn config number' epoch now held mid new ws' text t)
+    (quiet t : Turn) → number' ≡ number → ws' ≡ ws → ws2 ≡ ws' → IsPrefix old mid → EndsQuiet config number epoch now held mid ws quiet
+    → (EndsQuiet config number' epoch now held mid ws' quiet → EndsTurn config number' epoch now held mid new ws' text t)
     → EndsTurn config number epoch now held old new ws2 text t
 quiet_ends config number number' epoch now held old mid new ws ws' ws2 text quiet t n w w2 begins none probe =
-    let there = probe (subst (λ (q : ℕ × List Watched). EndsTurn config q.0 epoch now held mid mid q.1 text quiet) (λ i. (sym n i, sym w i)) none) in
+    let there = probe (subst (λ (q : ℕ × List Watched). EndsQuiet config q.0 epoch now held mid q.1 quiet) (λ i. (sym n i, sym w i)) none) in
     ends_later config number epoch now held old mid new ws2 text t begins
     (subst (λ (q : ℕ × List Watched). EndsTurn config q.0 epoch now held mid new q.1 text t) (λ i. (n i, sym w2 i)) there)
 
 pub probe_ends : (config : List ItemDef) (number epoch now : ℕ) (held : List Watched) (es new : List Told) (ws : List Watched) (text : List ℕ) (quiet : Turn)
-    → IsQuietTurn quiet → IsSilent epoch (counts_as now es) es → text ≡ probe_text → new ≡ es ++ Gave epoch probe_text (counts_as now es) ∷ []
-    → EndsTurn config number epoch now held es es ws text quiet → EndsTurn config number epoch now held es new ws text turn.Send
-probe_ends config number epoch now held es new ws text quiet is silent text_is lines none =
-    record { before = es; begins = prefix_self es; gave = inr (by_turn quiet is none) }
+    → IsSilent epoch (counts_as now es) es → text ≡ probe_text → new ≡ es ++ Gave epoch probe_text (counts_as now es) ∷ []
+    → EndsQuiet config number epoch now held es ws quiet → EndsTurn config number epoch now held es new ws text turn.Send
+probe_ends config number epoch now held es new ws text quiet silent text_is lines none =
+    record { before = es; begins = prefix_self es; gave = inr (by_turn quiet none) }
   where
     given_so : (wait : Option ℕ) → GivesNone config number epoch now held es ws wait → GaveProbe config number epoch now held es new ws text
     given_so wait g =
@@ -232,12 +240,25 @@ probe_ends config number epoch now held es new ws text quiet is silent text_is l
           lines = lines ∙ ap (λ (t : List ℕ). es ++ Gave epoch t (counts_as now es) ∷ []) (sym text_is);
         }
 
-    by_turn : (t : Turn) → IsQuietTurn t → EndsTurn config number epoch now held es es ws text t → GaveProbe config number epoch now held es new ws text
-    by_turn turn.Send is g = absurd is
-    by_turn (turn.Ask ask) is g = absurd is
-    by_turn turn.Idle is g = given_so None g
-    by_turn (turn.NotDue at) is g = given_so (Some at) g
-    by_turn (turn.Ended code) is g = absurd is
-    by_turn (turn.Superseded e) is g = absurd is
-    by_turn turn.Unbound is g = absurd is
-    by_turn turn.Spent is g = absurd is
+    by_turn : (t : Turn) → EndsQuiet config number epoch now held es ws t → GaveProbe config number epoch now held es new ws text
+    by_turn turn.Send g = absurd g
+    by_turn (turn.Ask ask) g = absurd g
+    by_turn turn.Idle g = given_so None g
+    by_turn (turn.NotDue at) g = given_so (Some at) g
+    by_turn (turn.Ended code) g = absurd g
+    by_turn (turn.Superseded e) g = absurd g
+    by_turn turn.Unbound g = absurd g
+    by_turn turn.Spent g = absurd g
+
+-- where it isn't due
+pub spoke_ends : (config : List ItemDef) (number epoch now : ℕ) (held : List Watched) (es : List Told) (ws : List Watched) (text : List ℕ) (quiet : Turn)
+    → SpokeInTime epoch (counts_as now es) es → EndsQuiet config number epoch now held es ws quiet
+    → EndsTurn config number epoch now held es es ws text quiet
+spoke_ends config number epoch now held es ws text turn.Send spoke none = absurd none
+spoke_ends config number epoch now held es ws text (turn.Ask ask) spoke none = none
+spoke_ends config number epoch now held es ws text turn.Idle spoke none = (none, spoke)
+spoke_ends config number epoch now held es ws text (turn.NotDue at) spoke none = (none, spoke)
+spoke_ends config number epoch now held es ws text (turn.Ended code) spoke none = absurd none
+spoke_ends config number epoch now held es ws text (turn.Superseded e) spoke none = absurd none
+spoke_ends config number epoch now held es ws text turn.Unbound spoke none = absurd none
+spoke_ends config number epoch now held es ws text turn.Spent spoke none = absurd none

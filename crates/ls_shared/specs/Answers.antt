@@ -29,7 +29,7 @@ use Rattle.ls_told.specs.Heard.{heard, counts_as}
 use Rattle.ls_told.specs.Seen.{Testified, Grows, IsTold}
 use Rattle.ls_told.specs.Requests.{AddsSub, Binds, DoneBy, HasBound, op_code, is_spent_for}
 pub use Rattle.ls_told.specs.Turns.{GivesLine}
-use Rattle.ls_told.specs.Turns.{HasEnded, IsIdle, IsNotDue, IsSpent, IsUnbound}
+use Rattle.ls_told.specs.Turns.{HasEnded, IsIdle, IsNotDue, IsSpent, IsUnbound, SpokeInTime}
 
 -- whether a set is named that isn't the server's
 abbrev pub is_other : List ℕ → Option (List ℕ) → Bool
@@ -96,9 +96,11 @@ Turns config epoch now old new text turn.Send = GivesLine config epoch now old n
 Turns config epoch now old new text (turn.Ask ask) = ⊥
 Turns config epoch now old new text turn.Idle =
     (new.mine ≡ old.mine) × IsIdle config old.number epoch new.lines new.watches old.watches
+    × SpokeInTime epoch (counts_as now new.lines) new.lines
 Turns config epoch now old new text (turn.NotDue at) =
     (new.mine ≡ old.mine)
     × IsNotDue config old.number epoch (counts_as now new.lines) at new.lines new.watches old.watches
+    × SpokeInTime epoch (counts_as now new.lines) new.lines
 Turns config epoch now old new text (turn.Ended code) = (new.mine ≡ old.mine) × HasEnded old.number code new.lines
 Turns config epoch now old new text (turn.Superseded e) = (new.mine ≡ old.mine) × (epoch < e) × HasBound e new.lines
 Turns config epoch now old new text turn.Unbound = (new.mine ≡ old.mine) × IsUnbound old.number new.lines

@@ -9,7 +9,7 @@ use Rattle.ls_told.specs.Requests.{HasBound}
 use Rattle.ls_register.specs.declared.told.Told.TheVariants.{Gave}
 use Rattle.ls_told.specs.Heard.{counts_as}
 use Rattle.ls_told.specs.Seen.{Watched}
-use Rattle.ls_told.specs.Turns.{IsSilent, probe_text, HasEnded, IsSpent, IsUnbound}
+use Rattle.ls_told.specs.Turns.{IsSilent, SpokeInTime, probe_text, HasEnded, IsSpent, IsUnbound}
 use Rattle.ls_parts.specs.Giving.{GivesNext, StaysStill}
 use Rattle.ls_shared.specs.Asking.{QuietRound}
 
@@ -39,20 +39,22 @@ pub record GaveLast (config : List ItemDef) (number epoch now : ℕ) (held : Lis
 abbrev pub EndsTurn : List ItemDef → ℕ → ℕ → ℕ → List Watched → List Told → List Told → List Watched → List ℕ → Turn → Type 0
 EndsTurn config number epoch now held old new ws text turn.Send = GaveLast config number epoch now held old new ws text
 EndsTurn config number epoch now held old new ws text (turn.Ask ask) = ⊥
-EndsTurn config number epoch now held old new ws text turn.Idle = GivesNone config number epoch now held new ws None
-EndsTurn config number epoch now held old new ws text (turn.NotDue at) = GivesNone config number epoch now held new ws (Some at)
+EndsTurn config number epoch now held old new ws text turn.Idle =
+    GivesNone config number epoch now held new ws None × SpokeInTime epoch (counts_as now new) new
+EndsTurn config number epoch now held old new ws text (turn.NotDue at) =
+    GivesNone config number epoch now held new ws (Some at) × SpokeInTime epoch (counts_as now new) new
 EndsTurn config number epoch now held old new ws text (turn.Ended code) = HasEnded number code new
 EndsTurn config number epoch now held old new ws text (turn.Superseded e) = (epoch < e) × HasBound e new
 EndsTurn config number epoch now held old new ws text turn.Unbound = IsUnbound number new
 EndsTurn config number epoch now held old new ws text turn.Spent = IsSpent number new
 
--- a turn that gives nothing, as there is nothing to give
-abbrev pub IsQuietTurn : Turn → Type 0
-IsQuietTurn turn.Send = ⊥
-IsQuietTurn (turn.Ask ask) = ⊥
-IsQuietTurn turn.Idle = Unit {0}
-IsQuietTurn (turn.NotDue at) = Unit {0}
-IsQuietTurn (turn.Ended code) = ⊥
-IsQuietTurn (turn.Superseded e) = ⊥
-IsQuietTurn turn.Unbound = ⊥
-IsQuietTurn turn.Spent = ⊥
+-- a turn that gives nothing, as there is nothing to give; whether PROBE is due is asked then
+abbrev pub EndsQuiet : List ItemDef → ℕ → ℕ → ℕ → List Watched → List Told → List Watched → Turn → Type 0
+EndsQuiet config number epoch now held es ws turn.Send = ⊥
+EndsQuiet config number epoch now held es ws (turn.Ask ask) = ⊥
+EndsQuiet config number epoch now held es ws turn.Idle = GivesNone config number epoch now held es ws None
+EndsQuiet config number epoch now held es ws (turn.NotDue at) = GivesNone config number epoch now held es ws (Some at)
+EndsQuiet config number epoch now held es ws (turn.Ended code) = ⊥
+EndsQuiet config number epoch now held es ws (turn.Superseded e) = ⊥
+EndsQuiet config number epoch now held es ws turn.Unbound = ⊥
+EndsQuiet config number epoch now held es ws turn.Spent = ⊥

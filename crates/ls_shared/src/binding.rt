@@ -48,11 +48,7 @@ impl<N: House> Shared<N> {
         ensures memory { IsErrOf result Refusal.NoMemory → SeesOn seen.old seen.new }
         ensures lawful { LawfulTold N.deed.config seen.new }
     {
-        let Testimony {
-            held,
-            sight,
-            keepalive,
-        } = seen;
+        let Testimony { held, sight } = seen;
         let mut guard = held.lock(rt);
         let Some(live) = &mut *guard else {
             wait_for_good(rt);
@@ -60,9 +56,6 @@ impl<N: House> Shared<N> {
         };
         let answer = self.bind_in(rt, live, sight, bind, now);
         live.bell().ring();
-        if answer.is_ok() {
-            *keepalive = bind.keepalive;
-        }
         sight.vouch();
         answer
     }
@@ -77,7 +70,7 @@ impl<N: House> Shared<N> {
         ensures lost { Loses epoch now seen.old seen.new result }
         ensures lawful { LawfulTold N.deed.config seen.new }
     {
-        let Testimony { held, sight, .. } = seen;
+        let Testimony { held, sight } = seen;
         let mut guard = held.lock(rt);
         let Some(live) = &mut *guard else {
             wait_for_good(rt);

@@ -54,7 +54,7 @@ impl<N: House> Shared<N> {
         ensures memory { IsErrOf result Refusal.NoMemory → SeesOn seen.old seen.new }
         ensures lawful { LawfulTold N.deed.config seen.new }
     {
-        let Testimony { held, sight, .. } = seen;
+        let Testimony { held, sight } = seen;
         let mut guard = held.lock(rt);
         let Some(live) = guard.take() else {
             wait_for_good(rt);

@@ -117,13 +117,8 @@ impl<N: House> Shared<N> {
             wait_for_good(rt);
         }
         let sight = live.tell(self.alloc, &self.register)?;
-        let keepalive = live.keepalive();
         drop(guard);
-        Ok(Testimony {
-            held,
-            sight,
-            keepalive,
-        })
+        Ok(Testimony { held, sight })
     }
 }
 
@@ -187,11 +182,7 @@ fn open_in<N: House, R: Wait>(
     let mut live = live.at(place);
     let sight = live.tell_first(alloc, register, start, again);
     *held.lock(rt) = Some(live);
-    let seen = Testimony {
-        held,
-        sight,
-        keepalive: create.keepalive,
-    };
+    let seen = Testimony { held, sight };
     Ok(Opened {
         session,
         epoch: 1,

@@ -12,7 +12,7 @@ ghost use Rattle.ls_parts.specs.Giving.{StaysStill};
 ghost use Rattle.ls_taking.specs.Taking.{IsAskedFrom};
 ghost use Rattle.ls_shared.specs.Answers.{SeesOn, Turns};
 ghost use Rattle.ls_shared.specs.Asking.{AsksRound, GoesRound};
-ghost use Rattle.ls_shared.specs.Taking.{EndsTurn, IsQuietTurn};
+ghost use Rattle.ls_shared.specs.Taking.{EndsQuiet, EndsTurn};
 
 use crate::shared::Shared;
 use crate::testimony::Testimony;
@@ -32,7 +32,8 @@ impl<N: House> Shared<N> {
     /// slot that is asked has first what its item has. Of an item that has nothing new since its slot had nothing to
     /// tell, the lock isn't taken. `Idle` and `NotDue` come where no slot has a line by all that `seen` had of its item,
     /// and more; `at` is the first tick, in ms, at which something that is pending is due. Where it is so and the last
-    /// line was given as long ago as the keep-alive, or longer, PROBE is given. The turn is never a question. `seen` then
+    /// line was given on this stream as long ago as the keep-alive, or longer, PROBE is given, and else it isn't. The turn
+    /// is never a question. `seen` then
     /// has what stands under the session's lock. After `NoMemory` slots may have moved past cuts that make no line. The
     /// gate is passed while the session's lock is held. The call may wait.
     pub fn take<R: Wait, G: Gate>(
@@ -53,7 +54,7 @@ impl<N: House> Shared<N> {
         ensures memory { OnErr result (SeesOn seen.old seen.new × (seen.new.mine ≡ seen.old.mine)) }
         ensures lawful { LawfulTold N.deed.config seen.new }
     {
-        let Testimony { held, sight, .. } = seen;
+        let Testimony { held, sight } = seen;
         let mut guard = held.lock(rt);
         gate.pass(Point::Turning { session });
         let Some(live) = guard.take() else {
@@ -323,14 +324,13 @@ fn probed<N: House>(
     requires tick { now ≤ GREATEST_TICK }
     requires lives { Lives N.deed.config parts.old.number parts.old.history.list parts.old.watches.items
         parts.old.subs.items parts.old.session }
-    requires quiet { IsQuietTurn quiet }
     requires still { StaysStill parts.old.number epoch parts.old.history.list }
     ensures rest { parts.new ≡ record parts.old { history = parts.new.history } }
     ensures table { parts.new.history.table ≡ parts.old.history.table }
     ensures lives { Lives N.deed.config parts.new.number parts.new.history.list parts.new.watches.items
         parts.new.subs.items parts.new.session }
-    ensures ends { (held : List Watched) → EndsTurn N.deed.config parts.old.number epoch now held parts.old.history.list
-        parts.old.history.list parts.old.watches.items into.new quiet
+    ensures ends { (held : List Watched) → EndsQuiet N.deed.config parts.old.number epoch now held parts.old.history.list
+        parts.old.watches.items quiet
         → EndsTurn N.deed.config parts.old.number epoch now held parts.old.history.list parts.new.history.list
         parts.old.watches.items into.new result }
     ensures begins { IsPrefix parts.old.history.list parts.new.history.list }

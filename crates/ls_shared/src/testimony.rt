@@ -1,5 +1,6 @@
 //! What callers have seen of sessions.
 ghost use Rattle.std.specs.Prelude.{◌≡◌};
+ghost use Rattle.ls_told.specs.Heard.{keepalive_of};
 ghost use Rattle.ls_told.specs.Seen.{LawfulTold};
 
 use ls_bell::Bell;
@@ -21,7 +22,6 @@ pub(crate) type Held<N> = Arc<Mutex<Option<LiveSession<N>>>, Global>;
 pub struct Testimony<N: House> {
     pub(crate) held: Held<N>,
     pub(crate) sight: Sight<N>,
-    pub(crate) keepalive: u32,
 }
 
 impl<N: House> Model for Testimony<N> {
@@ -41,8 +41,10 @@ impl<N: House> Testimony<N> {
     }
 
     /// The keep-alive time, in ms, of the newest stream that was seen. It takes no lock and no memory.
-    pub fn keepalive(&self) -> u64 {
-        self.keepalive as u64
+    pub fn keepalive(&self) -> u64
+        ensures { result ≡ keepalive_of self.now.lines }
+    {
+        self.sight.keepalive() as u64
     }
 
     /// What rings where the session may have something to give. It takes no lock and no memory.

@@ -310,6 +310,20 @@ fn a_sweep_makes_room(rt: HostRuntime) -> Result<(), Fail> {
     Ok(())
 }
 
+/// One item that more slots join, one after another, than it may have at a time: those that left make room.
+const COMERS: &str = "\
+comers q 4097 > 4097
+open > 1
+ask 0 LS_reqId=1&LS_op=add&LS_subId=1&LS_mode=MERGE&LS_schema=x&LS_group=q > ok
+";
+
+#[test]
+fn slots_that_leave_make_room_on_their_item(rt: HostRuntime) -> Result<(), Fail> {
+    let other = other_answer(&rt, rt.alloc(), b"q MERGE x\n", COMERS)?;
+    assert!(rt; other.is_empty(), "{other}");
+    Ok(())
+}
+
 /// How many items are in a group at most, and how many such groups have as many slots as may be.
 const ITEMS: u64 = 64;
 

@@ -175,6 +175,51 @@ impl<N: House> World<N> {
         guest.lose(rt, &self.shared, self.now) == Lost::Unbound
     }
 
+    /// Opens so many sessions, one after another, in each of which slots of an item come and go: how many did all.
+    fn comers<R: Wait>(&mut self, rt: &R, item: &str, times: u64) -> Result<String, AllocError> {
+        let mut came: u64 = 0;
+        for _ in 0..times {
+            if self.come_and_go(rt, item).is_ok() {
+                came = came.saturating_add(1);
+            }
+        }
+        format!(in self.alloc; "{came}")
+    }
+
+    /// A session of which a slot leaves with its subscription, and another one with the session.
+    fn come_and_go<R: Wait>(&mut self, rt: &R, item: &str) -> Result<(), Refusal> {
+        let mut guest = self.opened(rt, "")?;
+        self.do_with(
+            rt,
+            &mut guest,
+            "LS_op=add&LS_subId=1&LS_mode=MERGE&LS_schema=x&LS_group=",
+            item,
+        )?;
+        self.do_with(rt, &mut guest, "LS_op=delete&LS_subId=1", "")?;
+        self.do_with(
+            rt,
+            &mut guest,
+            "LS_op=add&LS_subId=2&LS_mode=MERGE&LS_schema=x&LS_group=",
+            item,
+        )?;
+        self.do_with(rt, &mut guest, "LS_op=destroy", "")
+    }
+
+    /// Does an operation on a guest's session, whose parameters end with a word.
+    fn do_with<R: Wait>(
+        &self,
+        rt: &R,
+        guest: &mut Guest<N>,
+        params: &str,
+        word: &str,
+    ) -> Result<(), Refusal> {
+        let Ok(params) = format!(in self.alloc; "LS_reqId=1&{params}{word}") else {
+            return Err(Refusal::NoMemory);
+        };
+        let control = control_of(self.alloc, params.as_str())?;
+        guest.control(rt, &self.shared, &control.op, self.now)
+    }
+
     /// Binds a stream of a session.
     fn bind<R: Wait>(&mut self, rt: &R, params: &str) -> Result<String, AllocError> {
         match bind_of(self.alloc, params) {
@@ -441,6 +486,7 @@ impl<N: House> World<N> {
             "open" => self.open(rt, first),
             "crowd" => self.crowd(rt, number(first)),
             "leavers" => self.leavers(rt, number(first)),
+            "comers" => self.comers(rt, first, number(second)),
             "bind" => self.bind(rt, first),
             "rebind" => self.rebind(rt, who, second),
             "ask" => self.ask(rt, who, second),

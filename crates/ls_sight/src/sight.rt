@@ -1,11 +1,12 @@
 //! What a caller has seen of a session.
-ghost use Rattle.std.specs.Prelude.{◌≡◌, ◌≤◌, ◌^◌, ◌++◌, ◌∷◌, ◌+◌, [], IfOk, IfSome, IsTrue, OnErr, length};
+ghost use Rattle.std.specs.Prelude.{◌≡◌, ◌≤◌, ◌^◌, ◌++◌, ◌∷◌, ◌+◌, [], IfOk, IfSome, IfNone, IsTrue, IsFalse, OnErr, length};
 ghost use mathlib.Core.List.{IsPrefix};
 ghost use Rattle.ls_value.specs.Each.{Each};
 ghost use Rattle.ls_record.specs.Records.{Session};
+ghost use Rattle.ls_told.specs.Heard.{keepalive_of};
 ghost use Rattle.ls_told.specs.Keeping.{KeepsTold};
 ghost use Rattle.ls_told.specs.Seen.{LawfulTold, SeesMore, FitsWatch, Grows, seen_of};
-ghost use Rattle.ls_sight.specs.Sights.{ShowsIt, IsGiven, GaveAt, SeesOf, MeetEach, AreOneItems};
+ghost use Rattle.ls_sight.specs.Sights.{ShowsIt, IsGiven, GaveAt, SeesOf, MeetEach, AreOneItems, NoneBefore};
 
 use crate::watches::{add_copies, agree_all, all_fit, are_one, count_of, meet_all};
 use ls_bell::Bell;
@@ -31,11 +32,14 @@ pub struct Sight<N: House> {
     place: Place<N>,
     watches: Vec<Watch<N>>,
     bell: Arc<Bell, Global>,
+    /// The keep-alive of the newest stream, in ms.
+    keepalive: u32,
 }
 
 impl<N: House> Model for Sight<N> {
     ghost use Rattle.std.specs.Prelude.{◌≡◌};
     ghost use Rattle.ls_told.specs.Seen.{Testified};
+    ghost use Rattle.ls_told.specs.Heard.{keepalive_of};
 
     ghost Value = { Testified };
 
@@ -60,7 +64,7 @@ impl<N: House> Model for Sight<N> {
           mine = s.mine.list;
           watches = s.watches.items;
           register = s.place.list;
-        }) };
+        }) × (s.keepalive ≡ keepalive_of s.lines.list) };
 }
 
 /// The memory of the list of lines that were given to a caller, which is empty.
@@ -108,6 +112,7 @@ impl<N: House> Sight<N> {
         let SightStart { tally, mine } = start;
         Sight {
             number,
+            keepalive: history.keepalive(),
             lines: history.note(),
             later: history.note(),
             tally,
@@ -125,13 +130,21 @@ impl<N: House> Sight<N> {
         self.number
     }
 
-    /// How many entries the history of an item has now, which is no fewer than were seen of it; `None` where the item
+    /// How many entries the history of an item has now, which is no fewer than were seen of it; `None` only where the item
     /// isn't watched. It takes no lock and no memory.
     pub fn count(&mut self, item: u32) -> Option<u64>
         ensures same { self.new ≡ self.old }
         ensures count { IfSome result (λ n. length (seen_of self.old.watches item) ≤ n) }
+        ensures none { IfNone result (NoneBefore self.old.watches (length self.old.watches) item) }
     {
         count_of(&mut self.watches, item)
+    }
+
+    /// The keep-alive, in ms, of the newest stream that was seen, 0 where there was none.
+    pub fn keepalive(&self) -> u32
+        ensures { result ≡ keepalive_of self.now.lines }
+    {
+        self.keepalive
     }
 
     /// The session's bell.
@@ -191,6 +204,7 @@ impl<N: House> Sight<N> {
         ensures sight { self.new ≡ record self.old { watches = self.new.watches } }
         ensures more { SeesMore self.old.watches self.new.watches }
         ensures one { IfOk result (λ yes. IsTrue yes → AreOneItems watches.old.items self.new.watches) }
+        ensures not_one { IfOk result (λ yes. IsFalse yes → AreOneItems watches.old.items self.new.watches → ⊥) }
         ensures err { OnErr result (self.new ≡ self.old) }
     {
         let added = add_copies(register, watches, &mut self.watches);
@@ -239,6 +253,7 @@ impl<N: House> Sight<N> {
     {
         agree_all(register, watches, &mut self.watches);
         all_fit(watches);
+        self.keepalive = history.keepalive();
         history.show(&mut self.later);
         history.show(&mut self.lines);
     }
@@ -253,6 +268,7 @@ impl<N: House> Sight<N> {
         ensures lines { IsPrefix self.old.lines history.old.list }
         ensures later { IsPrefix self.old.later history.old.list }
     {
+        self.keepalive = history.keepalive();
         history.show(&mut self.later);
         history.show(&mut self.lines);
     }

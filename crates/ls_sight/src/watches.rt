@@ -1,5 +1,5 @@
 //! Watches of several items.
-ghost use Rattle.std.specs.Prelude.{◌≡◌, ◌≤◌, ◌<◌, [], None, Some, IfOk, IfSome, OnOk, OnErr, IsTrue, length, take, slice_get};
+ghost use Rattle.std.specs.Prelude.{◌≡◌, ◌≤◌, ◌<◌, [], None, Some, IfOk, IfSome, IfNone, OnOk, OnErr, IsTrue, IsFalse, length, take, slice_get};
 ghost use mathlib.Core.List.{IsPrefix};
 ghost use Rattle.ls_value.specs.Each.{Each};
 ghost use Rattle.ls_told.specs.Seen.{Watched, SeesMore, FitsWatch, seen_of};
@@ -11,11 +11,12 @@ use ls_register::{House, Made};
 use ls_value::NoMemory;
 use std::alloc::Global;
 
-/// How many entries the history of an item has now, which is no fewer than were seen of it; `None` where it isn't watched.
-/// It takes no lock and no memory.
+/// How many entries the history of an item has now, which is no fewer than were seen of it; `None` only where it isn't
+/// watched. It takes no lock and no memory.
 pub fn count_of<N: House>(watches: &mut Vec<Watch<N>>, item: u32) -> Option<u64>
     ensures same { watches.new.items ≡ watches.old.items }
     ensures count { IfSome result (λ n. length (seen_of watches.old.items item) ≤ n) }
+    ensures none { IfNone result (NoneBefore watches.old.items (length watches.old.items) item) }
 {
     let Some(place) = find_watch(watches, item) else {
         return None;
@@ -103,6 +104,7 @@ pub(crate) fn are_one<N: House>(
     requires { register.now ≡ N.deed.register }
     ensures same { (watches.new.items ≡ watches.old.items) × (others.new.items ≡ others.old.items) }
     ensures one { IsTrue result → AreOneItems watches.old.items others.old.items }
+    ensures not_one { IsFalse result → AreOneItems watches.old.items others.old.items → ⊥ }
 {
     if watches.len() == others.len() {
         are_one_each(register, watches, others)
@@ -121,6 +123,7 @@ fn are_one_each<N: House>(
     requires count { length watches.old.items ≡ length others.old.items }
     ensures same { (watches.new.items ≡ watches.old.items) × (others.new.items ≡ others.old.items) }
     ensures one { IsTrue result → AreOneItems watches.old.items others.old.items }
+    ensures not_one { IsFalse result → AreOneItems watches.old.items others.old.items → ⊥ }
 {
     for i in 0..watches.len() {
         if is_one_at(register, watches, others, i) {
@@ -143,6 +146,7 @@ fn is_one_at<N: House>(
     requires within { (i < length watches.old.items) × (i < length others.old.items) }
     ensures same { (watches.new.items ≡ watches.old.items) × (others.new.items ≡ others.old.items) }
     ensures one { IsTrue result → IsOneAt i watches.old.items others.old.items }
+    ensures not_one { IsFalse result → IsOneAt i watches.old.items others.old.items → ⊥ }
 {
     let watch = &mut watches[i];
     let other = &mut others[i];

@@ -2,3 +2,4 @@ pub mod CaughtUp
 pub mod Seeing
 pub mod Moving
 pub mod Catching
+pub mod Popped

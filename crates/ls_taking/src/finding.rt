@@ -1,5 +1,5 @@
 //! Where a slot of a session is found, and how it is caught up with its item.
-ghost use Rattle.std.specs.Prelude.{◌≡◌, ◌-◌, ℕ, List, Some, None, IfSome, OnOk, OnErr};
+ghost use Rattle.std.specs.Prelude.{◌≡◌, ◌-◌, ℕ, List, Some, None, IfSome, IfNone, OnOk, OnErr};
 ghost use Rattle.std.specs.Prelude.{length, slice_get};
 ghost use Rattle.ls_register.specs.declared.told.Told.{Told as Entry};
 ghost use Rattle.ls_session.specs.declared.session.Ask.{Ask as Asking};
@@ -8,7 +8,7 @@ ghost use Rattle.ls_session.specs.Record.{Record, Question};
 ghost use Rattle.ls_told.specs.Seen.{SeesMore};
 ghost use Rattle.ls_taking.specs.Groups.{SubSeen};
 ghost use Rattle.ls_taking.specs.Lives.{NoneBehind};
-ghost use Rattle.ls_taking.specs.Taking.{IsFound, IsCaught, IsAskedFrom, IsWhole, caught_up, asked_now};
+ghost use Rattle.ls_taking.specs.Taking.{IsFound, IsCaught, IsAskedFrom, IsWhole, NoneFrom, caught_up, asked_now};
 
 use crate::seats::SubSeats;
 use ls_chron::Chron;
@@ -60,10 +60,11 @@ pub fn find_in<N: House>(
     Some(Found { seats, watch })
 }
 
-/// Where the last seats of a subscription stand among those of all; `None` where it has none.
+/// Where the last seats of a subscription stand among those of all; `None` only where it has none.
 pub fn last_place<N: House>(subs: &Vec<SubSeats<N>>, sub: u32) -> Option<usize>
-    ensures { IfSome result (λ k. (g : SubSeen) × (slice_get subs.now.items k ≡ Some g) × (g.sub ≡ sub)
+    ensures found { IfSome result (λ k. (g : SubSeen) × (slice_get subs.now.items k ≡ Some g) × (g.sub ≡ sub)
         × NoneBehind subs.now.items k sub) }
+    ensures none { IfNone result (NoneFrom subs.now.items 0 sub) }
 {
     for i in 0..subs.len() {
         let place = subs.len() - 1 - i;

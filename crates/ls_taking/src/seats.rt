@@ -1,5 +1,5 @@
 //! The seats of a subscription, by which its slots are caught up with their items and cut.
-ghost use Rattle.std.specs.Prelude.{◌≡◌, ◌≤◌, ◌-◌, ◌++◌, ◌∷◌, [], Some, Bool, IfOk, OnOk, OnErr, IsTrue, IsSome};
+ghost use Rattle.std.specs.Prelude.{◌≡◌, ◌≤◌, ◌-◌, ◌++◌, ◌∷◌, [], Some, Bool, IfOk, IfSome, IfNone, OnOk, OnErr, IsTrue, IsSome};
 ghost use Rattle.std.specs.Prelude.{true, false, length, slice_get};
 ghost use mathlib.Core.List.{IsPrefix};
 ghost use Rattle.ls_event.specs.Cuts.{cut, is_pending};
@@ -41,8 +41,11 @@ impl<N: House> SubSeats<N> {
         SubSeats { sub, seats }
     }
 
-    /// The last seat, which is taken out; `None` where there is none.
-    pub fn pop(&mut self) -> Option<Seat<N>> {
+    /// The last seat, which is taken out; `None` only where there is none.
+    pub fn pop(&mut self) -> Option<Seat<N>>
+        ensures last { IfSome result (λ t. self.old ≡ record self.new { seats = self.new.seats ++ t ∷ [] }) }
+        ensures none { IfNone result ((self.old.seats ≡ []) × (self.new ≡ self.old)) }
+    {
         self.seats.pop()
     }
 

@@ -6,7 +6,7 @@ use Rattle.ls_register.specs.declared.told.Told.TheVariants.{Numbered, Gave, Bou
 use Rattle.ls_record.specs.Records.{timed_out}
 use Rattle.ls_record.specs.declared.TheConstants.{MOST_UNBOUND}
 use Rattle.ls_told.specs.Heard.{told_from, unspoken, hears, heard_after, heard, tick_or, latest_after, latest_of, keepalive_or}
-use Rattle.ls_told.specs.Heard.{keepalive_of, gave_or, last_gave, epoch_or, epoch_after, epoch_of, CountsOne, CountsOn}
+use Rattle.ls_told.specs.Heard.{keepalive_of, gave_or, last_gave, given_or, last_given, epoch_or, epoch_after, epoch_of, CountsOne, CountsOn}
 use Rattle.ls_told.specs.Heard.{rebind_or, has_rebind, rates_or, rates_of, EndsInTime}
 use Rattle.ls_told.specs.Telling.{numbered_or, numbered_of}
 
@@ -29,6 +29,9 @@ keepalive_one es e = told_from_append keepalive_or 0 es (e ∷ [])
 
 pub gave_one : (epoch : ℕ) (es : List Told) (e : Told) → last_gave epoch (es ++ e ∷ []) ≡ gave_or epoch (last_gave epoch es) e
 gave_one epoch es e = told_from_append (gave_or epoch) None es (e ∷ [])
+
+pub given_one : (es : List Told) (e : Told) → last_given (es ++ e ∷ []) ≡ given_or (last_given es) e
+given_one es e = told_from_append given_or None es (e ∷ [])
 
 pub epoch_one : (es : List Told) (e : Told) → epoch_of (es ++ e ∷ []) ≡ epoch_or (epoch_of es) e
 epoch_one es e = told_from_append epoch_or 0 es (e ∷ [])

@@ -94,6 +94,19 @@ gave_or epoch last e = last
 abbrev pub last_gave : ℕ → List Told → Option ℕ
 last_gave epoch es = told_from (gave_or epoch) None es
 
+-- the epoch and the tick, in ms, of a line that was given
+pub record LineGiven : Type 0 where
+  pub epoch : ℕ
+  pub tick : ℕ
+
+-- those of the line that was given last, whichever stream it was given on
+abbrev pub given_or : Option LineGiven → Told → Option LineGiven
+given_or last (Gave epoch text tick) = Some (record { epoch = epoch; tick = tick })
+given_or last e = last
+
+abbrev pub last_given : List Told → Option LineGiven
+last_given es = told_from given_or None es
+
 -- the epoch of the newest stream, 0 where there was none
 abbrev pub epoch_or : ℕ → Told → ℕ
 epoch_or epoch (Bound e from counted keepalive content) = e

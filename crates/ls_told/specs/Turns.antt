@@ -1,6 +1,6 @@
 -- What a session's turns say of its history, and of the items of its slots (TLCP 2.1, session life; this project's
 -- profile).
-use Rattle.std.specs.Prelude.{◌≡◌, ◌≤◌, ◌⊎◌, ℕ, ◌+◌, List, length, true, None, Some}
+use Rattle.std.specs.Prelude.{◌≡◌, ◌≤◌, ◌<◌, ◌⊎◌, ℕ, ◌+◌, List, length, true, None, Some}
 use mathlib.Core.List.{IsPrefix}
 use Rattle.ls_value.specs.Each.{Each}
 use Rattle.ls_value.specs.declared.limits.TheConstants.{GREATEST_NUMBER}
@@ -14,7 +14,7 @@ use Rattle.ls_line.specs.declared.line.Line.TheVariants as line
 use Rattle.ls_record.specs.Records.{LiveSlot, Session, Alive, Ending, Closed, least_wait, is_due}
 use Rattle.ls_register.specs.declared.told.Told.{Told}
 use Rattle.ls_told.specs.Spoken.{next_of, text_of_next, GivesNothing}
-use Rattle.ls_told.specs.Heard.{heard, counts_as, keepalive_of, last_gave}
+use Rattle.ls_told.specs.Heard.{heard, counts_as, keepalive_of, last_gave, last_given, LineGiven}
 use Rattle.ls_told.specs.Seen.{Watched, Testified, IsTold, Sends, items_seen, seen_of}
 
 -- the stream of this epoch is bound, and nothing waits to be given on it: no END, no line that is owed, no LOOP and no
@@ -59,6 +59,11 @@ probe_text = text_of_line line.Probe
 -- the stream's last line was given its keep-alive ago or more
 abbrev pub IsSilent : ℕ → ℕ → List Told → Type 0
 IsSilent epoch tick es = (last : ℕ) × (last_gave epoch es ≡ Some last) × (last + keepalive_of es ≤ tick)
+
+-- the line that was given last, where it was given on this stream, is younger than the keep-alive
+abbrev pub SpokeInTime : ℕ → ℕ → List Told → Type 0
+SpokeInTime epoch tick es =
+    (last : LineGiven) → last_given es ≡ Some last → last.epoch ≡ epoch → tick < last.tick + keepalive_of es
 
 -- a stream is alive, where it gave nothing for so long and has nothing to give
 pub record IsProbe (config : List ItemDef) (number epoch tick : ℕ) (es : List Told) (ws held : List Watched)

@@ -1,4 +1,4 @@
-use Rattle.std.proofs.Common.{◌≤◌, length, List, ◌∙◌, subst, arith}
+use Rattle.std.proofs.Common.{◌≤◌, length, List, ◌∙◌, sym, subst, arith}
 use Rattle.std.proofs.lemmas.Grind.{common_steps}
 use Rattle.ls_register.specs.Watches.{Watched}
 use Rattle.ls_sight.specs.Sights.{IsOneAt}
@@ -26,3 +26,10 @@ returns-clause-one g c is =
     let ok = c.args.watches.now.ok in
     let low : length c.args.watches.now.items ≤ c.loop-i.i = grind (arith, common_steps) in
     all_one c.args.watches.now.items c.args.others.now.items c.loop-i.i c.requires.count low i.2
+
+pub returns-else-is_one_at-clause-not_one : goal.returns-else-is_one_at-clause-not_one
+returns-else-is_one_at-clause-not_one g c is one =
+    let i = c.loop-i.invariant in
+    c.is_one_at.ensures.not_one c.if-is_one_at.false
+    (subst (λ (l : List Watched). IsOneAt c.loop-i.i l c.loop-i.others.items) (sym i.0)
+    (subst (λ (l : List Watched). IsOneAt c.loop-i.i c.args.watches.now.items l) (sym i.1) (one.each c.loop-i.i)))

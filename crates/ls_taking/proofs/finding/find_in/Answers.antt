@@ -10,7 +10,7 @@ pub returns-clause-found : goal.returns-clause-found
 returns-clause-found g c =
     let config = g.N.House.deed.config in
     let w = c.in-Some.ensures.found in
-    let s = c.in-Some-last_place.ensures in
+    let s = c.in-Some-last_place.ensures.found in
     let item = c.has_item.ensures.of c.if-not-has_item.false 0 in
     let watch = read_is c.args.watches.now.items c.in-Some.watch c.index_mut.result.now w.0 c.index_mut.ensures.value w.1 in
     let seats = read_is c.args.subs.now.items c.in-Some-last_place.seats c.index_mut-2.result.now s.0 c.index_mut-2.ensures.value s.1 in

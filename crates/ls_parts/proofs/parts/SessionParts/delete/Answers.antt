@@ -41,11 +41,13 @@ returns-in-Ok-delete-clause-accepted g c =
     let ok = c.in-Ok-delete.slots.ok in
     let counted = ap length done.1 in (
       finds_deleted config s.number s.history.list s.watches.items s.subs.items s.session r c.args.sub None l low done.0,
-      subst (λ (n : ℕ). EndsSub config s.number c.args.sub n s.history.list c.tell_last.new.history.list s.watches.items c.len.result)
+      subst (λ (n : ℕ). EndsSub config s.number c.args.sub n s.history.list c.tell_last.new.history.list s.watches.items c.len.result c.take_sub.new.taken.items)
           c.tick-tick.ensures.tick
           (ends_removed config s.number s.history.list s.watches.items s.subs.items s.session r l low tick c.tick-tick.ensures.most c.args.sub c.len.result
-          c.tell_last.new.history.list c.delete.new.self ordinal (omega (arith, count, ok, counted, length-map (slots_of c.args.sub r.session.board.round) ref_of))
-          (ap (λ h. h.list) (c.tell_last.ensures.told (line_text [] (Ends c.args.sub)) last)) done.2),
+          c.tell_last.new.history.list c.take_sub.new.taken.items c.delete.new.self ordinal
+          (omega (arith, count, ok, counted, length-map (slots_of c.args.sub r.session.board.round) ref_of))
+          (ap (λ h. h.list) (c.tell_last.ensures.told (line_text [] (Ends c.args.sub)) last))
+          (λ v of h. c.take_sub.ensures.taken config s.watches.items v of h) done.2),
     )
 
 pub returns-in-Ok-delete-clause-lives : goal.returns-in-Ok-delete-clause-lives
@@ -65,7 +67,7 @@ returns-in-Ok-delete-clause-lives g c =
       subst (λ h. LivesAs config s.number h s.watches.items c.take_sub.new.all.items c.delete.new.self after)
           (sym (ap (λ h. h.list) (c.tell_last.ensures.told (line_text [] (Ends c.args.sub)) last)))
           (lives_removed config s.number s.history.list s.watches.items s.subs.items s.session r l low tick c.tick-tick.ensures.most c.args.sub
-          c.take_sub.new.all.items c.delete.new.self ordinal (λ v other h. c.take_sub.ensures config s.watches.items v other h) done.2),
+          c.take_sub.new.all.items c.delete.new.self ordinal (λ v other h. c.take_sub.ensures.others config s.watches.items v other h) done.2),
     )
 
 pub returns-in-Err-clause-refused : goal.returns-in-Err-clause-refused

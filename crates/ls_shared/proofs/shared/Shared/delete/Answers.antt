@@ -36,7 +36,7 @@ returns-in-Ok-clause-done g c =
       finds = c.in-Ok.ensures.accepted.0;
       watches = watches;
       done =
-          ends_as g.N.House.deed.config c.args.live.now c.show_lines-in-Ok.new.sight c.args.sub _ c.in-Ok.left.slots c.delete.new.self.lines
+          ends_as g.N.House.deed.config c.args.live.now c.show_lines-in-Ok.new.sight c.args.sub _ c.in-Ok.left.slots c.in-Ok.left.subs.items c.delete.new.self.lines
           c.args.sight.now.register watches (ap (λ t. t.lines) shown) c.in-Ok.ensures.accepted.1
           (subst (λ (l : List Made). Gains (Freed c.in-Ok.left.slots) c.args.sight.now.register l) (sym (ap (λ t. t.register) shown))
           c.free.ensures.freed);

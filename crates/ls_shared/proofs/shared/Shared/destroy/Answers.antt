@@ -27,7 +27,7 @@ returns-then-is_alive-clause-done g c =
       finds = finds_alive config live all.earlier all.was lives;
       watches = watches;
       done =
-          destroys_as config live c.show_lines.new.sight _ c.end-subs.result.slots c.end-subs.new.self.lines c.args.sight.now.register watches
+          destroys_as config live c.show_lines.new.sight _ c.end-subs.result.slots c.end-subs.result.subs.items c.end-subs.new.self.lines c.args.sight.now.register watches
           (ap (λ t. t.lines) shown) all
           (subst (λ (l : List Made). Gains (Freed c.end-subs.result.slots) c.args.sight.now.register l) register c.gone.ensures.freed)
           (subst (λ (n : ℕ). Gains (Gone n) c.args.sight.now.register c.show_lines.new.sight.register) c.requires.shows.number

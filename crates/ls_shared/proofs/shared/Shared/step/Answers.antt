@@ -4,7 +4,7 @@ use Rattle.ls_told.specs.Seen.{Watched, SeesMore}
 use Rattle.ls_told.proofs.Watching.{sees_same}
 use Rattle.ls_shared.specs.Taking.{EndsTurn}
 use Rattle.ls_shared.proofs.Asking.{gave_question, gave_idle, gave_not_due, asks_same}
-use Rattle.ls_shared.proofs.Turning.{asked_same, lives_same, gave_asked, gave_lives, gave_begins, gave_ends, quiet_ends}
+use Rattle.ls_shared.proofs.Turning.{asked_same, lives_same, gave_asked, gave_lives, gave_begins, gave_ends, gave_none, gave_late, quiet_ends}
 use Rattle.ls_shared.proofs.shared.Shared.step.Goals as goal
 
 pub ask-requires-clause-asked : goal.ask-requires-clause-asked
@@ -47,9 +47,7 @@ returns-in_default g c =
           let said = c.give.ensures.gives goes.r goes.lives in
           subst (λ (ws : List Watched). EndsTurn g.N.House.deed.config c.args.parts.now.number c.args.epoch c.args.now held c.args.parts.now.history.list
           c.give.new.self.history.list ws c.give.new.into c.give.result) (sym (ap (λ p. p.watches.items) c.give.ensures.rest))
-          (gave_ends _ _ _ _ _ _ _ _ _ _ _ _ said held c.give.result refl c.in_default.not-Ask
-          (gave_idle _ _ _ _ _ _ _ _ _ _ _ _ _ _ goes.lives goes.more goes.none said)
-          (gave_not_due _ _ _ _ _ _ _ _ _ _ _ _ _ _ goes.lives goes.more goes.none said));
+          (gave_ends _ _ _ _ _ _ _ _ _ _ _ _ said held c.give.result refl c.in_default.not-Ask c.in_default.not-Idle c.in_default.not-NotDue);
     }
 
 -- the question that stands
@@ -72,9 +70,8 @@ returns-in-Idle-clause-turn g c = λ held goes.
     c.probed.new.parts.watches.items c.probed.new.into turn.Idle c.probed.result
     (ap (λ p. p.number) c.give.ensures.rest) (ap (λ p. p.watches.items) c.give.ensures.rest) (ap (λ p. p.watches.items) c.probed.ensures.rest)
     (gave_begins _ _ _ _ _ _ _ _ _ _ _ _ said)
-    (gave_ends _ _ _ _ _ _ _ _ _ _ _ _ said held turn.Idle c.in-Idle.is (λ ask is. absurd (let x : turn.Idle ≡ turn.Ask ask = is in cc))
-    (λ is. gave_idle _ _ _ _ _ _ _ _ _ _ _ _ _ _ goes.lives goes.more goes.none said c.in-Idle.is)
-    (λ at is. absurd (let x : turn.Idle ≡ turn.NotDue at = is in cc)))
+    (gave_none _ _ _ _ _ _ _ _ _ _ _ _ said held c.in-Idle.is
+    (gave_idle _ _ _ _ _ _ _ _ _ _ _ _ _ _ goes.lives goes.more goes.none said c.in-Idle.is))
     (c.probed.ensures.ends held)
 
 pub returns-in-NotDue-clause-turn : goal.returns-in-NotDue-clause-turn
@@ -85,7 +82,6 @@ returns-in-NotDue-clause-turn g c = λ held goes.
     c.probed-in-NotDue.new.parts.watches.items c.probed-in-NotDue.new.into (turn.NotDue c.in-NotDue.at) c.probed-in-NotDue.result
     (ap (λ p. p.number) c.give.ensures.rest) (ap (λ p. p.watches.items) c.give.ensures.rest) (ap (λ p. p.watches.items) c.probed-in-NotDue.ensures.rest)
     (gave_begins _ _ _ _ _ _ _ _ _ _ _ _ said)
-    (gave_ends _ _ _ _ _ _ _ _ _ _ _ _ said held (turn.NotDue c.in-NotDue.at) c.in-NotDue.is (λ ask is. absurd (let x : (turn.NotDue c.in-NotDue.at) ≡ turn.Ask ask = is in cc))
-    (λ is. absurd (let x : turn.NotDue c.in-NotDue.at ≡ turn.Idle = is in cc))
-    (λ at is. gave_not_due _ _ _ _ _ _ _ _ _ _ _ _ _ _ goes.lives goes.more goes.none said at (c.in-NotDue.is ∙ is)))
+    (gave_late _ _ _ _ _ _ _ _ _ _ _ _ said held c.in-NotDue.at c.in-NotDue.is
+    (gave_not_due _ _ _ _ _ _ _ _ _ _ _ _ _ _ goes.lives goes.more goes.none said c.in-NotDue.at c.in-NotDue.is))
     (c.probed-in-NotDue.ensures.ends held)

@@ -2,6 +2,7 @@ use Rattle.std.proofs.Common.{◌≡◌, List, sym, ap, ◌∙◌, subst}
 use mathlib.Core.List.{IsPrefix}
 use Rattle.ls_register.specs.Watches.{Watched}
 use Rattle.ls_register.specs.declared.told.Told.{Told}
+use Rattle.ls_told.specs.Heard.{keepalive_of}
 use Rattle.ls_told.specs.Keeping.{KeepsTold}
 use Rattle.ls_told.proofs.Watching.{keeps_seen}
 use Rattle.ls_sight.proofs.Agreeing.{sight_to}
@@ -29,4 +30,5 @@ invariant_of-self g c =
           c.show.new.reader.list c.self.invariant.2 (ap (λ v. v.number) c.self.view_is)
           (subst (λ (h : List Told). IsPrefix t.lines.list h) (ap (λ h. h.list) first.same) second.beginning) c.requires.few told
           (ap (λ h. h.table) lines ∙ sym table) (ap (λ h. h.list) lines) (ap (λ h. h.list) later),
+      c.keepalive-self-inside.ensures ∙ sym (ap (λ h. keepalive_of h.list) lines),
     )

@@ -11,4 +11,5 @@ invariant_of-self g c =
       c.self.invariant.1,
       sight_placed g.N.House.deed.config c.self.inside.place c.show_place.new.place _ c.self.invariant.2 (ap (λ p. p.at) whole)
           (subst (λ (l : List Made). IsPrefix c.self.inside.place.list l) (sym (ap (λ p. p.list) whole)) c.show_place.ensures.begins),
+      c.self.invariant.3,
     )

@@ -22,4 +22,5 @@ invariant_of-self g c =
       c.self.invariant.1,
       subst (λ (ws : List Watched). IsSight config t.place (record seen { watches = ws })) (sym c.are_one.ensures.same.1)
           (sight_sees config t.place seen c.add_copies-added.new.others.items c.self.invariant.2 c.add_copies-added.ensures.more c.all_fit.ensures),
+      c.self.invariant.3,
     )
