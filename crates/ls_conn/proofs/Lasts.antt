@@ -1,9 +1,14 @@
 -- The last member of a list.
-use Rattle.std.proofs.Common.{◌≡◌, ◌<◌, ◌↔◌, ℕ, List, [], ◌∷◌, ◌++◌, length, refl, sym, ap, subst, ◌∙◌, append-nil, arith}
+use Rattle.std.proofs.Common.{◌≡◌, ◌<◌, ◌↔◌, ℕ, List, [], ◌∷◌, ◌++◌, inl, inr, length, refl, sym, ap, subst, ◌∙◌, append-nil, arith}
 use Rattle.std.proofs.Common.{true, false, Option, None, Some, IsSome, MatchOption}
 use Rattle.std.specs.Option.{option_to_list}
+use Rattle.ls_told.specs.Heard.{counts_as}
 use Rattle.ls_told.specs.Seen.{Testified}
-use Rattle.ls_conn.specs.Lasting.{HasLast, LastBecomes}
+use Rattle.ls_told.specs.Turns.{IsUnbound}
+use Rattle.ls_session.specs.declared.session.Lost.{Lost}
+use Rattle.ls_session.specs.declared.session.Lost.TheVariants as lost
+use Rattle.ls_shared.specs.Answers.{Loses}
+use Rattle.ls_conn.specs.Lasting.{HasLast, IsLost, IsLostAt, LastBecomes}
 
 head_is : (x y : Testified) (xs ys : List Testified) → x ∷ xs ≡ y ∷ ys → x ≡ y
 head_is x y xs ys e = cc
@@ -42,3 +47,13 @@ popped ts front count None are some is =
     let none : ts ≡ [] = none_there ts count some is in
     (none, sym (append-nil front) ∙ sym are ∙ none)
 popped ts front count (Some t) are some is = are
+
+-- a stream that was lost at a tick is lost
+lost_by : (epoch now : ℕ) (t u : Testified) (how : Lost) → u.number ≡ t.number → Loses epoch now t u how → IsLost epoch u
+lost_by epoch now t u lost.Unbound same p = inl (counts_as now p.0, p.0, p.2)
+lost_by epoch now t u (lost.Superseded e) same p = inr (inl (e, p.0, p.1))
+lost_by epoch now t u lost.NotBound same p = inr (inr (subst (λ (n : ℕ). IsUnbound n u.later) (sym same) p.0))
+
+pub last_lost : (epoch now : ℕ) (ts us : List Testified) → LastBecomes ts us (IsLostAt epoch now) → HasLast us (IsLost epoch)
+last_lost epoch now ts us b =
+    record { front = b.front; last = b.after; are = b.are; holds = lost_by epoch now b.before b.after b.holds.1 b.holds.0 b.holds.2 }

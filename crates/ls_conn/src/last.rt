@@ -4,7 +4,7 @@ ghost use Rattle.ls_value.specs.declared.limits.TheConstants.{GREATEST_TICK};
 ghost use Rattle.ls_outside.specs.Causes.{Rose};
 ghost use Rattle.ls_told.specs.Requests.{HasBound, OnlyLater};
 ghost use Rattle.ls_conn.specs.Streaming.{Streamed};
-ghost use Rattle.ls_conn.specs.Lasting.{HasLast, LastBecomes};
+ghost use Rattle.ls_conn.specs.Lasting.{HasLast, IsLostAt, LastBecomes};
 
 use crate::report::{StreamEnd, StreamReport};
 use crate::seen::Seen;
@@ -60,6 +60,7 @@ pub fn lose_last<N: House, R: Wait>(
     requires tick { now ≤ GREATEST_TICK }
     requires last { HasLast seen.old (λ t. HasBound epoch t.lines) }
     ensures last { LastBecomes seen.old seen.new OnlyLater }
+    ensures lost { LastBecomes seen.old seen.new (IsLostAt epoch now) }
 {
     let tokens = &mut seen.tokens;
     let Some(mut token) = tokens.pop() else {

@@ -10,7 +10,8 @@ use Rattle.ls_told.specs.Turns.{HasEnded, IsSpent, IsUnbound}
 use Rattle.ls_conn.specs.declared.report.StreamEnd.{StreamEnd}
 use Rattle.ls_conn.specs.declared.report.StreamEnd.TheVariants as stream
 use Rattle.ls_conn.specs.Streaming.{AreGiven, EndsBy, NoneLoops, lines_of}
-use Rattle.ls_conn.specs.Lasting.{LastBecomes, OpenedOne}
+use Rattle.ls_conn.specs.Lasting.{HasLast, IsLost, LastBecomes, OpenedOne}
+use Rattle.ls_conn.proofs.Lasts.{last_holds}
 use Rattle.ls_conn.proofs.Given.{lines_see, number_sees}
 use Rattle.ls_conn.specs.declared.acted.Acted.{Acted}
 use Rattle.ls_conn.specs.declared.acted.Acted.TheVariants as acted
@@ -18,7 +19,7 @@ use Rattle.ls_conn.specs.Acting.{Acts, Known}
 use Rattle.ls_register.specs.Deeds.{Deed}
 use Rattle.ls_conn_http.specs.Bodies.{Grows, IsStream, IsStreamOf, OpeningReply, answer_text, asked, is_own_end}
 use Rattle.ls_conn_http.proofs.Answering.{replies_as, replies_by}
-use Rattle.ls_conn_http.specs.Opening.{SentOver, conn_end, is_put}
+use Rattle.ls_conn_http.specs.Opening.{SentOver, conn_end, is_put, loses}
 use Rattle.ls_conn.specs.declared.ended.ConnEnd.{ConnEnd}
 use Rattle.ls_conn.specs.declared.ended.ConnEnd.TheVariants as end
 use Rattle.ls_conn_http.specs.Replying.{RepliesBy, WritesReply}
@@ -84,8 +85,8 @@ after_loss u us vs are (inr b) =
 
 -- the text of a stream is that of its session
 pub stream_is : (e : StreamEnd) (w whole : Bool) (epoch : ℕ) (held held2 : Option (List ℕ)) (t u v : Testified) → t.mine ≡ [] → (s : SentOver e whole epoch stream_head held held2 t u)
-    → SeenOf u v → (w ≡ true → is_own_end e ≡ true) → IsStream w epoch v (stream_head ++ lines_of s.texts)
-stream_is e w whole epoch held held2 t u v none s seen own =
+    → SeenOf u v → (w ≡ true → is_own_end e ≡ true) → (loses e ≡ true → IsLost epoch v) → IsStream w epoch v (stream_head ++ lines_of s.texts)
+stream_is e w whole epoch held held2 t u v none s seen own lost =
     record {
       texts = s.texts;
       given = subst (λ (es : List Told). AreGiven es epoch v.mine s.texts) (sym seen.lines)
@@ -94,6 +95,7 @@ stream_is e w whole epoch held held2 t u v none s seen own =
       ending = e;
       ends = ends_later e epoch u v s.texts seen.number seen.lines s.ends;
       own = own;
+      lost = lost;
     }
 
 -- what was written of a text that is this reply, by how a stream ended
@@ -111,9 +113,9 @@ by_end stream.Spent true held held2 P text written appends part all left is = (t
 by_end stream.NoMemory true held held2 P text written appends part all left is = inr (text, written, is false (λ b. absurd (let f : false ≡ true = b in cc)), part, appends)
 
 pub stream_replies : (e : StreamEnd) (whole : Bool) (session epoch : ℕ) (head : List ℕ) (held held2 : Option (List ℕ)) (ts us vs : List Testified) → head ≡ stream_head
-    → OpenedOne session epoch ts → LastBecomes ts us (SentOver e whole epoch head held held2) → (vs ≡ us) ⊎ LastBecomes us vs OnlyLater → (e ≡ stream.PeerLeft → ⊥)
+    → OpenedOne session epoch ts → LastBecomes ts us (SentOver e whole epoch head held held2) → (vs ≡ us) ⊎ LastBecomes us vs OnlyLater → (loses e ≡ true → HasLast vs (IsLost epoch)) → (e ≡ stream.PeerLeft → ⊥)
     → RepliesBy (conn_end e whole) held held2 (IsStreamOf session epoch ts vs)
-stream_replies e whole session epoch head held held2 ts us vs is o b loss left =
+stream_replies e whole session epoch head held held2 ts us vs is o b loss gone left =
     sent (subst (λ (h : List ℕ). LastBecomes ts us (SentOver e whole epoch h held held2)) is b)
   where
     sent : LastBecomes ts us (SentOver e whole epoch stream_head held held2) → RepliesBy (conn_end e whole) held held2 (IsStreamOf session epoch ts vs)
@@ -130,7 +132,7 @@ stream_replies e whole session epoch head held held2 ts us vs is o b loss left =
           are = a.are;
           number = a.same.number ∙ number_sees o.t b.after s.sees ∙ sym o.number;
           longer = subst (λ (es : List Told). IsPrefix o.t.lines es) (sym a.same.lines) (lines_see o.t b.after s.sees);
-          stream = stream_is e w whole epoch held held2 o.t b.after a.v o.mine s a.same own;
+          stream = stream_is e w whole epoch held held2 o.t b.after a.v o.mine s a.same own (λ is. last_holds vs [] a.v (IsLost epoch) (gone is) a.are);
         })
 
 -- why a connection ended so, by how its stream did

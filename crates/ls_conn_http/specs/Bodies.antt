@@ -19,6 +19,8 @@ use Rattle.ls_conn.specs.Acting.{Acts, Asked, Known, SeenGrow}
 use Rattle.ls_conn.specs.Streaming.{AreGiven, EndsBy, lines_of}
 use Rattle.ls_conn.specs.declared.report.StreamEnd.{StreamEnd}
 use Rattle.ls_conn.specs.declared.report.StreamEnd.TheVariants as stream
+use Rattle.ls_conn.specs.Lasting.{IsLost}
+use Rattle.ls_conn_http.specs.Opening.{loses}
 
 -- whether a text is a line end: CR LF, or LF alone
 abbrev pub is_line_end : List ℕ → Bool
@@ -101,7 +103,7 @@ is_own_end stream.Spent = true
 is_own_end stream.NoMemory = false
 
 -- the bytes of a stream: its head, and the lines that were given on it to this caller; and why it ended, by itself where
--- it was written whole
+-- it was written whole; where it didn't end with its session's word, it is lost
 pub record IsStream (whole : Bool) (epoch : ℕ) (t : Testified) (text : List ℕ) : Type 0 where
   pub texts : List (List ℕ)
   pub given : AreGiven t.lines epoch t.mine texts
@@ -109,6 +111,7 @@ pub record IsStream (whole : Bool) (epoch : ℕ) (t : Testified) (text : List �
   pub ending : StreamEnd
   pub ends : EndsBy ending epoch t texts
   pub own : whole ≡ true → is_own_end ending ≡ true
+  pub lost : loses ending ≡ true → IsLost epoch t
 
 -- one session was seen, and then its stream was written: it is seen of it that these lines were given
 pub record IsStreamOf (session epoch : ℕ) (old new : List Testified) (whole : Bool) (text : List ℕ) : Type 0 where

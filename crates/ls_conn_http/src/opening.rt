@@ -1,11 +1,11 @@
 //! The reply to a request that opens a stream: the stream, or the line that refuses it.
-ghost use Rattle.std.specs.Prelude.{◌≡◌, ◌≤◌, ◌⊎◌, [], ℕ, false, IfOk};
+ghost use Rattle.std.specs.Prelude.{◌≡◌, ◌≤◌, ◌⊎◌, [], ℕ, false, true, IfOk};
 ghost use Rattle.std.specs.Io.KnownBytes.{Appends};
 ghost use Rattle.ls_outside.specs.Causes.{Rose};
 ghost use Rattle.ls_http.specs.Replies.{stream_head};
 ghost use Rattle.ls_told.specs.Requests.{HasBound, OnlyLater};
 ghost use Rattle.ls_conn.specs.Acting.{known};
-ghost use Rattle.ls_conn.specs.Lasting.{HasLast, LastBecomes, OpenedOne};
+ghost use Rattle.ls_conn.specs.Lasting.{HasLast, IsLost, LastBecomes, OpenedOne};
 ghost use Rattle.ls_conn_http.specs.Bodies.{IsStreamOf, OpeningReply};
 ghost use Rattle.ls_conn_http.specs.Opening.{SentOver, conn_end, loses};
 ghost use Rattle.ls_conn_http.specs.Replying.{RepliesBy};
@@ -173,6 +173,7 @@ fn lose_one<N: House, R: Wait, K: Clock>(
 )
     requires last { HasLast seen.old (λ t. HasBound epoch t.lines) }
     ensures last { LastBecomes seen.old seen.new OnlyLater }
+    ensures lost { HasLast seen.new (IsLost epoch) }
     ensures later { K.told clock.old ≤ K.told clock.new }
 {
     let now = clock.now();
@@ -191,6 +192,7 @@ fn after_stream<N: House, R: Wait, K: Clock>(
 ) -> ConnEnd
     requires last { HasLast seen.old (λ t. HasBound epoch t.lines) }
     ensures last { (seen.new ≡ seen.old) ⊎ LastBecomes seen.old seen.new OnlyLater }
+    ensures lost { loses end ≡ true → HasLast seen.new (IsLost epoch) }
     ensures later { K.told clock.old ≤ K.told clock.new }
     ensures ends { result ≡ conn_end end whole }
 {

@@ -5,6 +5,7 @@ pub mod Going
 pub mod Opened
 pub mod Replying
 pub mod Taking
+pub mod Overs
 pub mod Single
 pub mod Whole
 pub mod Counting

@@ -1,12 +1,16 @@
 //! The stream of a connection.
-ghost use Rattle.std.specs.Prelude.{◌≡◌, ◌≤◌, Ok, Some, IfOk, true};
+ghost use Rattle.std.specs.Prelude.{◌≡◌, ◌≤◌, Ok, Some, IfOk, IfSome, true, false};
 ghost use mathlib.Core.List.{IsPrefix};
+ghost use Rattle.ls_value.specs.Values.{text_eq};
 ghost use Rattle.ls_value.specs.declared.limits.TheConstants.{GREATEST_TICK};
+ghost use Rattle.ls_record.specs.Turning.{loop_text};
 ghost use Rattle.ls_talk.specs.Lines.{HasPutCause, LogsPut};
 ghost use Rattle.ls_told.specs.Requests.{HasBound};
 ghost use Rattle.ls_session.specs.declared.session.Turn.TheVariants as turn_is;
+ghost use Rattle.ls_conn.specs.Lasting.{IsLostAt};
 ghost use Rattle.ls_conn_ws.specs.Streams.{GrewFrom};
 ghost use Rattle.ls_conn_ws.specs.Giving.{CausesGiven, GaveLine, GivesOn, GivesSo, LeftSo, MayGive, PutsSo};
+ghost use Rattle.ls_conn_ws.specs.Losing.{IsOver, LosesRunning, runs_after};
 
 use ls_line::LineBuf;
 use ls_outside::Gate;
@@ -41,14 +45,16 @@ pub(crate) struct Running<N: House> {
 }
 
 impl<N: House> Model for Running<N> {
+    ghost use Rattle.std.specs.Prelude.{◌≡◌, false};
     ghost use Rattle.ls_told.specs.Requests.{HasBound};
     ghost use Rattle.ls_conn_ws.specs.Streams.{StreamState};
+    ghost use Rattle.ls_conn_ws.specs.Losing.{IsOver};
 
     ghost Value = { StreamState };
 
     ghost view = { λ r. record { told = r.told; epoch = r.epoch; runs = r.runs } };
 
-    ghost invariant = { λ r. HasBound r.epoch r.told.lines };
+    ghost invariant = { λ r. HasBound r.epoch r.told.lines × (r.runs ≡ false → IsOver r.epoch r.told) };
 }
 
 /// What a turn of a stream came to.
@@ -98,9 +104,17 @@ fn take<N: House, R: Wait, G: Gate>(
     ensures lines { IsPrefix told.old.lines told.new.lines }
     ensures sent { IfOk result (λ turn. turn ≡ turn_is.Send → GaveLine epoch told.old told.new into.new) }
     ensures rest { (result ≡ Ok turn_is.Send → ⊥) → told.new.mine ≡ told.old.mine }
+    ensures over { IfOk result (λ turn. runs_after turn ≡ false → IsOver epoch told.new) }
 {
     let session = told.session();
     shared.take(rt, session, epoch, now, told, into, gate)
+}
+
+/// Whether a line is LOOP.
+fn is_loop(text: &[u8]) -> bool
+    ensures { result ≡ text_eq text.now loop_text }
+{
+    same_bytes(text, b"LOOP,0")
 }
 
 /// Puts the line that a turn gave.
@@ -118,7 +132,9 @@ fn put_given<T: Talk>(talk: &mut T, text: &[u8]) -> Given
 
 /// What a turn that gave no line says: until when there is none, and whether the stream goes on. One whose session is
 /// spent does until the connection ends, which loses it.
-fn rest_of(turn: &Turn) -> (u64, bool) {
+fn rest_of(turn: &Turn) -> (u64, bool)
+    ensures { result.1 ≡ runs_after turn.now }
+{
     match turn {
         Turn::NotDue { at } => (*at, true),
         Turn::Send | Turn::Idle | Turn::Spent | Turn::Ask(_) => (u64::MAX, true),
@@ -147,6 +163,7 @@ fn give_line<N: House, R: Wait, T: Talk, G: Gate>(
     ensures number { told.new.number ≡ told.old.number }
     ensures lines { IsPrefix told.old.lines told.new.lines }
     ensures gives { GivesOn result.0 epoch told.old told.new (T.log talk.old) (T.log talk.new) }
+    ensures over { result.1 ≡ false → IsOver epoch told.new }
     ensures cause { CausesGiven result.0 (T.LineOut.faults talk.old) (T.LineOut.faults talk.new) }
     ensures counts { T.counts talk.new ≡ T.counts talk.old }
 {
@@ -155,7 +172,7 @@ fn give_line<N: House, R: Wait, T: Talk, G: Gate>(
     };
     match turn {
         Turn::Send => {
-            let runs = !same_bytes(into.text(), b"LOOP,0");
+            let runs = !is_loop(into.text());
             (put_given(talk, into.text()), runs)
         }
         other => {
@@ -174,6 +191,8 @@ pub(crate) fn lose<N: House, R: Wait>(
 )
     requires tick { now ≤ GREATEST_TICK }
     ensures left { LeftSo (Some running.old) (Some running.new) }
+    ensures lost { IsLostAt running.old.epoch now running.old.told running.new.told }
+    ensures over { running.new.runs ≡ false }
 {
     let epoch = running.epoch;
     shared.lose(rt, &mut running.told, epoch, now);
@@ -239,7 +258,7 @@ pub(crate) fn give_any<N: House, R: Wait, T: Talk, G: Gate>(
     }
 }
 
-/// A stream is left, where one goes on.
+/// A stream is left, where one goes on: it is lost.
 pub(crate) fn leave<N: House, R: Wait>(
     rt: &R,
     shared: &Shared<N>,
@@ -247,7 +266,9 @@ pub(crate) fn leave<N: House, R: Wait>(
     now: u64,
 )
     requires tick { now ≤ GREATEST_TICK }
-    ensures { LeftSo stream.old stream.new }
+    ensures left { LeftSo stream.old stream.new }
+    ensures lost { LosesRunning now stream.old stream.new }
+    ensures over { IfSome stream.new (λ s. s.runs ≡ false) }
 {
     if let Some(running) = stream {
         if running.runs {

@@ -1,10 +1,11 @@
 //! A WebSocket from its handshake to its end.
-ghost use Rattle.std.specs.Prelude.{◌≡◌, ◌≤◌, ◌<◌, ◌⊎◌, [], ℕ, List, None, Some, option_map};
+ghost use Rattle.std.specs.Prelude.{◌≡◌, ◌≤◌, ◌<◌, ◌⊎◌, [], ℕ, List, None, Some, IfSome, false, option_map};
 ghost use Rattle.std.specs.declared.option.Option.{Option as Optional};
 ghost use Rattle.ls_value.specs.declared.limits.TheConstants.{GREATEST_TICK};
 ghost use Rattle.ls_outside.specs.Causes.{Rose, one_more};
 ghost use Rattle.ls_talk.specs.Lines.{Counts};
 ghost use Rattle.ls_talk.specs.declared.talk.Happening.{Happening};
+ghost use Rattle.ls_told.specs.Requests.{HasBound};
 ghost use Rattle.ls_conn.specs.Acting.{Known, known};
 ghost use Rattle.ls_conn_ws.specs.Streams.{StreamState};
 ghost use Rattle.ls_conn_ws.specs.Causes.{HasCause, Rises};
@@ -13,6 +14,7 @@ ghost use Rattle.ls_talk.specs.declared.talk.Incoming.TheVariants as incoming;
 ghost use Rattle.ls_register.specs.Deeds.{Deed};
 ghost use Rattle.ls_conn_ws.specs.Answering.{heard_for};
 ghost use Rattle.ls_conn_ws.specs.Hearing.{GoesOn, HearsSo, Heeds, IsNoText, LogsBare, PutsHeard, RestsSo, Runs, RunsOn};
+ghost use Rattle.ls_conn_ws.specs.Losing.{IsOver};
 ghost use Rattle.ls_conn_ws.specs.Serving.{Served, Spoke};
 
 use crate::answering::{Desk, Replied, answer_message, put_reply};
@@ -378,7 +380,9 @@ fn all_rounds<N: House, R: Wait, T: Talk + Wakes, K: Clock, G: Gate>(
 
 /// What was seen of the session of a connection's stream, where it has one.
 fn told_by<N: House>(stream: Option<Running<N>>) -> Option<Testimony<N>>
-    ensures { result ≡ option_map (λ s. s.told) stream }
+    ensures told { result ≡ option_map (λ s. s.told) stream }
+    ensures over { IfSome stream (λ s. HasBound s.epoch s.told.lines
+        × (s.runs ≡ false → IsOver s.epoch s.told)) }
 {
     match stream {
         Some(running) => Some(running.told),
@@ -400,7 +404,7 @@ fn told_by<N: House>(stream: Option<Running<N>>) -> Option<Testimony<N>>
 /// Over a talk that tells its log, contracts say of each end what was answered and given: each message has an answer for
 /// each of its requests, in order, and those to the last one are true of what was seen of sessions and of the register;
 /// and the other lines that were put since a stream was opened are those that its session gave to it, all of them and in
-/// order.
+/// order. That stream is over: it ended by its session's word, or it is lost.
 pub fn serve_ws<N: House, R: Wait, T: Talk + Wakes, K: Clock, G: Gate>(
     rt: &R,
     alloc: Global,
@@ -411,7 +415,8 @@ pub fn serve_ws<N: House, R: Wait, T: Talk + Wakes, K: Clock, G: Gate>(
     until: u64,
 ) -> ConnReport<N>
     ensures spoke { (stream : Optional StreamState) × (result.told ≡ option_map (λ s. s.told) stream)
-        × Spoke N.deed result.end (T.log talk.old) (T.log talk.new) (known result.view result.seen) stream }
+        × Spoke N.deed result.end (T.log talk.old) (T.log talk.new) (known result.view result.seen) stream
+        × IfSome stream (λ s. HasBound s.epoch s.told.lines × IsOver s.epoch s.told) }
     ensures cause { HasCause result.end (T.counts talk.old) (T.counts talk.new)
         (T.LineOut.faults talk.old) (T.LineOut.faults talk.new) }
     ensures stopped { result.end ≡ ConnEnd.Stopped → until ≤ K.told clock.new }

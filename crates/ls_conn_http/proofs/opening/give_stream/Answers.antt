@@ -19,4 +19,4 @@ returns-clause-writes g c =
     RepliesBy e (g.C.Sink.held c.args.conn.now) (g.C.Sink.held c.over_wire-end.new.conn) (IsStreamOf c.args.session c.args.epoch c.args.seen.now c.after_stream.new.seen))
     (sym c.after_stream.ensures.ends)
     (stream_replies _ _ c.args.session c.args.epoch _ _ _ c.args.seen.now _ c.after_stream.new.seen c.in-Ok.ensures c.requires.opened c.over_wire-end.ensures.sent c.after_stream.ensures.last
-    c.over_wire-end.ensures.left)
+    c.after_stream.ensures.lost c.over_wire-end.ensures.left)

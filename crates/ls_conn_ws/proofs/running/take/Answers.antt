@@ -1,4 +1,5 @@
 use Rattle.ls_conn.proofs.Given.{bound_sees, lines_see, number_sees}
+use Rattle.ls_conn_ws.proofs.Overs.{over_after}
 use Rattle.ls_conn_ws.proofs.Taking.{rest_after, sees_after, sent_line}
 use Rattle.ls_conn_ws.proofs.running.take.Goals as goal
 
@@ -16,3 +17,7 @@ returns-clause-sent g c = sent_line _ _ _ _ _ _ _ c.take.ensures.turn
 
 pub returns-clause-rest : goal.returns-clause-rest
 returns-clause-rest g c = rest_after _ _ _ _ _ _ _ c.take.ensures.turn c.take.ensures.memory
+
+pub returns-clause-over : goal.returns-clause-over
+returns-clause-over g c =
+    over_after _ _ _ _ _ _ _ (number_sees _ _ (sees_after _ _ _ c.take.ensures.grows c.take.ensures.memory)) c.take.ensures.turn
