@@ -6,7 +6,7 @@ use Rattle.tungstenite.specs.Connection.{write_step}
 use Rattle.tungstenite.specs.Content.{text}
 use Rattle.tungstenite.specs.Socket.{Socket, socket_code, Reads, Writes, content_of, kind_of, byte_count}
 use Rattle.tungstenite.specs.declared.message.Message.{Message}
-use Rattle.tungstenite.specs.Failure.{IsIo}
+use Rattle.tungstenite.specs.Failure.{IsIo, IsOutside}
 use Rattle.tungstenite.specs.declared.error.Error.{Error}
 use Rattle.ls_talk.specs.Lines.{Counts, line_bytes}
 use Rattle.ls_talk.specs.declared.talk.TheConstants.{LONGEST_MESSAGE}
@@ -49,6 +49,19 @@ module _ {C : Type 0} where
   -- no message is there yet: the frames that were read gave none, and the socket goes on from there
   abbrev pub WaitsOf : (C → Option (List ℕ)) → Socket C → Socket C → Type 0
   WaitsOf unread old new = (e : Error) × IsIo e × Reads unread old new (Err e)
+
+  -- a read failed: the frames that were read gave no message, and this is why, neither the stream nor want of memory. So
+  -- what was read is no frame or no message, or the stream is at its end.
+  abbrev pub FailsOf : (C → Option (List ℕ)) → Socket C → Socket C → Type 0
+  FailsOf unread old new = (e : Error) × (IsOutside e → ⊥) × Reads unread old new (Err e)
+
+  -- the peer's close was read
+  abbrev pub ReadsClose : (C → Option (List ℕ)) → Socket C → Type 0
+  ReadsClose unread old = (m : Message) × (mid : Socket C) × (kind_of m ≡ 4) × Reads unread old mid (Ok m)
+
+  -- no message comes any more: a read failed, or the peer closed
+  abbrev pub ClosesOf : (C → Option (List ℕ)) → Socket C → Socket C → Type 0
+  ClosesOf unread old new = FailsOf unread old new ⊎ ReadsClose unread old
 
 -- the answer that a message has
 abbrev pub Answers : Message → Incoming → Type 0

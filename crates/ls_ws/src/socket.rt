@@ -1,15 +1,15 @@
 //! One message out, and one in, over a socket.
-ghost use Rattle.std.specs.Prelude.{◌≡◌, [], Ok, OnOk, IfOk, IfErr, IfSome};
+ghost use Rattle.std.specs.Prelude.{◌≡◌, [], Ok, None, OnOk, IfOk, IfErr, IfSome};
 ghost use Rattle.std.specs.Str.{IsUtf8};
 ghost use Rattle.std.specs.Io.KnownBytes.{append_known};
 ghost use Rattle.tungstenite.specs.Connection.{write_step};
 ghost use Rattle.tungstenite.specs.Content.{text as text_content};
-ghost use Rattle.tungstenite.specs.Socket.{Reads, Writes, content_of};
-ghost use Rattle.tungstenite.specs.Failure.{IsIo};
+ghost use Rattle.tungstenite.specs.Socket.{Reads, Writes, content_of, kind_of};
+ghost use Rattle.tungstenite.specs.Failure.{IsIo, IsOutside};
 ghost use Rattle.ls_outside.specs.Causes.{Rose};
 ghost use Rattle.ls_talk.specs.Lines.{line_bytes};
 ghost use Rattle.ls_talk.specs.Talks.{IsMessage};
-ghost use Rattle.ls_ws.specs.Wires.{Answers, IsGiven, ReadsOf, WaitsOf};
+ghost use Rattle.ls_ws.specs.Wires.{Answers, ClosesOf, FailsOf, IsGiven, ReadsOf, WaitsOf};
 
 use crate::stream::Stream;
 use ls_outside::Pipe;
@@ -35,6 +35,7 @@ pub(crate) enum Refused {
 pub(crate) fn refused_by(error: Error) -> Refused
     ensures memory { result ≡ Refused.NoMemory → error ≡ Error.OutOfMemory }
     ensures stream { result ≡ Refused.Stream → IsIo error }
+    ensures failed { result ≡ Refused.Failed → ¬ IsOutside error }
 {
     match error {
         Error::OutOfMemory => Refused::NoMemory,
@@ -91,7 +92,7 @@ pub(crate) enum Missed {
     /// None will come.
     Closed,
 
-    /// Memory was refused.
+    /// Memory was refused, or the pipe is to blame and counted nothing.
     NoMemory,
 }
 
@@ -108,6 +109,8 @@ pub(crate) fn next_message<C: Pipe + Drop>(
         → WaitsOf (λ s. C.unread s.pipe) socket.old socket.new) }
     ensures idle { IfErr result (λ why. why ≡ Missed.Idle
         → Rose (C.waits socket.old.stream.pipe) (C.waits socket.new.stream.pipe)) }
+    ensures closed { IfErr result (λ why. why ≡ Missed.Closed
+        → FailsOf (λ s. C.unread s.pipe) socket.old socket.new) }
 {
     let reads = socket.get_ref().pipe.read_faults();
     let writes = socket.get_ref().pipe.write_faults();
@@ -131,7 +134,7 @@ pub(crate) fn next_message<C: Pipe + Drop>(
             if pipe.idles() > idles {
                 Err(Missed::Idle)
             } else {
-                Err(Missed::Closed)
+                Err(Missed::NoMemory)
             }
         }
     }
@@ -142,6 +145,7 @@ pub(crate) fn answer_to(alloc: Global, message: &Message) -> Result<Option<Incom
     ensures answers { IfOk result (λ given. IfSome given (Answers message.now)) }
     ensures message { IfOk result (λ given. IfSome given IsMessage) }
     ensures given { IfOk result (λ given. IfSome given IsGiven) }
+    ensures none { IfOk result (λ given. given ≡ None → kind_of message.now ≡ 4) }
 {
     match message {
         Message::Text(text) => {
@@ -176,6 +180,8 @@ pub(crate) fn receive<C: Pipe + Drop>(
         → WaitsOf (λ s. C.unread s.pipe) socket.old socket.new) }
     ensures idle { IfErr result (λ why. why ≡ Missed.Idle
         → Rose (C.waits socket.old.stream.pipe) (C.waits socket.new.stream.pipe)) }
+    ensures closed { IfErr result (λ why. why ≡ Missed.Closed
+        → ClosesOf (λ s. C.unread s.pipe) socket.old socket.new) }
 {
     let message = match next_message(socket) {
         Ok(message) => message,

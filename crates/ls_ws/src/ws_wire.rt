@@ -9,7 +9,7 @@ ghost use Rattle.ls_talk.specs.Lines.{no_counts, no_lender, PutsOf, LogsPut, Has
 ghost use Rattle.ls_talk.specs.Talks.{IsMessage, HasMessageCause, LogsAnswer};
 ghost use Rattle.ls_talk.specs.declared.line_out.PutRefused.TheVariants as refused;
 ghost use Rattle.ls_talk.specs.declared.talk.Incoming.TheVariants as incoming;
-ghost use Rattle.ls_ws.specs.Wires.{SendsLine, ReadsOf, WaitsOf, nothing_held};
+ghost use Rattle.ls_ws.specs.Wires.{ClosesOf, SendsLine, ReadsOf, WaitsOf, nothing_held};
 
 use crate::socket::{Missed, Refused, flush, receive, send};
 use crate::stream::Stream;
@@ -189,6 +189,7 @@ impl<C: Pipe + Drop> Talk for WsWire<C> {
         ensures waits { result ≡ incoming.NotYet → WaitsOf (λ k. C.unread k.pipe) self.old.socket self.new.socket }
         ensures idle { result ≡ incoming.NotYet
             → Rose (C.waits self.old.socket.stream.pipe) (C.waits self.new.socket.stream.pipe) }
+        ensures closed { result ≡ incoming.Closed → ClosesOf (λ k. C.unread k.pipe) self.old.socket self.new.socket }
         ensures failed { result ≡ incoming.Failed
             → Rose (C.Source.faults self.old.socket.stream.pipe) (C.Source.faults self.new.socket.stream.pipe)
             ⊎ Rose (C.Sink.faults self.old.socket.stream.pipe) (C.Sink.faults self.new.socket.stream.pipe) }
