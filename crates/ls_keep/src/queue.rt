@@ -186,8 +186,13 @@ fn copied_from(bytes: &Vec<u8>, from: usize, more: usize) -> Result<Vec<u8>, NoM
     ensures { IfOk result (λ copied. copied.items ≡ drop from bytes.now.items) }
 {
     let rest = &bytes[from..];
-    let more = more.saturating_add(rest.len() / 2 + LEAST_ROOM);
-    let mut copied = Vec::with_capacity(*bytes.allocator(), rest.len().saturating_add(more))?;
+    let wanted = rest
+        .len()
+        .saturating_add(rest.len() / 4)
+        .saturating_add(more)
+        .max(LEAST_ROOM);
+    let room = wanted.checked_next_power_of_two().unwrap_or(wanted);
+    let mut copied = Vec::with_capacity(*bytes.allocator(), room)?;
     copied.extend_from_slice(rest)?;
     Ok(copied)
 }
