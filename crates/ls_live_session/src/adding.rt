@@ -37,7 +37,7 @@ use std::marker::Model;
 pub struct Adding<'a, N: House> {
     add: &'a Add,
     free: u32,
-    parts: SessionParts<N>,
+    parts: Box<SessionParts<N>>,
     plan: AddPlan,
     schema: Names,
     slots: Vec<SlotBegun>,
@@ -53,11 +53,11 @@ impl<'a, N: House> Model for Adding<'a, N> {
     ghost Value = { AddingSeen };
 
     ghost view = { λ d. record {
-      number = d.parts.number;
-      place = d.parts.place;
-      table = d.parts.history.table;
-      lines = d.parts.history.list;
-      watches = d.parts.watches.items;
+      number = d.parts.value.number;
+      place = d.parts.value.place;
+      table = d.parts.value.history.table;
+      lines = d.parts.value.history.list;
+      watches = d.parts.value.watches.items;
       add = d.add.now;
       free = d.free;
       items = map (λ (p : PlanItem). p.item) d.plan.items.items;
@@ -71,10 +71,10 @@ impl<'a, N: House> Model for Adding<'a, N> {
     ghost use Rattle.ls_joining.specs.Adding.{IsAdding};
     ghost use Rattle.ls_live_session.specs.Adding.{MayBegin};
 
-    ghost invariant = { λ d. ((r : Record) × IsAdding N.deed.config d.parts.number d.parts.history.list
-        d.parts.watches.items d.parts.subs.items d.parts.session d.add.now d.free d.plan d.seats.items d.numbers.items r)
-        × IfSome d.parts.place (λ p. ShowsIt p d.parts.number d.parts.history.table)
-        × (vec_len d.parts.subs + 1 ≤ vec_capacity d.parts.subs)
+    ghost invariant = { λ d. ((r : Record) × IsAdding N.deed.config d.parts.value.number d.parts.value.history.list
+        d.parts.value.watches.items d.parts.value.subs.items d.parts.value.session d.add.now d.free d.plan d.seats.items d.numbers.items r)
+        × IfSome d.parts.value.place (λ p. ShowsIt p d.parts.value.number d.parts.value.history.table)
+        × (vec_len d.parts.value.subs + 1 ≤ vec_capacity d.parts.value.subs)
         × MayBegin d.add.now (length d.plan.items.items) d.schema d.slots.items (vec_len d.slots) (vec_capacity d.slots) };
 }
 
@@ -124,7 +124,7 @@ impl<N: House> LiveSession<N> {
         ensures same { IfErr result (λ e. e.session ≡ self) }
     {
         let LiveSession { mut parts } = self;
-        match prepare_in(&mut parts, add, config, free, spent) {
+        match prepare_in(&mut *parts, add, config, free, spent) {
             Ok(prepared) => {
                 let alloc = parts.alloc;
                 let Prepared {
@@ -193,7 +193,7 @@ impl<'a, N: House> Adding<'a, N> {
             numbers,
             ..
         } = self;
-        join_next(parts, plan, seats, numbers, register, item, book)
+        join_next(&mut *parts, plan, seats, numbers, register, item, book)
     }
 
     /// The sight watches each item that the session watches by now, as [`LiveSession::show_items`] has it.
@@ -239,7 +239,7 @@ impl<'a, N: House> Adding<'a, N> {
             seats,
             numbers,
         } = self;
-        finish_in(&mut parts, plan, schema, slots, seats, &numbers, now);
+        finish_in(&mut *parts, plan, schema, slots, seats, &numbers, now);
         LiveSession { parts }
     }
 

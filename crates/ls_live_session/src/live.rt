@@ -31,7 +31,7 @@ use std::sync::Arc;
 /// which is lawful on what was seen of the items.
 #[derive(Drop)]
 pub struct LiveSession<N: House> {
-    pub(crate) parts: SessionParts<N>,
+    pub(crate) parts: Box<SessionParts<N>>,
 }
 
 impl<N: House> Model for LiveSession<N> {
@@ -44,16 +44,16 @@ impl<N: House> Model for LiveSession<N> {
     ghost use Rattle.ls_taking.specs.Lives.{Lives};
 
     ghost view = { λ s. record {
-      number = s.parts.number;
-      place = s.parts.place;
-      table = s.parts.history.table;
-      lines = s.parts.history.list;
-      watches = s.parts.watches.items;
+      number = s.parts.value.number;
+      place = s.parts.value.place;
+      table = s.parts.value.history.table;
+      lines = s.parts.value.history.list;
+      watches = s.parts.value.watches.items;
     } };
 
     ghost invariant = { λ s.
-        Lives N.deed.config s.parts.number s.parts.history.list s.parts.watches.items s.parts.subs.items s.parts.session
-        × IfSome s.parts.place (λ p. ShowsIt p s.parts.number s.parts.history.table) };
+        Lives N.deed.config s.parts.value.number s.parts.value.history.list s.parts.value.watches.items s.parts.value.subs.items s.parts.value.session
+        × IfSome s.parts.value.place (λ p. ShowsIt p s.parts.value.number s.parts.value.history.table) };
 }
 
 impl<N: House> LiveSession<N> {
@@ -90,17 +90,18 @@ impl<N: House> LiveSession<N> {
         };
         history.tell(&rate);
         history.tell(&bound);
+        let parts = SessionParts {
+            alloc,
+            number,
+            session,
+            history,
+            place: None,
+            watches: Vec::new(alloc),
+            subs: Vec::new(alloc),
+            bell,
+        };
         Ok(LiveSession {
-            parts: SessionParts {
-                alloc,
-                number,
-                session,
-                history,
-                place: None,
-                watches: Vec::new(alloc),
-                subs: Vec::new(alloc),
-                bell,
-            },
+            parts: Box::new(alloc, parts)?,
         })
     }
 
@@ -122,12 +123,12 @@ impl<N: House> LiveSession<N> {
     }
 
     /// The session in parts, for which it stands for a record.
-    pub fn into_parts(self) -> SessionParts<N>
-        ensures number { result.number ≡ self.number }
-        ensures place { result.place ≡ self.place }
-        ensures history { (result.history.table ≡ self.table) × (result.history.list ≡ self.lines) }
-        ensures watches { result.watches.items ≡ self.watches }
-        ensures lives { Lives N.deed.config self.number self.lines self.watches result.subs.items result.session }
+    pub fn into_parts(self) -> Box<SessionParts<N>>
+        ensures number { result.value.number ≡ self.number }
+        ensures place { result.value.place ≡ self.place }
+        ensures history { (result.value.history.table ≡ self.table) × (result.value.history.list ≡ self.lines) }
+        ensures watches { result.value.watches.items ≡ self.watches }
+        ensures lives { Lives N.deed.config self.number self.lines self.watches result.value.subs.items result.value.session }
         ensures shows { IfSome self.place (λ p. ShowsIt p self.number self.table) }
     {
         let LiveSession { parts } = self;
@@ -135,15 +136,15 @@ impl<N: House> LiveSession<N> {
     }
 
     /// The session of parts that stand for a record.
-    pub fn of_parts(parts: SessionParts<N>) -> LiveSession<N>
-        requires lives { Lives N.deed.config parts.number parts.history.list parts.watches.items parts.subs.items parts.session }
-        requires shows { IfSome parts.place (λ p. ShowsIt p parts.number parts.history.table) }
+    pub fn of_parts(parts: Box<SessionParts<N>>) -> LiveSession<N>
+        requires lives { Lives N.deed.config parts.value.number parts.value.history.list parts.value.watches.items parts.value.subs.items parts.value.session }
+        requires shows { IfSome parts.value.place (λ p. ShowsIt p parts.value.number parts.value.history.table) }
         ensures { result ≡ record {
-          number = parts.number;
-          place = parts.place;
-          table = parts.history.table;
-          lines = parts.history.list;
-          watches = parts.watches.items;
+          number = parts.value.number;
+          place = parts.value.place;
+          table = parts.value.history.table;
+          lines = parts.value.history.list;
+          watches = parts.value.watches.items;
         } }
     {
         LiveSession { parts }

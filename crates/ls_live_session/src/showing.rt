@@ -28,7 +28,7 @@ impl<N: House> LiveSession<N> {
         let start = SightStart::new(alloc)?;
         let watches = copies(alloc, register, &mut self.parts.watches)?;
         let bell = Arc::try_clone(&self.parts.bell)?;
-        Ok(sight_of(&mut self.parts, register, start, watches, bell))
+        Ok(sight_of(&mut *self.parts, register, start, watches, bell))
     }
 
     /// The same of a session that watches no item yet, in memory that was taken before; `bell` is the session's.
@@ -45,7 +45,7 @@ impl<N: House> LiveSession<N> {
         ensures same { self.new ≡ self.old }
         ensures sight { ShowsAll self.old result × (result.mine ≡ []) }
     {
-        sight_of(&mut self.parts, register, start, Vec::new(alloc), bell)
+        sight_of(&mut *self.parts, register, start, Vec::new(alloc), bell)
     }
 
     /// Whether the sight is of this session, by their places in the register. A session without a place has none. It

@@ -90,7 +90,7 @@ impl<N: House> Shared<N> {
         };
         sight.vouch();
         let mut parts = live.into_parts();
-        let turn = self.turns(rt, &mut parts, epoch, now, into);
+        let turn = self.turns(rt, &mut *parts, epoch, now, into);
         let mut live = LiveSession::of_parts(parts);
         let Ok(()) = self.reach(rt, &mut live, sight) else {
             return (live, Err(NoMemory));

@@ -14,7 +14,7 @@ returns-then-is_alive-clause-overdue g c is =
     subst (λ (v : Speaking). IsOverdue (counts_as c.args.now v.lines) (heard v.number v.lines)) c.self.view_is (record {
       since = late.0;
       alive = sym (ap (λ (p : Spoken). p.life) l.told.told)
-          ∙ alive_is r.session.life (sym (c.is_alive.ensures r l.stands) ∙ c.if-is_alive.true);
-      unbound = sym (ap (λ (p : Spoken). p.unbound) l.told.told) ∙ (sym (c.since-since.ensures r l.stands) ∙ late.1);
-      late = omega (arith, late.2, c.tick-tick.ensures.tick);
+          ∙ alive_is r.session.life (sym (c.is_alive.ensures r (rw c.deref-3.ensures l.stands)) ∙ c.if-is_alive.true);
+      unbound = sym (ap (λ (p : Spoken). p.unbound) l.told.told) ∙ (sym (c.since-since.ensures r (rw c.deref-2.ensures l.stands)) ∙ late.1);
+      late = omega (arith, late.2, rw c.deref.ensures at c.tick-tick.ensures.tick);
     })

@@ -7,4 +7,4 @@ pub returns-clause-not_bound : goal.returns-clause-not_bound
 returns-clause-not_bound g c is =
     subst (λ (v : Speaking). ((x : ℕ) × ((heard v.number v.lines).unbound ≡ Some x)) × (c.lose.new.self.history.list ≡ v.lines)
     × (nat_lt c.args.epoch (length (heard v.number v.lines).streams) ≡ false))
-    c.self.view_is (c.lose.ensures.not_bound is)
+    c.self.view_is (rw c.deref_mut.ensures.value at (c.lose.ensures.not_bound is))
