@@ -1,10 +1,13 @@
 //! A door whose visitors come by a list, over whatever pipes.
 ghost use Rattle.std.specs.Prelude.{◌≡◌};
 
+use ls_bell::Bell;
 use ls_door::{Door, Heard, Visit};
 use ls_outside::Pipe;
 use ls_wake::Wakes;
+use std::alloc::Global;
 use std::marker::Send;
+use std::sync::Arc;
 use std::vec::IntoIter;
 
 /// A door whose calls of `accept` answer by a list, and past its end `Idle`. It listens on the ports that are asked for.
@@ -68,5 +71,10 @@ impl<C: Pipe + Wakes + Send + Drop + 'static> Door for ListDoor<C> {
             Visit::Failed => self.faults = self.faults.saturating_add(1),
         }
         answer
+    }
+
+    /// Nobody rings: who waits for visitors has to look again.
+    fn wake_with(&self, _bell: &Arc<Bell, Global>) -> bool {
+        false
     }
 }

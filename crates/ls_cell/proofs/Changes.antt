@@ -2,9 +2,11 @@
 use Rattle.std.proofs.Common.{◌≡◌, ℕ, zero, suc, ◌+◌, ◌-◌, ◌≤◌, ◌<◌, List, [], ◌∷◌, ◌++◌, length, Option, None, Some}
 use Rattle.std.proofs.Common.{IsSome, set, get_or, drop, refl, sym, ◌∙◌, subst, arith, ap, Bool, true, false, cond}
 use Rattle.std.proofs.Common.{option_and_then, is_some}
+use Rattle.std.proofs.lemmas.Bool.{lt-leb}
 use Rattle.std.proofs.lemmas.List.{set-get_or, set-set, get_or-set_same, get_or-set_other}
 use Rattle.ls_event.specs.declared.event.Entry.{Entry}
 use Rattle.ls_event.specs.Slots.{Slot}
+use Rattle.ls_event.specs.declared.limits.TheConstants.{MOST_LAG}
 use Rattle.ls_cell.specs.Numbered.{slot_at, set_slot, free_number, put_slot, live_slots, IsAt, EachSlot, lags}
 use Rattle.ls_cell.specs.Numbered.{first_lagging, StandsAt, StandsAll}
 
@@ -156,6 +158,16 @@ length_put (Some a ∷ bs) b zero long free = absurd (omega (arith, long))
 length_put (Some a ∷ bs) b (suc most) long free =
     omega (arith, length_put bs b most (omega (arith, long)) (omega (arith, free)))
 
+-- what follows for each buffer follows for a slot
+pub at_weaker : {B : Type 0} (P Q : B → Type 0) → ((b : B) → P b → Q b) → (o : Option B) → IsAt P o → IsAt Q o
+at_weaker P Q weaker None at = tt
+at_weaker P Q weaker (Some b) at = weaker b at
+
+-- and for all slots
+pub each_weaker : {B : Type 0} (P Q : B → Type 0) → ((b : B) → P b → Q b) → (bs : List (Option B)) → EachSlot P bs → EachSlot Q bs
+each_weaker P Q weaker [] each = tt
+each_weaker P Q weaker (b ∷ bs) each = (at_weaker P Q weaker b each.0, each_weaker P Q weaker bs each.1)
+
 module _ {B : Type 0} (P : B → Type 0) where
   -- what is true of each slot is true of one
   pub each_at : (bs : List (Option B)) (i : ℕ) → EachSlot P bs → IsAt P (get_or bs i None)
@@ -267,6 +279,14 @@ none_lags last number n b bs none = by_lag (lags last number b) refl none
         → NoneLags last number n b bs
     by_lag true is h = cc
     by_lag false is h = record { first = is; rest = h }
+
+-- none lags while the least last number lags by less
+pub none_lagging : {B : Type 0} (last : B → ℕ) (bs : List (Option B)) (least number n : ℕ) → EachSlot (λ b. least ≤ last b) bs
+    → number < least + MOST_LAG → first_lagging last number n bs ≡ None
+none_lagging last [] least number n each low = refl
+none_lagging last (None ∷ bs) least number n each low = none_lagging last bs least number (n + 1) each.1 low
+none_lagging last (Some b ∷ bs) least number n each low =
+    rw (lt-leb (last b + MOST_LAG) number (omega (arith, each.0, low))) (none_lagging last bs least number (n + 1) each.1 low)
 
 -- there is an element where something of it is
 pub some_of : {A C : Type 0} (f : A → Option C) (o : Option A) → IsSome (option_and_then f o) → IsSome o

@@ -2,6 +2,7 @@ pub mod Changes
 pub mod Passing
 pub mod Tails
 pub mod Grown
+pub mod Least
 pub mod Memory
 pub mod Refusals
 pub mod Recorded

@@ -222,6 +222,7 @@ impl ItemCell {
         keep(&mut self.item, &mut self.tail, self.number + 1, event)?;
         self.seqs[adapter as usize] = seq;
         self.number += 1;
+        self.slots.settle(self.number);
         Ok(())
     }
 

@@ -1,6 +1,6 @@
 //! Slots by number.
 ghost use Rattle.std.specs.Prelude.{◌≡◌, ◌+◌, ◌-◌, ◌<◌, ◌≤◌, ◌^◌, ℕ, List, [], Option, None, Some, IfOk, OnOk, OnErr};
-ghost use Rattle.std.specs.Prelude.{IsSome, length, option_and_then, is_some, false};
+ghost use Rattle.std.specs.Prelude.{IsSome, IsTrue, length, option_and_then, is_some, false};
 ghost use Rattle.std.specs.Option.{ForSome, option_map_or};
 ghost use Rattle.ls_event.specs.declared.event.Entry.{Entry};
 ghost use Rattle.ls_event.specs.declared.event.Taken.{Taken as ATaken};
@@ -25,18 +25,21 @@ use std::marker::Model;
 ///
 /// `live` is how many are live, so that no call has to count them. No slot at an index below `first` is free, so that a
 /// slot that joins looks for its number from there on: one step where slots join in a row, and after some have left
-/// the steps from the least of these.
+/// the steps from the least of these. No live slot has a last number below `least`, so that no slot is looked at while that
+/// one lags by less than [`MOST_LAG`].
 #[derive(Drop)]
 pub struct Slots {
     slots: Vec<Option<AnyBuffer>>,
     live: u32,
     first: usize,
+    least: u64,
 }
 
 impl Model for Slots {
     ghost use Rattle.std.specs.Prelude.{List, Option, ◌≡◌, ◌<◌, ◌≤◌, length};
     ghost use Rattle.ls_cell.specs.declared.any.AnyBuffer.{AnyBuffer as ABuffer};
-    ghost use Rattle.ls_cell.specs.Numbered.{live_slots, free_number};
+    ghost use Rattle.ls_cell.specs.Any.{any_last};
+    ghost use Rattle.ls_cell.specs.Numbered.{live_slots, free_number, EachSlot};
     ghost use Rattle.ls_event.specs.declared.limits.TheConstants.{MOST_SLOTS};
 
     ghost Value = { List (Option ABuffer) };
@@ -44,7 +47,7 @@ impl Model for Slots {
     ghost view = { λ t. t.slots.items };
 
     ghost invariant = { λ t. (length t.slots.items ≤ MOST_SLOTS) × (t.live ≡ live_slots t.slots.items)
-        × (t.first < free_number t.slots.items) };
+        × (t.first < free_number t.slots.items) × EachSlot (λ b. t.least ≤ any_last b) t.slots.items };
 }
 
 impl Slots {
@@ -56,6 +59,7 @@ impl Slots {
             slots: Vec::new(alloc),
             live: 0,
             first: 0,
+            least: 0,
         }
     }
 
@@ -144,7 +148,21 @@ impl Slots {
     pub fn lagging(&self, number: u64) -> Option<u32>
         ensures { result ≡ first_lagging any_last number 1 self.now }
     {
-        first_lagging(&self.slots, number)
+        if keeps_up(self.least, number) {
+            None
+        } else {
+            first_lagging(&self.slots, number)
+        }
+    }
+
+    /// Looks at all slots, where one may lag by [`MOST_LAG`] behind so many events, so that `lagging` need not look at any
+    /// until the slowest of them may lag so.
+    pub fn settle(&mut self, number: u64)
+        ensures { self.new ≡ self.old }
+    {
+        if !keeps_up(self.least, number) {
+            self.least = least_last(&self.slots, number);
+        }
     }
 
     /// Drops a live slot.
@@ -167,7 +185,9 @@ impl Slots {
         ensures err { OnErr result (self.new ≡ self.old) }
     {
         let index = free_from(&self.slots, self.first);
+        let last = buffer.last();
         put(&mut self.slots, index, buffer)?;
+        self.least = self.least.min(last);
         self.live += 1;
         self.first = index + 1;
         Ok(index as u32 + 1)
@@ -258,6 +278,35 @@ fn pass_at(slot: &mut Option<AnyBuffer>)
     match slot {
         None => unreachable!(),
         Some(buffer) => Buffer::pass(buffer),
+    }
+}
+
+/// Whether a slot with this last number lags by less than [`MOST_LAG`] behind so many events.
+fn keeps_up(last: u64, number: u64) -> bool
+    ensures { IsTrue result → number < last + MOST_LAG }
+{
+    number < MOST_LAG || number - MOST_LAG < last
+}
+
+/// The least number that was enqueued last into a slot, and no greater one than `most`.
+fn least_last(slots: &[Option<AnyBuffer>], most: u64) -> u64
+    ensures { EachSlot (λ b. result ≤ any_last b) slots.now }
+{
+    let mut least = most;
+    for i in 0..slots.len() {
+        least = least_of(&slots[i], least);
+    }
+    least
+}
+
+/// The lesser one of a slot's last number, if there is one, and another number.
+fn least_of(slot: &Option<AnyBuffer>, other: u64) -> u64
+    ensures slot { IsAt (λ b. result ≤ any_last b) slot.now }
+    ensures other { result ≤ other }
+{
+    match slot {
+        None => other,
+        Some(buffer) => other.min(buffer.last()),
     }
 }
 

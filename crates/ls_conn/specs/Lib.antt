@@ -1,3 +1,4 @@
 pub mod Streaming
 pub mod Acting
 pub mod Lasting
+pub mod Answers

@@ -15,6 +15,7 @@ pub use acted::Acted;
 pub use acting::{STARVED, act};
 pub use ended::{ConnEnd, ConnReport, MOST_IDLES};
 pub use last::{lose_last, stream_last};
+pub use ls_shared::{PublishRefused, Shared, Testimony, Turn};
 pub use report::{StreamEnd, StreamReport};
 pub use seen::Seen;
 pub use streaming::stream;

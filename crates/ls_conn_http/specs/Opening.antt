@@ -3,7 +3,7 @@ use Rattle.std.specs.Prelude.{◌≡◌, ℕ, List, ◌++◌, Bool, true, false,
 use Rattle.std.specs.Io.KnownBytes.{Appends}
 use mathlib.Core.List.{IsPrefix}
 use Rattle.ls_told.specs.Seen.{Testified}
-use Rattle.ls_shared.specs.Answers.{SeesOn}
+use Rattle.ls_conn.specs.Answers.{SeesOn}
 use Rattle.ls_conn.specs.declared.report.StreamEnd.{StreamEnd}
 use Rattle.ls_conn.specs.declared.report.StreamEnd.TheVariants as stream
 use Rattle.ls_conn.specs.Streaming.{AreGiven, EndsBy, lines_of}

@@ -20,7 +20,8 @@ use std::sync::Wait;
 /// How many bytes are read at once, at most. A stream holds the room of one read, so it is no larger than most requests.
 const PIECE: usize = 1024;
 
-/// How many ms are waited where no byte is there yet.
+/// How many ms are waited at most where no byte is there yet. The first time it is one, and each time one more, since most
+/// requests come whole soon after their client.
 const PAUSE: u64 = 10;
 
 /// The bytes of a request that came, and how many reads found none.
@@ -62,7 +63,7 @@ fn idle<K: Clock>(clock: &mut K, idles: &mut u64) -> Result<(), ConnEnd>
     if *idles == MOST_IDLES {
         return Err(ConnEnd::TooSlow);
     }
-    clock.wait(PAUSE);
+    clock.wait(PAUSE.min(*idles));
     Ok(())
 }
 

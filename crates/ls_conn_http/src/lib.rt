@@ -18,5 +18,5 @@ mod opening;
 mod replying;
 mod serving;
 
-pub use ls_conn::{ConnEnd, ConnReport, MOST_IDLES};
+pub use ls_conn::{ConnEnd, ConnReport, MOST_IDLES, Shared};
 pub use serving::serve_one;

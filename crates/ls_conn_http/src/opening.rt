@@ -11,12 +11,11 @@ ghost use Rattle.ls_conn_http.specs.Opening.{SentOver, conn_end, loses};
 ghost use Rattle.ls_conn_http.specs.Replying.{RepliesBy};
 
 use crate::replying::reply_line;
-use ls_conn::{Acted, ConnEnd, Seen, StreamEnd, act, lose_last, stream_last};
+use ls_conn::{Acted, ConnEnd, Seen, Shared, StreamEnd, act, lose_last, stream_last};
 use ls_http::append_stream_head;
 use ls_outside::{Clock, Gate, Pipe};
 use ls_register::{House, View};
 use ls_request::LinkKind;
-use ls_shared::Shared;
 use ls_value::NoMemory;
 use ls_wire::{HttpWire, ROOM, Unsent};
 use std::alloc::Global;

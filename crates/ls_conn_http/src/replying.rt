@@ -13,13 +13,12 @@ ghost use Rattle.ls_conn_http.specs.Replying.{Answered, RepliesBy, WritesRefusal
 ghost use Rattle.ls_http.specs.Replies.{answer_head, refusal_text};
 
 use crate::bodies::first_line;
-use ls_conn::{Acted, ConnEnd, Seen, act};
+use ls_conn::{Acted, ConnEnd, Seen, Shared, act};
 use ls_http::{append_answer_head, append_refusal};
 use ls_line::{Line, into_text};
 use ls_outside::{Clock, Put, Sink, write_all};
 use ls_register::{House, View};
 use ls_request::LinkKind;
-use ls_shared::Shared;
 use ls_value::{Bytes, NoMemory, Text};
 use std::alloc::Global;
 use std::sync::Wait;

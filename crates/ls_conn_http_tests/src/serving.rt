@@ -3,11 +3,10 @@ ghost use Rattle.std.specs.Prelude.{◌≡◌, true};
 ghost use Rattle.ls_config.specs.Items.{are_items};
 
 use ls_config::{Config, read as read_config};
-use ls_conn_http::{ConnEnd, serve_one};
+use ls_conn_http::{ConnEnd, Shared, serve_one};
 use ls_feed::serve_feed;
 use ls_outside::{Call, MemClock, MemPipe, MemSink, MemSource, OpenGate};
 use ls_register::{Blank, House};
-use ls_shared::Shared;
 use std::alloc::{AllocError, Global};
 use std::marker::Brand;
 use std::sync::Wait;

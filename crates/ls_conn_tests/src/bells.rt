@@ -4,12 +4,11 @@ ghost use Rattle.ls_config.specs.Items.{are_items};
 
 use crate::guest::Guest;
 use ls_config::{Config, read};
-use ls_conn::{Acted, Seen, StreamEnd, act};
+use ls_conn::{Acted, Seen, Shared, StreamEnd, act};
 use ls_net::SysClock;
 use ls_outside::Clock;
 use ls_register::{Blank, House};
 use ls_request::LinkKind;
-use ls_shared::Shared;
 use ls_talk::PlainLines;
 use ls_value::same_bytes;
 use std::alloc::Global;

@@ -4,11 +4,10 @@ ghost use Rattle.ls_value.specs.declared.limits.TheConstants.{GREATEST_TICK};
 ghost use Rattle.ls_told.specs.Requests.{HasBound};
 ghost use Rattle.ls_conn.specs.Lasting.{HasLast};
 
-use ls_conn::{Acted, Seen, StreamEnd, StreamReport, act, lose_last, stream, stream_last};
+use ls_conn::{Acted, Seen, Shared, StreamEnd, StreamReport, act, lose_last, stream, stream_last};
 use ls_outside::{Clock, MemClock, OpenGate};
 use ls_register::{House, View};
 use ls_request::LinkKind;
-use ls_shared::Shared;
 use ls_talk::Wire;
 use std::alloc::Global;
 use std::marker::Model;

@@ -11,7 +11,7 @@ use Rattle.ls_session.specs.declared.session.Turn.TheVariants as turn
 use Rattle.ls_told.specs.Seen.{Testified}
 use Rattle.ls_told.specs.Requests.{HasBound, OnlyLater}
 use Rattle.ls_told.specs.Turns.{HasEnded, IsUnbound}
-use Rattle.ls_shared.specs.Answers.{Loses, Turns}
+use Rattle.ls_conn.specs.Answers.{Loses, Turns}
 use Rattle.ls_conn.specs.Streaming.{IsGiven}
 use Rattle.ls_conn.specs.Lasting.{IsLost, IsLostAt}
 use Rattle.ls_conn.proofs.Lasts.{last_holds, last_lost}

@@ -4,7 +4,7 @@ use Rattle.ls_value.specs.declared.text.NoMemory.{NoMemory}
 use Rattle.ls_event.specs.declared.item.ItemDef.{ItemDef}
 use Rattle.ls_session.specs.declared.session.Turn.{Turn}
 use Rattle.ls_session.specs.declared.session.Turn.TheVariants as turn
-use Rattle.ls_shared.specs.Answers.{GivesLine, SeesOn, Turns}
+use Rattle.ls_conn.specs.Answers.{GivesLine, SeesOn, Turns}
 use Rattle.ls_told.specs.Seen.{Testified, Grows}
 use Rattle.ls_conn.proofs.Given.{sent_there}
 use Rattle.ls_conn.proofs.GoingOn.{quiet_turn}

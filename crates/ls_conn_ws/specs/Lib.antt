@@ -6,3 +6,4 @@ pub mod Giving
 pub mod Losing
 pub mod Answering
 pub mod Hearing
+pub mod Ends

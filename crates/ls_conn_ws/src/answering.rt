@@ -11,10 +11,9 @@ ghost use Rattle.ls_conn_ws.specs.Answering.{IsAlone, Opens, OpensStream, PutsRe
 
 use crate::message::first_line;
 use crate::running::{Running, begin, own_of, put};
-use ls_conn::{Acted, Seen, act};
+use ls_conn::{Acted, Seen, Shared, act};
 use ls_register::{House, View};
 use ls_request::LinkKind;
-use ls_shared::Shared;
 use ls_talk::{PutRefused, Talk};
 use ls_value::same_bytes;
 use ls_wake::Wakes;

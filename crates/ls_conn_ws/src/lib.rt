@@ -20,4 +20,5 @@ mod message;
 mod running;
 mod serving;
 
+pub use ls_conn::{ConnEnd, ConnReport, MOST_IDLES, Seen, Shared};
 pub use serving::serve_ws;

@@ -12,10 +12,10 @@ ghost use Rattle.ls_conn_ws.specs.Streams.{GrewFrom};
 ghost use Rattle.ls_conn_ws.specs.Giving.{CausesGiven, GaveLine, GivesOn, GivesSo, LeftSo, MayGive, PutsSo};
 ghost use Rattle.ls_conn_ws.specs.Losing.{IsOver, LosesRunning, runs_after};
 
+use ls_conn::{Shared, Testimony, Turn};
 use ls_line::LineBuf;
 use ls_outside::Gate;
 use ls_register::House;
-use ls_shared::{Shared, Testimony, Turn};
 use ls_talk::{PutRefused, Talk};
 use ls_value::{NoMemory, same_bytes};
 use ls_wake::Wakes;

@@ -19,11 +19,10 @@ ghost use Rattle.ls_conn_ws.specs.Serving.{Served, Spoke};
 
 use crate::answering::{Desk, Replied, answer_message, put_reply};
 use crate::running::{Given, PAUSE, Running, give_any, leave, nap, rings_of};
-use ls_conn::{ConnEnd, ConnReport, MOST_IDLES, Seen};
+use ls_conn::{ConnEnd, ConnReport, MOST_IDLES, Seen, Shared, Testimony};
 use ls_line::LineBuf;
 use ls_outside::{Clock, Gate};
 use ls_register::House;
-use ls_shared::{Shared, Testimony};
 use ls_talk::{Incoming, Talk};
 use ls_wake::Wakes;
 use std::alloc::Global;
@@ -204,7 +203,8 @@ fn rest<N: House, R: Wait, T: Talk, K: Clock>(
     if *idles == MOST_IDLES {
         return Some(ConnEnd::TooSlow);
     }
-    clock.wait(PAUSE);
+    // Most clients send their first request right after the handshake.
+    clock.wait(PAUSE.min(*idles));
     None
 }
 

@@ -1,7 +1,7 @@
 //! The heads of handshakes, and what they are answered (RFC 6455, section 4.2.1).
 use crate::serving::served;
 use crate::upgrades::{ANSWER, HEAD, REPLY, WSOK};
-use ls_conn::ConnEnd;
+use ls_conn_http::ConnEnd;
 use std::alloc::{AllocError, Global};
 use std::sync::Wait;
 use std::test::Fail;

@@ -1,6 +1,6 @@
 //! What messages are answered.
 use crate::serving::{has_lines, messages_of, says, talk_to_end};
-use ls_conn::ConnEnd;
+use ls_conn_http::ConnEnd;
 use ls_outside::Call;
 use ls_talk::{MemTalk, Message};
 use ls_value::{NoMemory, Text};

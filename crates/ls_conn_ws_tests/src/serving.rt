@@ -3,15 +3,12 @@ ghost use Rattle.std.specs.Prelude.{◌≡◌, true};
 ghost use Rattle.ls_config.specs.Items.{are_items};
 
 use ls_config::{Config, read};
-use ls_conn::ConnEnd;
-use ls_conn_http::serve_one;
-use ls_conn_ws::serve_ws;
+use ls_conn_http::{ConnEnd, Shared, serve_one};
 use ls_feed::serve_feed;
 use ls_outside::{Call, MemClock, MemPipe, MemSink, MemSource, OpenGate};
 use ls_register::{Blank, House};
-use ls_shared::Shared;
 use ls_talk::{Happening, MemTalk, Message};
-use ls_upgrade::upgrade;
+use ls_upgrade::{serve_ws, upgrade};
 use ls_value::{NoMemory, Text, same_bytes};
 use ls_words::first_piece;
 use std::alloc::{AllocError, Global};

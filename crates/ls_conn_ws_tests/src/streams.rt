@@ -1,6 +1,6 @@
 //! The lines of streams, and the answers between them.
 use crate::serving::says;
-use ls_conn::ConnEnd;
+use ls_conn_http::ConnEnd;
 use std::test::Fail;
 
 /// A client's messages, the lines of its stream, and the answers between them: one line between two messages, and one

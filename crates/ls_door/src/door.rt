@@ -2,9 +2,12 @@
 ghost use Rattle.std.specs.Prelude.{◌≡◌, ℕ};
 ghost use Rattle.ls_door.specs.Doors.{Ports, Opens, HasHeardCause, HasVisitCause};
 
+use ls_bell::Bell;
 use ls_outside::Pipe;
 use ls_wake::Wakes;
+use std::alloc::Global;
 use std::marker::Send;
+use std::sync::Arc;
 
 /// The answer of `listen`.
 #[derive(Clone, Copy, Debug, PartialEq, Eq)]
@@ -71,4 +74,9 @@ pub trait Door {
     fn accept(&mut self) -> Visit<Self::Conn>
         ensures ports { opened self.new ≡ opened self.old }
         ensures cause { HasVisitCause result (failures self.old) (failures self.new) (waits self.old) (waits self.new) };
+
+    /// Has this bell rung from now on whenever a visitor comes. One ring may stand for many, so who was woken lets them in
+    /// until nobody is there, and a bell may ring although nobody came. Answers whether it will be: if not, who waits for
+    /// visitors has to look again and again. Nothing else of the door changes.
+    fn wake_with(&self, bell: &Arc<Bell, Global>) -> bool;
 }

@@ -4,9 +4,11 @@ ghost use Rattle.ls_door.specs.Doors.{Opens, HasHeardCause, HasVisitCause};
 ghost use Rattle.ls_door.specs.Memory.{next_heard, next_visit, door_heard, door_visited};
 
 use crate::door::{Door, Heard, Visit};
+use ls_bell::Bell;
 use ls_outside::{MemPipe, PlainPipe, PlainSink, PlainSource};
 use std::alloc::Global;
 use std::marker::Model;
+use std::sync::Arc;
 use std::vec::IntoIter;
 
 /// A door in memory whose calls go by lists, for tests. Contracts see the calls to come, the ports and the two counts.
@@ -119,6 +121,11 @@ impl Door for MemDoor {
         }
         answer
     }
+
+    /// Nobody rings: who waits for visitors has to look again.
+    fn wake_with(&self, _bell: &Arc<Bell, Global>) -> bool {
+        false
+    }
 }
 
 /// A door in memory that never fails and always has a visitor: both its counts are always 0. It gives its feeds first,
@@ -183,5 +190,10 @@ impl Door for PlainDoor {
                 sink: PlainSink::new(),
             }),
         }
+    }
+
+    /// Nobody rings: who waits for visitors has to look again.
+    fn wake_with(&self, _bell: &Arc<Bell, Global>) -> bool {
+        false
     }
 }

@@ -5,11 +5,10 @@ ghost use Rattle.ls_config.specs.Items.{are_items};
 
 use ls_config::{Config, read};
 use ls_door::{Duct, STACK_BYTES, Spawner};
-use ls_feed::{FeedEnd, serve_feed};
+use ls_feed::{FeedEnd, Shared, serve_feed};
 use ls_net::SysClock;
 use ls_outside::{Clock, Got, OpenGate, Pipe, Put, Sink, Source};
 use ls_register::{Blank, House};
-use ls_shared::Shared;
 use std::alloc::Global;
 use std::marker::{Brand, Send};
 use std::rt::Clock as HostClock;

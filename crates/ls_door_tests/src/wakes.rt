@@ -136,3 +136,29 @@ fn without_a_watcher_no_bell_is_rung(rt: HostRuntime) -> Result<(), Fail> {
     drop(other);
     Ok(())
 }
+
+#[test]
+fn a_visitor_rings_the_doors_bell(rt: HostRuntime) -> Result<(), Fail> {
+    let watcher = Watcher::start(&rt, rt.alloc()).expect(&rt, "a watcher starts");
+    let sockets = watcher.sockets().expect(&rt, "there is a hold on it");
+    let mut door = TcpDoor::new(rt, watcher.sockets());
+    let bell = Arc::new(rt.alloc(), Bell::new())?;
+    assert!(rt; !door.wake_with(&bell));
+    assert!(rt; matches!(door.listen(0, 0), Heard::Ready { .. }));
+    assert!(rt; door.wake_with(&bell) && sockets.watched() == 2);
+    let (port, feed) = door.ports();
+    let seen = bell.rings();
+    let client = TcpStream::connect(&rt, ("127.0.0.1", port)).expect(&rt, "a client comes");
+    assert!(rt; is_rung(&rt, &bell, seen));
+    let pipe = next_client(&mut door).expect(&rt, "the client is let in");
+    let seen = bell.rings();
+    let publisher = TcpStream::connect(&rt, ("127.0.0.1", feed)).expect(&rt, "a feed comes");
+    assert!(rt; is_rung(&rt, &bell, seen));
+    drop(pipe);
+    drop(client);
+    drop(publisher);
+    drop(door);
+    assert!(rt; sockets.watched() == 0);
+    watcher.settle(&rt);
+    Ok(())
+}

@@ -18,6 +18,7 @@ use crate::offer::{Offer, hello_of, read_offer};
 use crate::passes::Passes;
 use crate::reply::{Bad, FeedReply, append_reply, reply_to};
 use crate::report::{FeedEnd, FeedReport};
+use crate::unrung::Unrung;
 use ls_lines::{LineCutter, LineRefused};
 use ls_live::PubPass;
 use ls_outside::{Gate, Pipe, Put, Sink, write_all};
@@ -53,6 +54,7 @@ struct Feeder<N: House> {
     passes: Passes<N>,
     /// The text of one reply. Its room is used again by the next.
     text: Vec<u8>,
+    unrung: Unrung,
 }
 
 impl<N: House> Model for Feeder<N> {
@@ -137,7 +139,7 @@ fn offer_by<N: House, R: Wait, G: Gate>(
     ensures says { TrueOf offer pass.new result }
 {
     let Offer { seq, event, .. } = offer;
-    match shared.offer(rt, pass, seq, event, gate) {
+    match shared.offer_quietly(rt, pass, seq, event, gate) {
         Ok(no) => FeedReply::Published { no },
         Err(cause) => reply_to(cause),
     }
@@ -148,6 +150,7 @@ fn offered<N: House, R: Wait, G: Gate>(
     rt: &R,
     shared: &Shared<N>,
     passes: &mut Passes<N>,
+    unrung: &mut Unrung,
     adapter: u8,
     offer: Offer,
     gate: &G,
@@ -164,6 +167,7 @@ fn offered<N: House, R: Wait, G: Gate>(
     let mut pass = pass_of(rt, shared, passes, adapter, item);
     let reply = offer_by(rt, shared, &mut pass, offer, gate);
     passes.put(item, pass);
+    unrung.add(rt, shared, item);
     reply
 }
 
@@ -173,6 +177,7 @@ fn answer<N: House, R: Wait, G: Gate>(
     alloc: Global,
     shared: &Shared<N>,
     passes: &mut Passes<N>,
+    unrung: &mut Unrung,
     adapter: u8,
     line: &[u8],
     gate: &G,
@@ -190,7 +195,7 @@ fn answer<N: House, R: Wait, G: Gate>(
     if passes.reserve(offer.item).is_err() {
         return FeedReply::Bad(Bad::NoMemory);
     }
-    offered(rt, shared, passes, adapter, offer, gate)
+    offered(rt, shared, passes, unrung, adapter, offer, gate)
 }
 
 impl<N: House> Feeder<N> {
@@ -216,7 +221,16 @@ impl<N: House> Feeder<N> {
         let Some(adapter) = self.adapter else {
             return self.greet(line);
         };
-        let reply = answer(rt, alloc, shared, &mut self.passes, adapter, line, gate);
+        let reply = answer(
+            rt,
+            alloc,
+            shared,
+            &mut self.passes,
+            &mut self.unrung,
+            adapter,
+            line,
+            gate,
+        );
         send(conn, &mut self.text, reply)
     }
 
@@ -268,9 +282,17 @@ impl<N: House> Feed<N> {
                 adapter: None,
                 passes: Passes::new(alloc),
                 text: Vec::new(alloc),
+                unrung: Unrung::new(),
             },
             lines: LineCutter::new(alloc, LONGEST_LINE),
         }
+    }
+
+    /// The sessions are woken for which something was added.
+    fn ring<R: Wait>(&mut self, rt: &R, shared: &Shared<N>)
+        ensures { self.new ≡ self.old }
+    {
+        self.feeder.unrung.ring(rt, shared);
     }
 
     /// What came of it.
@@ -321,7 +343,7 @@ impl<N: House> Feed<N> {
     }
 
     /// Takes a piece of the bytes. Each line that ends in it is answered.
-    pub(crate) fn take<R: Wait, C: Sink, G: Gate>(
+    fn take_lines<R: Wait, C: Sink, G: Gate>(
         &mut self,
         rt: &R,
         alloc: Global,
@@ -347,5 +369,29 @@ impl<N: House> Feed<N> {
             }
         }
         Fed::All
+    }
+
+    /// The same, and then the sessions are woken for which something was added.
+    pub(crate) fn take<R: Wait, C: Sink, G: Gate>(
+        &mut self,
+        rt: &R,
+        alloc: Global,
+        conn: &mut C,
+        shared: &Shared<N>,
+        gate: &G,
+        piece: &[u8],
+    ) -> Fed
+        requires ready { IsReady N.deed.config self.old }
+        ensures ready { result ≡ Fed.All → IsReady N.deed.config self.new }
+        ensures goes { (read : List ℕ) (held : Optional (List ℕ))
+            → Stands N.deed.config self.old read held (C.held conn.old)
+            → Goes N.deed.config result self.new (read ++ piece.now) held (C.held conn.new) }
+        ensures cause { result ≡ Fed.WriteFault → Rose (C.faults conn.old) (C.faults conn.new) }
+        ensures later { C.faults conn.old ≤ C.faults conn.new }
+        ensures source { C.gives conn.new ≡ C.gives conn.old }
+    {
+        let fed = self.take_lines(rt, alloc, conn, shared, gate, piece);
+        self.ring(rt, shared);
+        fed
     }
 }

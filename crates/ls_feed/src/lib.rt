@@ -23,8 +23,10 @@ mod passes;
 mod reply;
 mod report;
 mod serving;
+mod unrung;
 
 pub use limits::LONGEST_LINE;
+pub use ls_shared::{Blank, House, Shared};
 pub use offer::{Offer, read_offer};
 pub use passes::Passes;
 pub use reply::{Bad, FeedReply};

@@ -16,6 +16,7 @@ mod requests;
 mod values;
 
 pub use guest::Guest;
+pub use ls_shared::{Lost, PublishRefused, Refusal, Shared, Turn};
 pub use publish::publish_text;
 pub use requests::{bind_of, control_of, create_of};
 pub use values::{number, row_text};

@@ -16,7 +16,7 @@ use Rattle.ls_told.specs.Requests.{AddsSub, AreAsked, AreBegunFor, plain, begins
 use Rattle.ls_told.specs.Seen.{Watched, Testified, IsTold, items_seen}
 use Rattle.ls_told.proofs.Watching.{shape_seen}
 use Rattle.ls_subs.specs.Plans.{keys_of_asks}
-use Rattle.ls_sight.proofs.Shown.{lawful_of}
+use Rattle.ls_parts.proofs.Shown.{lawful_of}
 use Rattle.ls_joining.specs.Adding.{AddsTo}
 
 -- the items as they were seen are declared as the config says, so a schema shows the same keys

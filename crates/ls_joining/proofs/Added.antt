@@ -51,11 +51,11 @@ use Rattle.ls_told.specs.Keeping.{KeepsTold}
 use Rattle.ls_told.proofs.Joined.{keeps_added}
 use Rattle.ls_told.proofs.Watching.{definitions_seen, sees_changed, sees_appended, sees_same, sees_twice}
 use Rattle.ls_request.specs.declared.request.Op.TheVariants as op
-use Rattle.ls_history.specs.declared.history.CutOf.{CutOf}
-use Rattle.ls_sight.specs.Sights.{IsFirst, NoneBefore}
-use Rattle.ls_taking.specs.Groups.{SubSeen}
-use Rattle.ls_taking.specs.Lives.{HasSeat, FitsHistory, LivesAs, Lives}
-use Rattle.ls_taking.proofs.Seeing.{lives_seen_at, lives_watched}
+use Rattle.ls_parts.specs.Cut.{CutOf}
+use Rattle.ls_parts.specs.Sights.{IsFirst, NoneBefore}
+use Rattle.ls_parts.specs.Groups.{SubSeen}
+use Rattle.ls_parts.specs.Lives.{HasSeat, FitsHistory, LivesAs, Lives}
+use Rattle.ls_parts.proofs.Seeing.{lives_seen_at, lives_watched}
 use Rattle.ls_parts.proofs.Bounds.{length_one}
 use Rattle.ls_parts.proofs.Living.{latest_at}
 use Rattle.ls_joining.specs.Adding.{AreSitting, IsAdding, AddsTo, AddsWatch, JoinsNow, JoinsOne, JoinsNone, slot_begun}

@@ -1,3 +1,6 @@
 pub mod Sitting
 pub mod Added
 pub mod AddDone
+pub mod Catching
+pub mod Living
+pub mod Shown

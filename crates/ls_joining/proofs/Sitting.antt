@@ -23,9 +23,9 @@ use Rattle.ls_told.specs.Slots.{IsSettled, AreSettled}
 use Rattle.ls_told.specs.Seen.{Watched, seen_of, items_seen, IsWatched, showing, SeesMore}
 use Rattle.ls_told.proofs.Watching.{shape_seen, history_seen, seen_other, seen_first, seen_still, watched_more, sees_changed, sees_appended}
 use Rattle.ls_event.specs.declared.event.Mode.TheVariants as mode
-use Rattle.ls_sight.specs.Sights.{NoneBefore}
-use Rattle.ls_taking.specs.Groups.{SubSeen}
-use Rattle.ls_taking.specs.Lives.{HasNothing, IsSeatOf, HasSeat}
+use Rattle.ls_parts.specs.Sights.{NoneBefore}
+use Rattle.ls_parts.specs.Groups.{SubSeen}
+use Rattle.ls_parts.specs.Lives.{HasNothing, IsSeatOf, HasSeat}
 use Rattle.ls_joining.specs.Adding.{SitsAs, AreSitting, slot_begun}
 
 -- the slot that joins is by what was seen of its item

@@ -27,9 +27,9 @@ use Rattle.ls_told.specs.Seen.{Watched, items_seen, IsWatched, FitsWatch, showin
 use Rattle.ls_told.specs.Keeping.{KeepsTold}
 use Rattle.ls_told.specs.Requests.{op_code, is_spent, plain, begins_with, slots_in, AreAsked, AreBegunFor}
 use Rattle.ls_request.specs.declared.request.Op.TheVariants as op
-use Rattle.ls_sight.specs.Sights.{IsFirst}
-use Rattle.ls_taking.specs.Groups.{SubSeen}
-use Rattle.ls_taking.specs.Lives.{IsSeatOf, LivesAs}
+use Rattle.ls_parts.specs.Sights.{IsFirst}
+use Rattle.ls_parts.specs.Groups.{SubSeen}
+use Rattle.ls_parts.specs.Lives.{IsSeatOf, LivesAs}
 
 -- a subscription was added at a tick: nothing stood against it, SUBOK or SUBCMD and CONF were numbered, and it began with a
 -- slot for each item that it asks for

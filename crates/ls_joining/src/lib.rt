@@ -17,3 +17,4 @@
 mod joining;
 
 pub use joining::{Prepared, finish_in, item_at, join_next, prepare_in};
+pub use ls_parts::{History, Left, SessionParts, Sight, SightStart, SubSeats, copies, is_past};

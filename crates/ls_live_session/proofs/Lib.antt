@@ -1,1 +1,4 @@
 pub mod Begun
+pub mod AddDone
+pub mod Catching
+pub mod Shown

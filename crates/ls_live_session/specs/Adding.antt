@@ -11,6 +11,7 @@ use Rattle.ls_told.specs.Seen.{Watched}
 use Rattle.ls_told.specs.Keeping.{KeepsTold}
 use Rattle.ls_told.specs.Requests.{op_code, is_spent}
 use Rattle.ls_request.specs.declared.request.Op.TheVariants as op
+pub use Rattle.ls_joining.specs.Adding.{AddsTo}
 
 -- what contracts see of it: the session as before, the request, how many slots the server may still give, the items that
 -- are asked for, in order, and how many of them have a slot by now

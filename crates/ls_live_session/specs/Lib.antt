@@ -1,1 +1,9 @@
 pub mod Adding
+pub mod Giving
+pub mod Groups
+pub mod Leaving
+pub mod Lives
+pub mod Replying
+pub mod Sights
+pub mod Speaking
+pub mod Taking

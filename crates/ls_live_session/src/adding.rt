@@ -13,21 +13,20 @@ ghost use Rattle.atomic_table.specs.Seated.{TableId};
 ghost use Rattle.ls_cell.specs.Numbered.{live_slots};
 ghost use Rattle.ls_register.specs.declared.made.Made.TheVariants.{Slot as SlotMade};
 ghost use Rattle.ls_seated.specs.Seats.{IsJoinCause};
-ghost use Rattle.ls_sight.specs.Sights.{AreOneItems};
+ghost use Rattle.ls_joining.specs.Sights.{AreOneItems};
 ghost use Rattle.ls_joining.specs.Adding.{AddsTo};
 ghost use Rattle.ls_live_session.specs.Adding.{FindsAdd};
 
 use crate::live::LiveSession;
 use ls_chron::Chron;
 use ls_config::Config;
-use ls_joining::{Prepared, finish_in, item_at, join_next, prepare_in};
-use ls_parts::SessionParts;
+use ls_joining::{
+    Prepared, SessionParts, Sight, SubSeats, finish_in, item_at, join_next, prepare_in,
+};
 use ls_register::{Book, House, Made, SlotBegun};
 use ls_request::Add;
 use ls_seated::{JoinRefused, Seat, Seated};
-use ls_sight::Sight;
 use ls_subs::{AddPlan, Refusal};
-use ls_taking::SubSeats;
 use ls_value::{Names, NoMemory};
 use std::marker::Model;
 
@@ -67,7 +66,7 @@ impl<'a, N: House> Model for Adding<'a, N> {
     ghost use Rattle.std.specs.Prelude.{◌≡◌, ◌≤◌, ◌+◌, IfSome};
     ghost use Rattle.std.specs.Vec.{vec_len, vec_capacity};
     ghost use Rattle.ls_session.specs.Record.{Record};
-    ghost use Rattle.ls_sight.specs.Sights.{ShowsIt};
+    ghost use Rattle.ls_joining.specs.Sights.{ShowsIt};
     ghost use Rattle.ls_joining.specs.Adding.{IsAdding};
     ghost use Rattle.ls_live_session.specs.Adding.{MayBegin};
 

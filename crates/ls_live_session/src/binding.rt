@@ -9,7 +9,7 @@ ghost use Rattle.ls_register.specs.declared.told.Told.TheVariants as told_is;
 ghost use Rattle.ls_told.specs.Heard.{heard, counts_as};
 ghost use Rattle.ls_told.specs.Requests.{bind_code_of, ForcesRebind};
 ghost use Rattle.ls_told.specs.Turns.{IsUnbound};
-ghost use Rattle.ls_parts.specs.Leaving.{Finds};
+ghost use Rattle.ls_joining.specs.Leaving.{Finds};
 
 use crate::live::LiveSession;
 use ls_register::House;

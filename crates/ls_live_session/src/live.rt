@@ -9,14 +9,13 @@ ghost use Rattle.ls_told.specs.Seen.{IsDeclared};
 ghost use Rattle.ls_told.specs.Requests.{InTime};
 ghost use Rattle.ls_record.specs.Records.{is_alive};
 ghost use Rattle.ls_record.specs.declared.TheConstants.{MOST_UNBOUND};
-ghost use Rattle.ls_sight.specs.Sights.{ShowsIt};
-ghost use Rattle.ls_taking.specs.Lives.{Lives};
-ghost use Rattle.ls_parts.specs.Leaving.{IsOverdue};
+ghost use Rattle.ls_joining.specs.Sights.{ShowsIt};
+ghost use Rattle.ls_joining.specs.Lives.{Lives};
+ghost use Rattle.ls_joining.specs.Leaving.{IsOverdue};
 
 use ls_bell::Bell;
 use ls_chron::Sign;
-use ls_history::{History, is_past};
-use ls_parts::SessionParts;
+use ls_joining::{History, SessionParts, is_past};
 use ls_record::MOST_UNBOUND;
 use ls_register::{House, Place, Told};
 use ls_request::Create;
@@ -36,12 +35,12 @@ pub struct LiveSession<N: House> {
 
 impl<N: House> Model for LiveSession<N> {
     ghost use Rattle.std.specs.Prelude.{◌≡◌, IfSome};
-    ghost use Rattle.ls_sight.specs.Speaking.{Speaking};
+    ghost use Rattle.ls_joining.specs.Speaking.{Speaking};
 
     ghost Value = { Speaking };
 
-    ghost use Rattle.ls_sight.specs.Sights.{ShowsIt};
-    ghost use Rattle.ls_taking.specs.Lives.{Lives};
+    ghost use Rattle.ls_joining.specs.Sights.{ShowsIt};
+    ghost use Rattle.ls_joining.specs.Lives.{Lives};
 
     ghost view = { λ s. record {
       number = s.parts.value.number;

@@ -10,10 +10,10 @@ ghost use Rattle.ls_record.specs.Records.{timed_out, is_alive};
 ghost use Rattle.ls_subs.specs.declared.plan.Refusal.TheVariants as Refusal;
 ghost use Rattle.ls_register.specs.declared.told.Told.TheVariants as told_is;
 ghost use Rattle.ls_told.specs.Heard.{heard, counts_as};
-ghost use Rattle.ls_parts.specs.Leaving.{Finds, IsOverdue, EndsSub, SetsFrequency, EndsAll};
+ghost use Rattle.ls_joining.specs.Leaving.{Finds, IsOverdue, EndsSub, SetsFrequency, EndsAll};
 
 use crate::live::LiveSession;
-use ls_parts::Left;
+use ls_joining::Left;
 use ls_register::House;
 use ls_subs::Refusal;
 

@@ -3,16 +3,15 @@ ghost use Rattle.std.specs.Prelude.{◌≡◌, [], IfOk, IfSome, IsTrue, IsFalse
 ghost use mathlib.Core.List.{IsPrefix};
 ghost use Rattle.ls_value.specs.Each.{Each};
 ghost use Rattle.ls_told.specs.Seen.{SeesMore, Grows, FitsWatch};
-ghost use Rattle.ls_sight.specs.Sights.{ShowsIt, AreOneItems, ShowsAll};
-ghost use Rattle.ls_taking.specs.Lives.{Lives};
+ghost use Rattle.ls_joining.specs.Sights.{ShowsIt, AreOneItems, ShowsAll};
+ghost use Rattle.ls_joining.specs.Lives.{Lives};
 
 use crate::live::LiveSession;
 use ls_bell::Bell;
 use ls_chron::Chron;
+use ls_joining::{SessionParts, Sight, SightStart, copies};
 use ls_live::Watch;
-use ls_parts::SessionParts;
 use ls_register::{House, Made};
-use ls_sight::{Sight, SightStart, copies};
 use ls_value::NoMemory;
 use std::alloc::Global;
 use std::sync::Arc;

@@ -2,11 +2,13 @@
 ghost use Rattle.std.specs.Prelude.{◌≡◌};
 
 use crate::pipe::{TcpPipe, is_later};
-use crate::watcher::WatchedSockets;
+use crate::watcher::{Seat, WatchedSockets};
+use ls_bell::Bell;
 use ls_door::{Door, Heard, Visit};
 use std::alloc::Global;
 use std::io::Result;
 use std::net::{Net, TcpListener, TcpStream};
+use std::os::fd::AsRawFd;
 use std::sync::Arc;
 
 /// The addresses from which clients are heard: all of them.
@@ -15,15 +17,18 @@ const EVERYWHERE: &str = "0.0.0.0";
 /// The addresses from which feeds are heard: those of this machine alone, since a feed isn't asked who it is.
 const HERE: &str = "127.0.0.1";
 
-/// Two sockets that listen.
+/// Two sockets that listen, and the place of each with a watcher.
 #[derive(Drop)]
 struct Listeners {
     clients: TcpListener,
     feeds: TcpListener,
+    clients_seat: Seat,
+    feeds_seat: Seat,
 }
 
 /// A door over TCP: clients from everywhere, feeds from 127.0.0.1 alone. `accept` doesn't wait. It looks for clients
-/// and for feeds in turn, so neither keeps the other out. Clients' connections may be watched; feeds' reads wait anyway.
+/// and for feeds in turn, so neither keeps the other out. Both ports and clients'
+/// connections may be watched; feeds' reads wait anyway.
 #[derive(Drop)]
 pub struct TcpDoor<R: Net<Listener = TcpListener, Stream = TcpStream>> {
     rt: R,
@@ -37,8 +42,8 @@ pub struct TcpDoor<R: Net<Listener = TcpListener, Stream = TcpStream>> {
 }
 
 impl<R: Net<Listener = TcpListener, Stream = TcpStream>> TcpDoor<R> {
-    /// A door that doesn't listen yet, whose clients are watched with these sockets, if there are any. Its `accept` is
-    /// `Idle`.
+    /// A door that doesn't listen yet, which is watched with these sockets, as its clients are, if there are any. Its
+    /// `accept` is `Idle`.
     pub fn new(rt: R, sockets: Option<Arc<WatchedSockets, Global>>) -> TcpDoor<R>
         ensures watched { result.sockets ≡ sockets }
         ensures counts { (result.faults ≡ 0) × (result.idles ≡ 0) × (result.port ≡ 0) × (result.feed ≡ 0) }
@@ -130,6 +135,12 @@ impl Listeners {
         }
         feed_at(&self.feeds)
     }
+
+    /// Has a bell rung whenever someone comes to either port. Answers whether it will be.
+    fn wake_with(&self, bell: &Arc<Bell, Global>) -> bool {
+        self.clients_seat.take(self.clients.as_raw_fd(), bell)
+            && self.feeds_seat.take(self.feeds.as_raw_fd(), bell)
+    }
 }
 
 /// Listens at both ports.
@@ -137,10 +148,17 @@ fn listeners_at<R: Net<Listener = TcpListener, Stream = TcpStream>>(
     rt: &R,
     port: u16,
     feed: u16,
+    sockets: &Option<Arc<WatchedSockets, Global>>,
 ) -> Result<(Listeners, u16, u16)> {
     let (clients, port) = listener_at(rt, EVERYWHERE, port)?;
     let (feeds, feed) = listener_at(rt, HERE, feed)?;
-    Ok((Listeners { clients, feeds }, port, feed))
+    let listeners = Listeners {
+        clients,
+        feeds,
+        clients_seat: Seat::with(hold_on(sockets)),
+        feeds_seat: Seat::with(hold_on(sockets)),
+    };
+    Ok((listeners, port, feed))
 }
 
 impl<R: Net<Listener = TcpListener, Stream = TcpStream> + Drop> Door for TcpDoor<R> {
@@ -165,7 +183,7 @@ impl<R: Net<Listener = TcpListener, Stream = TcpStream> + Drop> Door for TcpDoor
     }
 
     fn listen(&mut self, port: u16, feed: u16) -> Heard {
-        match listeners_at(&self.rt, port, feed) {
+        match listeners_at(&self.rt, port, feed, &self.sockets) {
             Ok((listeners, port, feed)) => {
                 self.listeners = Some(listeners);
                 self.port = port;
@@ -197,6 +215,13 @@ impl<R: Net<Listener = TcpListener, Stream = TcpStream> + Drop> Door for TcpDoor
                 self.faults = self.faults.saturating_add(1);
                 Visit::Failed
             }
+        }
+    }
+
+    fn wake_with(&self, bell: &Arc<Bell, Global>) -> bool {
+        match &self.listeners {
+            Some(listeners) => listeners.wake_with(bell),
+            None => false,
         }
     }
 }

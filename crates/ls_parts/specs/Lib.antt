@@ -1,3 +1,9 @@
 pub mod Giving
 pub mod Leaving
 pub mod Replying
+pub mod Cut
+pub mod Groups
+pub mod Lives
+pub mod Sights
+pub mod Speaking
+pub mod Taking

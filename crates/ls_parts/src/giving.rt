@@ -13,11 +13,11 @@ ghost use Rattle.ls_taking.specs.Lives.{Lives, LivesAs};
 ghost use Rattle.ls_parts.specs.Giving.{speaks, Gives};
 
 use crate::parts::SessionParts;
-use ls_history::History;
 use ls_line::LineBuf;
 use ls_register::House;
 use ls_session::{Session, Turn};
 use ls_subs::SlotRef;
+use ls_taking::History;
 
 impl<N: House> SessionParts<N> {
     /// A turn at a tick for the stream of an epoch, as [`Session::turn`] takes it. A tick below those of the history's

@@ -24,4 +24,7 @@ mod requests;
 mod showing;
 mod taking;
 
+pub use ls_taking::{
+    History, Sight, SightStart, SubSeats, copies, find_watch, fits, is_past, no_cut,
+};
 pub use parts::{Left, SessionParts};

@@ -2,11 +2,10 @@
 ghost use Rattle.std.specs.Prelude.{◌≡◌};
 
 use ls_bell::Bell;
-use ls_history::History;
 use ls_live::Watch;
 use ls_register::{House, Place};
 use ls_session::Session;
-use ls_taking::SubSeats;
+use ls_taking::{History, SubSeats};
 use std::alloc::Global;
 use std::sync::Arc;
 

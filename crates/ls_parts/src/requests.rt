@@ -19,11 +19,10 @@ ghost use Rattle.ls_parts.specs.Leaving.{Finds, IsOverdue, EndsSub, SetsFrequenc
 
 use crate::binding::spent_code;
 use crate::parts::{Left, SessionParts};
-use ls_history::{History, no_cut};
 use ls_register::{House, Told};
 use ls_session::Session;
 use ls_subs::Refusal;
-use ls_taking::{SubSeats, last_place};
+use ls_taking::{History, SubSeats, last_place, no_cut};
 use std::mem::replace;
 
 impl<N: House> SessionParts<N> {

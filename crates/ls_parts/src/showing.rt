@@ -4,12 +4,12 @@ ghost use Rattle.ls_value.specs.Each.{Each};
 ghost use Rattle.ls_told.specs.Seen.{SeesMore, Grows, FitsWatch};
 ghost use Rattle.ls_session.specs.Record.{Record};
 ghost use Rattle.ls_taking.specs.Lives.{Lives, LivesAs};
-ghost use Rattle.ls_sight.specs.Sights.{AreOneItems, ShowsAll};
+ghost use Rattle.ls_taking.specs.Sights.{AreOneItems, ShowsAll};
 
 use crate::parts::SessionParts;
 use ls_chron::Chron;
 use ls_register::{House, Made};
-use ls_sight::Sight;
+use ls_taking::Sight;
 
 impl<N: House> SessionParts<N> {
     /// The sight sees all that a session in parts has, and the session then has seen of its items what the sight had. They

@@ -12,7 +12,7 @@ ghost use Rattle.ls_session.specs.Session.{StandsSession, ask_in};
 ghost use Rattle.ls_told.specs.Heard.{heard};
 ghost use Rattle.ls_told.specs.Seen.{SeesMore, seen_of};
 ghost use Rattle.ls_taking.specs.Groups.{SubSeen};
-ghost use Rattle.ls_sight.specs.Sights.{NoneBefore};
+ghost use Rattle.ls_taking.specs.Sights.{NoneBefore};
 ghost use Rattle.ls_parts.specs.Leaving.{HasLast};
 ghost use Rattle.ls_taking.specs.Lives.{LivesAs, HasNothing};
 ghost use Rattle.ls_taking.specs.Taking.{IsFound, IsCaught, IsAskedFrom, IsWhole, caught_up};
@@ -21,13 +21,11 @@ ghost use Rattle.ls_parts.specs.Replying.{TakesFrom, Replies};
 use crate::parts::SessionParts;
 use ls_chron::Chron;
 use ls_event::Taken;
-use ls_history::CutOf;
 use ls_register::{House, Made};
 use ls_seated::Seated;
 use ls_session::{Ask, Reply};
-use ls_sight::count_of;
 use ls_subs::SlotRef;
-use ls_taking::{Found, catch_up_in, find_in, last_place};
+use ls_taking::{CutOf, Found, catch_up_in, count_of, find_in, last_place};
 use ls_value::NoMemory;
 
 impl<N: House> SessionParts<N> {

@@ -5,9 +5,8 @@ ghost use Rattle.ls_value.specs.declared.limits.TheConstants.{GREATEST_TICK};
 
 use crate::taker::{KEYS, Taker};
 use ls_config::{Config, read as read_config};
-use ls_guest::{Guest, control_of, create_of, publish_text};
+use ls_guest::{Guest, Shared, control_of, create_of, publish_text};
 use ls_register::{Blank, House};
-use ls_shared::Shared;
 use ls_value::{GREATEST_TICK, NoMemory};
 use std::alloc::{AllocError, Global};
 use std::marker::{Brand, Send};

@@ -6,12 +6,11 @@
 ghost use Rattle.std.specs.Prelude.{◌≤◌};
 ghost use Rattle.ls_value.specs.declared.limits.TheConstants.{GREATEST_TICK};
 
-use ls_guest::{Guest, number, row_text};
+use ls_guest::{Guest, Lost, Shared, Turn, number, row_text};
 use ls_line::{Line, LineBuf, counts, read};
 use ls_mirror::{Client, Table};
 use ls_outside::OpenGate;
 use ls_register::House;
-use ls_shared::{Lost, Shared, Turn};
 use ls_value::{NoMemory, Row};
 use std::alloc::{AllocError, Global};
 use std::str;

@@ -3,10 +3,10 @@ ghost use Rattle.std.specs.Prelude.{◌≡◌};
 ghost use Rattle.ls_serve.specs.Serving.{StopsAt};
 
 use crate::visits::{admit_client, admit_feed};
-use ls_door::{Door, Spawner, Visit};
+use ls_conn_http::Shared;
+use ls_door::{Bell, Door, Spawner, Visit};
 use ls_outside::Clock;
 use ls_register::House;
-use ls_shared::Shared;
 use std::alloc::Global;
 use std::marker::{Send, Sync};
 use std::sync::{Arc, Wait};
@@ -24,8 +24,47 @@ fn longer(pause: u64) -> u64 {
     pause.saturating_mul(2).min(MOST_PAUSE)
 }
 
-/// Lets the next visitor in, if one is there, and gives it to a job. Where none is there, or one couldn't be let in, the
-/// clock waits so many ms. Answers how many they are the next time.
+/// A bell that rings when a visitor comes, where the door can have that and there is memory for a bell.
+fn bell_of<D: Door>(alloc: Global, door: &D) -> Option<Arc<Bell, Global>> {
+    let bell = Arc::new(alloc, Bell::new()).ok()?;
+    if door.wake_with(&bell) {
+        Some(bell)
+    } else {
+        None
+    }
+}
+
+/// How often a bell was rung.
+fn rings_of(bell: &Option<Arc<Bell, Global>>) -> u64 {
+    match bell {
+        Some(bell) => bell.rings(),
+        None => 0,
+    }
+}
+
+/// Waits where nobody is there: until the bell rings, which was rung so often before it was looked, but for 10 ms at most;
+/// or so many ms, where there is no bell. Answers how many they are the next time.
+fn pass_time<R: Wait, C: Clock>(
+    rt: &R,
+    clock: &mut C,
+    bell: &Option<Arc<Bell, Global>>,
+    rings: u64,
+    pause: u64,
+) -> u64 {
+    match bell {
+        Some(bell) => {
+            bell.wait(rt, rings, MOST_PAUSE);
+            MOST_PAUSE
+        }
+        None => {
+            clock.wait(pause);
+            longer(pause)
+        }
+    }
+}
+
+/// Lets the next visitor in, if one is there, and gives it to a job. Where none is there it waits, until the bell rings if
+/// there is one, and where one couldn't be let in the clock waits so many ms. Answers how many they are the next time.
 fn admit<
     N: House + Send + Sync + 'static,
     R: Threads + Wait + Copy + Send + Sync + 'static,
@@ -39,14 +78,17 @@ fn admit<
     until: u64,
     door: &mut D,
     spawner: &mut Spawner,
+    bell: &Option<Arc<Bell, Global>>,
     pause: u64,
 ) -> u64
     ensures { D.opened door.new ≡ D.opened door.old }
 {
+    let rings = rings_of(bell);
     match door.accept() {
         Visit::Client(conn) => admit_client(rt, alloc, shared, clock, until, spawner, conn),
         Visit::Feed(conn) => admit_feed(rt, alloc, shared, clock, until, spawner, conn),
-        Visit::Idle | Visit::Failed => {
+        Visit::Idle => return pass_time(&rt, clock, bell, rings, pause),
+        Visit::Failed => {
             clock.wait(pause);
             return longer(pause);
         }
@@ -73,13 +115,16 @@ pub(crate) fn attend<
     ensures ports { D.opened door.new ≡ D.opened door.old }
 {
     let until = end.unwrap_or(u64::MAX);
+    let bell = bell_of(alloc, door);
     let mut pause = MOST_PAUSE;
     for _ in rt.forever() {
         let now = clock.now();
         if now >= until {
             break;
         }
-        pause = admit(*rt, alloc, shared, clock, until, door, spawner, pause);
+        pause = admit(
+            *rt, alloc, shared, clock, until, door, spawner, &bell, pause,
+        );
         // Where it finds no memory, the next one goes on.
         let _ = shared.sweep(rt, now);
     }

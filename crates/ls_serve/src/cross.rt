@@ -1,8 +1,8 @@
 //! What may go to another thread.
 use crate::serving::{Order, ServeEnd};
 use crate::visits::Host;
+use ls_conn_http::Shared;
 use ls_register::House;
-use ls_shared::Shared;
 use std::alloc::Global;
 use std::sync::Arc;
 

@@ -7,10 +7,10 @@ ghost use Rattle.ls_serve.specs.Serving.{Served, Told, RefusesConfig, StopsAt, P
 use crate::attending::attend;
 use crate::reading::read_config;
 use ls_config::Config;
+use ls_conn_http::Shared;
 use ls_door::{Door, Heard, Spawner};
 use ls_outside::{Clock, Put, Sink, Source, write_all};
 use ls_register::{Blank, House};
-use ls_shared::Shared;
 use ls_value::NoMemory;
 use ls_words::append_decimal;
 use std::alloc::Global;

@@ -2,12 +2,11 @@
 ghost use Rattle.ls_outside.specs.Causes.{WritesAll, HasWriteCause};
 ghost use Rattle.ls_http.specs.Replies.{refusal_text};
 
-use ls_conn_http::serve_one;
+use ls_conn_http::{Shared, serve_one};
 use ls_door::Spawner;
 use ls_feed::serve_feed;
 use ls_outside::{Clock, OpenGate, Pipe, Put, Sink, write_all};
 use ls_register::House;
-use ls_shared::Shared;
 use ls_value::NoMemory;
 use ls_wake::Wakes;
 use std::alloc::Global;

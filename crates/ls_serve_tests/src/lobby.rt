@@ -2,7 +2,7 @@
 ghost use Rattle.std.specs.Prelude.{◌≡◌, ◌≤◌};
 ghost use Rattle.ls_value.specs.declared.limits.TheConstants.{GREATEST_TICK as MOST};
 
-use ls_door::{Door, Duct, Heard, Visit};
+use ls_door::{Bell, Door, Duct, Heard, Visit};
 use ls_outside::Clock;
 use ls_value::{GREATEST_TICK, NoMemory};
 use std::alloc::{AllocError, Global};
@@ -106,6 +106,11 @@ impl<R: Wait + Drop + Send + Sync + 'static> Door for LobbyDoor<R> {
                 Visit::Idle
             }
         }
+    }
+
+    /// Nobody rings: who waits for visitors has to look again.
+    fn wake_with(&self, _bell: &Arc<Bell, Global>) -> bool {
+        false
     }
 }
 

@@ -25,12 +25,12 @@ use Rattle.ls_told.specs.Heard.{heard, counts_as}
 use Rattle.ls_told.specs.Seen.{Watched, Testified, Grows, SeesMore, FitsWatch, IsTold, seen_of}
 use Rattle.ls_told.specs.Requests.{AddsSub, AreAsked, AreBegunFor, Does, InTime, IsAsked, RefusesOp, free_in, is_spent, is_spent_for, op_code, op_refusals, slots_in}
 use Rattle.ls_told.proofs.Watching.{keeps_seen, seen_more, sees_same}
-use Rattle.ls_joining.specs.Adding.{AddsTo}
+use Rattle.ls_live_session.specs.Adding.{AddsTo}
 use Rattle.ls_live_session.specs.Adding.{AddingSeen, FindsAdd}
-use Rattle.ls_sight.specs.Sights.{ShowsAll}
-use Rattle.ls_sight.specs.Speaking.{Speaking}
-use Rattle.ls_joining.proofs.AddDone.{adds_sub}
-use Rattle.ls_sight.proofs.Shown.{lawful_of}
+use Rattle.ls_live_session.specs.Sights.{ShowsAll}
+use Rattle.ls_live_session.specs.Speaking.{Speaking}
+use Rattle.ls_live_session.proofs.AddDone.{adds_sub}
+use Rattle.ls_live_session.proofs.Shown.{lawful_of}
 use Rattle.ls_shared.specs.Answers.{AddsOn, HasRoom}
 use Rattle.ls_shared.proofs.Changing.{gains_earlier}
 

@@ -41,13 +41,13 @@ use Rattle.ls_told.specs.Turns.{HasNothing}
 use Rattle.ls_told.proofs.Facts.{epoch_is}
 use Rattle.ls_told.proofs.Turns.{turned_rule}
 use Rattle.ls_told.proofs.Watching.{history_seen, length_seen, seen_more, sees_same, sees_twice}
-use Rattle.ls_taking.specs.Groups.{SubSeen}
-use Rattle.ls_taking.specs.Lives.{LivesAs, HasSeat, HasNothing as KnowsNothing}
-use Rattle.ls_parts.specs.Giving.{given, speaks}
-use Rattle.ls_parts.specs.Giving.{Gives as GivesTurn}
-use Rattle.ls_taking.specs.Taking.{IsAskedFrom, reached, caught_up, asked_now}
-use Rattle.ls_parts.specs.Replying.{Replies, TakesFrom, replied, reply_by, reply_of}
-use Rattle.ls_taking.proofs.Catching.{asked_still}
+use Rattle.ls_live_session.specs.Groups.{SubSeen}
+use Rattle.ls_live_session.specs.Lives.{LivesAs, HasSeat, HasNothing as KnowsNothing}
+use Rattle.ls_live_session.specs.Giving.{given, speaks}
+use Rattle.ls_live_session.specs.Giving.{Gives as GivesTurn}
+use Rattle.ls_live_session.specs.Taking.{IsAskedFrom, reached, caught_up, asked_now}
+use Rattle.ls_live_session.specs.Replying.{Replies, TakesFrom, replied, reply_by, reply_of}
+use Rattle.ls_live_session.proofs.Catching.{asked_still}
 use Rattle.ls_shared.specs.Asking.{HadNothing, HadNone, AskedInVain, GoesRound, AsksRound, QuietRound}
 use Rattle.ls_shared.proofs.NoCuts.{nothing_left, merge_owes}
 use Rattle.ls_shared.proofs.Rounds.{take_at, take_changed, past_end, none_sees, none_alike, none_more, one_waits}

@@ -7,8 +7,8 @@ use Rattle.ls_register.specs.declared.made.Made.TheVariants.{Freed, Gone}
 use Rattle.ls_register.specs.Sessions.{Gains}
 use Rattle.ls_register.proofs.Showing.{at_end}
 use Rattle.ls_told.specs.Requests.{Reconfigures, EndsSub, Destroys, DoneBy, Does, InTime, op_refusals}
-use Rattle.ls_taking.specs.Groups.{SubSeen}
-use Rattle.ls_parts.specs.Leaving.{SetsFrequency, EndsSub as Ended, EndsAll}
+use Rattle.ls_live_session.specs.Groups.{SubSeen}
+use Rattle.ls_live_session.specs.Leaving.{SetsFrequency, EndsSub as Ended, EndsAll}
 use Rattle.ls_record.specs.Acting.{destroyed}
 use Rattle.ls_record.specs.Cases.{first_code}
 use Rattle.ls_record.specs.Records.{is_alive}
@@ -28,9 +28,9 @@ use Rattle.ls_told.specs.Seen.{Watched, Testified, Grows, IsTold, items_seen}
 use Rattle.ls_told.specs.Keeping.{KeepsTold}
 use Rattle.ls_told.specs.Requests.{RefusesOp, op_code, is_spent_for}
 use Rattle.ls_told.proofs.Watching.{sees_same}
-use Rattle.ls_sight.specs.Speaking.{Speaking}
-use Rattle.ls_sight.specs.Sights.{ShowsAll}
-use Rattle.ls_parts.specs.Leaving.{Finds}
+use Rattle.ls_live_session.specs.Speaking.{Speaking}
+use Rattle.ls_live_session.specs.Sights.{ShowsAll}
+use Rattle.ls_live_session.specs.Leaving.{Finds}
 use Rattle.ls_shared.specs.Answers.{AsksSlots, Changes}
 
 pub told_of : (config : List ItemDef) (number : ℕ) (es : List Told) (ws : List Watched) (s : Session) → KeepsTold config number es ws s

@@ -11,7 +11,7 @@ use Rattle.ls_register.specs.Items.{facts_of, facts_from, items_of}
 use Rattle.atomic_table.specs.Seated.{TableId}
 use Rattle.ls_register.specs.Places.{Placed}
 use Rattle.ls_register.proofs.Showing.{at_end}
-use Rattle.ls_sight.specs.Sights.{ShowsIt}
+use Rattle.ls_live_session.specs.Sights.{ShowsIt}
 use Rattle.ls_register.specs.declared.made.Made.{Made}
 use Rattle.ls_register.specs.declared.made.Made.TheVariants.{Session}
 use Rattle.ls_register.specs.declared.told.Told.{Told}

@@ -20,7 +20,7 @@ use Rattle.ls_told.specs.Heard.{heard, counts_as, rates_of}
 use Rattle.ls_told.specs.Seen.{Watched, Testified, Grows, IsTold}
 use Rattle.ls_told.specs.Requests.{Does, InTime, RefusesOp, bind_code_of}
 use Rattle.ls_told.proofs.Facts.{rebind_there, owed_few}
-use Rattle.ls_sight.specs.Speaking.{Speaking}
+use Rattle.ls_live_session.specs.Speaking.{Speaking}
 use Rattle.ls_shared.specs.Answers.{AddsOn, BindsOn}
 use Rattle.ls_shared.specs.Operations.{ClaimsRoom, HadRates, HasWish}
 use Rattle.ls_shared.proofs.Grown.{binds_on}

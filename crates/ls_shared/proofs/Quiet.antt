@@ -11,7 +11,7 @@ use Rattle.ls_register.specs.declared.told.Told.{Told}
 use Rattle.ls_told.specs.Seen.{Watched, FitsWatch, SeesMore, items_seen, seen_of}
 use Rattle.ls_told.specs.Turns.{HasNothing, IsIdle, IsNotDue, IsStill}
 use Rattle.ls_told.proofs.Watching.{keeps_seen, seen_more}
-use Rattle.ls_sight.proofs.Shown.{lawful_of}
+use Rattle.ls_live_session.proofs.Shown.{lawful_of}
 use Rattle.ls_shared.specs.Asking.{HadNothing, QuietRound}
 use Rattle.ls_shared.proofs.Rounds.{none_sees, waiting_seen}
 

@@ -9,8 +9,8 @@ use Rattle.ls_session.specs.declared.session.Turn.TheVariants as turn
 use Rattle.ls_told.specs.Heard.{CountsOn}
 use Rattle.ls_told.specs.Seen.{FitsWatch, Testified, Grows, SeesMore, Watched}
 use Rattle.ls_told.specs.Requests.{HasBound}
-use Rattle.ls_sight.specs.Sights.{GaveAt, IsGiven}
-use Rattle.ls_sight.specs.Speaking.{Speaking}
+use Rattle.ls_live_session.specs.Sights.{GaveAt, IsGiven}
+use Rattle.ls_live_session.specs.Speaking.{Speaking}
 use Rattle.ls_shared.specs.Answers.{Reaches, Turns}
 use Rattle.ls_shared.specs.Taking.{EndsTurn, GaveLast}
 use Rattle.ls_shared.proofs.Grown.{grows_on}

@@ -18,8 +18,8 @@ use Rattle.ls_told.specs.Turns.{GivesLine, HasEnded, IsIdle, IsNotDue, IsProbe, 
 use Rattle.ls_told.specs.Spoken.{next_of, text_of_next}
 use Rattle.ls_told.proofs.Facts.{streams_counted}
 use Rattle.ls_told.proofs.Watching.{sees_twice}
-use Rattle.ls_parts.specs.Giving.{GivesNext, StaysStill}
-use Rattle.ls_sight.specs.Sights.{GaveAt}
+use Rattle.ls_live_session.specs.Giving.{GivesNext, StaysStill}
+use Rattle.ls_live_session.specs.Sights.{GaveAt}
 use Rattle.ls_shared.specs.Answers.{Turns}
 use Rattle.ls_shared.specs.Asking.{QuietRound}
 use Rattle.ls_shared.proofs.Grown.{last_there}

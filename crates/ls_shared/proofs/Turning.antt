@@ -22,12 +22,12 @@ use Rattle.ls_told.specs.Heard.{heard, counts_as}
 use Rattle.ls_told.specs.Seen.{Watched}
 use Rattle.ls_told.specs.Requests.{HasBound}
 use Rattle.ls_told.specs.Turns.{HasEnded, IsSilent, SpokeInTime, IsSpent, IsUnbound, probe_text}
-use Rattle.ls_taking.specs.Groups.{SubSeen}
-use Rattle.ls_taking.specs.Lives.{Lives, LivesAs}
-use Rattle.ls_parts.specs.Giving.{GivesNext, StaysStill, given, speaks}
-use Rattle.ls_parts.specs.Giving.{Gives as GivesTurn}
-use Rattle.ls_taking.specs.Taking.{IsAskedFrom}
-use Rattle.ls_parts.specs.Replying.{Replies}
+use Rattle.ls_live_session.specs.Groups.{SubSeen}
+use Rattle.ls_live_session.specs.Lives.{Lives, LivesAs}
+use Rattle.ls_live_session.specs.Giving.{GivesNext, StaysStill, given, speaks}
+use Rattle.ls_live_session.specs.Giving.{Gives as GivesTurn}
+use Rattle.ls_live_session.specs.Taking.{IsAskedFrom}
+use Rattle.ls_live_session.specs.Replying.{Replies}
 use Rattle.ls_shared.specs.Asking.{QuietRound}
 use Rattle.ls_shared.specs.Taking.{EndsQuiet, EndsTurn, GaveLast, GaveProbe, GivesNone}
 use Rattle.ls_shared.proofs.Grown.{newer_there}

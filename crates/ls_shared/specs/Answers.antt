@@ -4,7 +4,7 @@ use Rattle.ls_request.specs.declared.request.Op.{Op}
 use Rattle.ls_request.specs.declared.request.Op.TheVariants as op
 use Rattle.ls_record.specs.Acting.{asks_of}
 use Rattle.ls_record.specs.Records.{Session}
-use Rattle.ls_parts.specs.Leaving.{Finds}
+use Rattle.ls_live_session.specs.Leaving.{Finds}
 use Rattle.std.specs.Prelude.{◌≡◌, ◌<◌, ◌⊎◌, ℕ, List, [], ◌∷◌, ◌++◌, length, Bool, true, false, not, Option, None, Some}
 use Rattle.std.specs.Prelude.{nat_le, nat_lt}
 use mathlib.Core.List.{IsPrefix}
@@ -23,8 +23,8 @@ use Rattle.ls_session.specs.declared.session.Lost.{Lost}
 use Rattle.ls_session.specs.declared.session.Lost.TheVariants as lost
 use Rattle.ls_session.specs.declared.session.Turn.{Turn}
 use Rattle.ls_session.specs.declared.session.Turn.TheVariants as turn
-use Rattle.ls_sight.specs.Speaking.{Speaking}
-use Rattle.ls_sight.specs.Sights.{ShowsAll}
+use Rattle.ls_live_session.specs.Speaking.{Speaking}
+use Rattle.ls_live_session.specs.Sights.{ShowsAll}
 use Rattle.ls_told.specs.Heard.{heard, counts_as}
 use Rattle.ls_told.specs.Seen.{Testified, Grows, IsTold}
 use Rattle.ls_told.specs.Requests.{AddsSub, Binds, DoneBy, HasBound, op_code, is_spent_for}

@@ -11,9 +11,9 @@ use Rattle.ls_session.specs.Record.{Record, Question}
 use Rattle.ls_told.specs.Keeping.{KeepsTold}
 use Rattle.ls_told.specs.Seen.{Watched, SeesMore, items_seen, seen_of}
 use Rattle.ls_told.specs.Turns.{HasNothing}
-use Rattle.ls_taking.specs.Groups.{SubSeen}
-use Rattle.ls_taking.specs.Lives.{LivesAs}
-use Rattle.ls_taking.specs.Taking.{IsAskedFrom}
+use Rattle.ls_live_session.specs.Groups.{SubSeen}
+use Rattle.ls_live_session.specs.Lives.{LivesAs}
+use Rattle.ls_live_session.specs.Taking.{IsAskedFrom}
 
 -- a slot that was asked at a tick and had nothing to tell: it has every event that a caller had seen of its item, and
 -- where it is due nothing of it is pending

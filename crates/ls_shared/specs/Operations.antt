@@ -16,7 +16,7 @@ use Rattle.ls_register.specs.declared.told.Told.TheVariants.{Ended}
 use Rattle.ls_told.specs.Heard.{heard, counts_as, has_rebind, rates_of}
 use Rattle.ls_told.specs.Seen.{Testified, IsTold}
 use Rattle.ls_told.specs.Requests.{free_in, is_spent_for, op_code}
-use Rattle.ls_parts.specs.Leaving.{IsOverdue}
+use Rattle.ls_live_session.specs.Leaving.{IsOverdue}
 
 -- the room for the slots of a subscription was claimed when the register was this one, by which nothing stood against it
 pub record ClaimsRoom (config : List ItemDef) (a : Add) (old new : Testified) : Type 0 where

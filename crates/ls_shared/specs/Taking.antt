@@ -10,7 +10,7 @@ use Rattle.ls_register.specs.declared.told.Told.TheVariants.{Gave}
 use Rattle.ls_told.specs.Heard.{counts_as}
 use Rattle.ls_told.specs.Seen.{Watched}
 use Rattle.ls_told.specs.Turns.{IsSilent, SpokeInTime, probe_text, HasEnded, IsSpent, IsUnbound}
-use Rattle.ls_parts.specs.Giving.{GivesNext, StaysStill}
+use Rattle.ls_live_session.specs.Giving.{GivesNext, StaysStill}
 use Rattle.ls_shared.specs.Asking.{QuietRound}
 
 -- nothing was to be given, nor had any slot a line

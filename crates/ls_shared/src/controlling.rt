@@ -10,18 +10,16 @@ ghost use Rattle.ls_register.specs.declared.made.Made.TheVariants.{Freed, Gone};
 ghost use Rattle.ls_subs.specs.declared.plan.Refusal.TheVariants as Refusal;
 ghost use Rattle.ls_told.specs.Seen.{Grows, LawfulTold};
 ghost use Rattle.ls_told.specs.Requests.{Does, RefusesOp};
-ghost use Rattle.ls_sight.specs.Sights.{ShowsAll};
+ghost use Rattle.ls_live_session.specs.Sights.{ShowsAll};
 ghost use Rattle.ls_shared.specs.Answers.{AsksSlots, Changes, SeesOn};
 ghost use Rattle.ls_shared.specs.Operations.{AddsNothing, ClaimsFor, HadRates, HasWish};
 
 use crate::shared::Shared;
 use crate::testimony::Testimony;
-use ls_live_session::LiveSession;
-use ls_parts::Left;
+use ls_live_session::{Left, LiveSession, Sight};
 use ls_register::{House, wait_for_good};
 use ls_request::Op;
 use ls_session::DESTROYED;
-use ls_sight::Sight;
 use ls_subs::Refusal;
 use std::sync::Wait;
 

@@ -8,12 +8,10 @@ ghost use Rattle.ls_told.specs.Requests.{InTime};
 ghost use Rattle.ls_shared.specs.Operations.{AddsNothing};
 
 use crate::shared::Shared;
-use ls_live_session::LiveSession;
-use ls_parts::Left;
+use ls_live_session::{Left, LiveSession, SubSeats};
 use ls_register::{House, wait_for_good};
 use ls_seated::Seat;
 use ls_session::TIMED_OUT;
-use ls_taking::SubSeats;
 use ls_value::NoMemory;
 use std::sync::atomic::Ordering;
 use std::sync::{Arc, Wait};

@@ -131,6 +131,32 @@ impl<N: House> Shared<N> {
             (IsCause (cause_in pass.old.shape pass.new.list (entry_of pass.old.adapter seq event))) }
         ensures textual { Textual pass.new.list }
     {
+        let item = pass.item();
+        let answer = self.offer_quietly(rt, pass, seq, event, gate);
+        self.ring(rt, item);
+        answer
+    }
+
+    /// The same, and no session learns of it before [`Shared::ring`] is called for the item. So of events that come at once
+    /// a session is woken once.
+    pub fn offer_quietly<R: Wait, G: Gate>(
+        &self,
+        rt: &R,
+        pass: &mut PubPass<N>,
+        seq: u64,
+        event: Event,
+        gate: &G,
+    ) -> Result<u64, PublishRefused>
+        requires { HasFields pass.old.shape.fields event }
+        ensures begins { IsPrefix pass.old.list pass.new.list }
+        ensures adapter { pass.new.adapter ≡ pass.old.adapter }
+        ensures item { (pass.new.table ≡ pass.old.table) × (pass.new.shape ≡ pass.old.shape)
+            × (pass.new.item ≡ pass.old.item) × (pass.new.place ≡ pass.old.place) }
+        ensures done { IfOk result (λ no. HasOnce pass.new.list no pass.old.adapter seq event) }
+        ensures refused { IfErr result
+            (IsCause (cause_in pass.old.shape pass.new.list (entry_of pass.old.adapter seq event))) }
+        ensures textual { Textual pass.new.list }
+    {
         let copied = copied_entry(self.alloc, pass.adapter(), seq, &event);
         let item = pass.item();
         let Some(lock) = self.items.get(item as usize) else {
@@ -139,13 +165,18 @@ impl<N: House> Shared<N> {
         };
         let mut live = lock.lock(rt);
         gate.pass(Point::Offering { item });
-        let answer = offer_to(rt, &mut live, &self.register, pass, seq, event, &copied);
-        let bells = live.bells();
-        drop(live);
+        offer_to(rt, &mut live, &self.register, pass, seq, event, &copied)
+    }
+
+    /// Wakes the sessions that have slots on an item. It takes the item's lock, and no memory.
+    pub fn ring<R: Wait>(&self, rt: &R, item: u32) {
+        let Some(lock) = self.items.get(item as usize) else {
+            return;
+        };
+        let bells = lock.lock(rt).bells();
         if let Ok(bells) = bells {
             ring(&bells);
         }
-        answer
     }
 }
 

@@ -4,9 +4,8 @@ ghost use Rattle.ls_told.specs.Heard.{keepalive_of};
 ghost use Rattle.ls_told.specs.Seen.{LawfulTold};
 
 use ls_bell::Bell;
-use ls_live_session::LiveSession;
+use ls_live_session::{LiveSession, Sight};
 use ls_register::House;
-use ls_sight::Sight;
 use std::alloc::Global;
 use std::marker::Model;
 use std::sync::{Arc, Mutex};

@@ -4,11 +4,10 @@ ghost use Rattle.ls_config.specs.Items.{are_items};
 
 use ls_config::{Config, read as read_config};
 use ls_event::Event;
-use ls_guest::{Guest, control_of, create_of};
+use ls_guest::{Guest, Shared, Turn, control_of, create_of};
 use ls_line::LineBuf;
 use ls_outside::{Gate, OpenGate, Point};
 use ls_register::{Blank, House};
-use ls_shared::{Shared, Turn};
 use ls_value::NoMemory;
 use std::alloc::Global;
 use std::marker::{Brand, Send};

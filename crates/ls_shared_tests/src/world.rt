@@ -11,12 +11,14 @@ ghost use Rattle.ls_config.specs.Items.{are_items};
 ghost use Rattle.ls_value.specs.declared.limits.TheConstants.{GREATEST_TICK};
 
 use ls_config::{Config, read as read_config};
-use ls_guest::{Guest, bind_of, control_of, create_of, number, publish_text};
+use ls_guest::{
+    Guest, Lost, PublishRefused, Refusal, Shared, Turn, bind_of, control_of, create_of, number,
+    publish_text,
+};
 use ls_line::LineBuf;
 use ls_outside::OpenGate;
 use ls_record::message_of;
 use ls_register::{Blank, House, View};
-use ls_shared::{Lost, PublishRefused, Refusal, Shared, Turn};
 use ls_value::{GREATEST_TICK, NoMemory};
 use std::alloc::{AllocError, Global};
 use std::marker::Brand;

@@ -1,2 +1,3 @@
 pub mod Speaking
 pub mod Sights
+pub mod Cut

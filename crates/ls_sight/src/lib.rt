@@ -18,5 +18,6 @@ mod cross;
 mod sight;
 mod watches;
 
+pub use ls_history::{CutOf, History, is_past, no_cut};
 pub use sight::{Sight, SightStart};
 pub use watches::{copies, count_of, find_watch, fits};

@@ -20,4 +20,7 @@ mod finding;
 mod seats;
 
 pub use finding::{Found, catch_up_in, find_in, last_place};
+pub use ls_sight::{
+    CutOf, History, Sight, SightStart, copies, count_of, find_watch, fits, is_past, no_cut,
+};
 pub use seats::SubSeats;

@@ -10,10 +10,10 @@ ghost use Rattle.ls_taking.specs.Taking.{seat_set, told_to, cursor_after};
 
 use ls_chron::Chron;
 use ls_event::Taken;
-use ls_history::CutOf;
 use ls_live::Watch;
 use ls_register::{House, Made};
 use ls_seated::{Seat, Seated};
+use ls_sight::CutOf;
 use ls_subs::SlotRef;
 use ls_value::NoMemory;
 use std::marker::Model;

@@ -1,11 +1,10 @@
-//! The tests of the libraries: each public call once with ample memory, what no line of text can say, and calls of
-//! several threads at the same time.
+//! The tests of the libraries that no threads share: each public call once with ample memory, and what no line of text can
+//! say. Those of what threads share stand in `ls_thread_tests`.
 //!
 //! They stand together here, a module for each crate, and not beside what they test: a crate with tests is proved
 //! twice, and each set of tests is linked with all that it calls, and loads what is proved of that. What a line of text
 //! can say is a case of `ls_tables`, and costs no proof. A test is short, since it is proved too: a helper with two or
-//! three `?` answers whether all is as it must be. A test with threads ends by itself, whatever the order in which they
-//! go on.
+//! three `?` answers whether all is as it must be.
 #![tactic(auto)]
 
 #[cfg(test)]
@@ -13,15 +12,11 @@ mod budget;
 #[cfg(test)]
 mod cell;
 #[cfg(test)]
-mod chron;
-#[cfg(test)]
 mod config;
 #[cfg(test)]
 mod event;
 #[cfg(test)]
 mod event_text;
-#[cfg(test)]
-mod feed;
 #[cfg(test)]
 mod form;
 #[cfg(test)]
@@ -31,8 +26,6 @@ mod line;
 #[cfg(test)]
 mod lines;
 #[cfg(test)]
-mod live;
-#[cfg(test)]
 mod made;
 #[cfg(test)]
 mod mirror;
@@ -41,21 +34,15 @@ mod orders;
 #[cfg(test)]
 mod outside;
 #[cfg(test)]
-mod pair;
-#[cfg(test)]
 mod plain;
 #[cfg(test)]
 mod queue;
-#[cfg(test)]
-mod register;
 #[cfg(test)]
 mod request;
 #[cfg(test)]
 mod round;
 #[cfg(test)]
 mod script;
-#[cfg(test)]
-mod shared;
 #[cfg(test)]
 mod update;
 #[cfg(test)]

@@ -13,4 +13,5 @@
 mod lent;
 mod upgrading;
 
+pub use ls_conn_ws::serve_ws;
 pub use upgrading::upgrade;

@@ -4,16 +4,13 @@ ghost use Rattle.std.specs.Io.KnownBytes.{Appends};
 ghost use Rattle.ls_outside.specs.Causes.{Rose, RoseBy};
 ghost use Rattle.ls_http.specs.Replies.{upgrade_text};
 ghost use Rattle.ls_ws.specs.Accept.{accept_of};
-ghost use Rattle.ls_conn.specs.declared.ended.TheConstants.{MOST_IDLES};
-ghost use Rattle.ls_conn.specs.declared.ended.ConnEnd.TheVariants as end_is;
+ghost use Rattle.ls_conn_ws.specs.Ends.{MOST_IDLES, Refused};
 
 use crate::lent::Lent;
-use ls_conn::{ConnEnd, ConnReport, MOST_IDLES, Seen};
-use ls_conn_ws::serve_ws;
+use ls_conn_ws::{ConnEnd, ConnReport, MOST_IDLES, Seen, Shared, serve_ws};
 use ls_http::append_upgrade;
 use ls_outside::{Clock, Gate, Pipe, Put, Sink, write_all};
 use ls_register::House;
-use ls_shared::Shared;
 use ls_value::NoMemory;
 use ls_wake::Wakes;
 use ls_ws::{WsWire, accept_text};
@@ -79,7 +76,7 @@ fn end_over<C: Pipe>(end: ConnEnd, conn: &C, before: Noted) -> ConnEnd
     ensures too_slow { result ≡ ConnEnd.TooSlow → RoseBy MOST_IDLES before.idles (C.waits conn.now) }
     ensures stopped { result ≡ ConnEnd.Stopped → end ≡ ConnEnd.Stopped }
     ensures not_served { result ≡ ConnEnd.Served → ⊥ }
-    ensures not_refused { (status : ℕ) → result ≡ end_is.Refused status → ⊥ }
+    ensures not_refused { (status : ℕ) → result ≡ Refused status → ⊥ }
 {
     let rose = match end {
         ConnEnd::ReadFault => conn.read_faults() >= before.reads.saturating_add(1),
@@ -110,7 +107,7 @@ pub fn upgrade<N: House, R: Wait, C: Pipe + Wakes, K: Clock, G: Gate>(
     ensures too_slow { result.end ≡ ConnEnd.TooSlow → RoseBy MOST_IDLES (C.waits conn.old) (C.waits conn.new) }
     ensures stopped { result.end ≡ ConnEnd.Stopped → until ≤ K.told clock.new }
     ensures not_served { result.end ≡ ConnEnd.Served → ⊥ }
-    ensures not_refused { (status : ℕ) → result.end ≡ end_is.Refused status → ⊥ }
+    ensures not_refused { (status : ℕ) → result.end ≡ Refused status → ⊥ }
 {
     let before = Noted {
         reads: conn.read_faults(),

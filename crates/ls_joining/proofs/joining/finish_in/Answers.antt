@@ -5,7 +5,7 @@ use Rattle.ls_told.specs.Requests.{plain}
 use Rattle.ls_told.specs.Seen.{items_seen}
 use Rattle.ls_record.specs.Acting.{asks_of}
 use Rattle.ls_subs.specs.Plans.{JoinAll}
-use Rattle.ls_taking.specs.Groups.{SubSeen}
+use Rattle.ls_parts.specs.Groups.{SubSeen}
 use Rattle.ls_joining.proofs.Added.{finished, told_plain, told_begun, join_numbers}
 use Rattle.ls_joining.proofs.Sitting.{sitters}
 use Rattle.ls_joining.proofs.joining.finish_in.Goals as goal

@@ -1,6 +1,6 @@
 use Rattle.std.proofs.lemmas.Grind.{common_steps}
 use Rattle.std.proofs.Common.{◌≡◌, ◌∙◌, sym, subst, arith, rules, length, slice_get, Some}
-use Rattle.ls_sight.proofs.Reading.{shape_found}
+use Rattle.ls_parts.proofs.Reading.{shape_found}
 use Rattle.ls_joining.proofs.Added.{read_at, adding_item, item_sees}
 use Rattle.ls_joining.proofs.joining.join_next.Goals as goal
 

@@ -2,8 +2,8 @@ use Rattle.std.proofs.Common.{List, IfSome, sym, subst, arith}
 use Rattle.ls_register.specs.Places.{Placed}
 use Rattle.ls_register.specs.Watches.{Watched}
 use Rattle.ls_told.specs.Keeping.{KeepsTold}
-use Rattle.ls_sight.specs.Sights.{ShowsIt}
-use Rattle.ls_parts.proofs.Living.{lives_room}
+use Rattle.ls_joining.specs.Sights.{ShowsIt}
+use Rattle.ls_joining.proofs.Living.{lives_room}
 use Rattle.ls_live_session.proofs.showing.sight_of.Goals as goal
 
 pub begin-requires-clause-few : goal.begin-requires-clause-few

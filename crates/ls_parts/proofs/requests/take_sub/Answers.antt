@@ -1,5 +1,5 @@
 use Rattle.std.proofs.Common.{◌≡◌, List, [], ◌∷◌, ◌++◌, sym, ap, ◌∙◌, subst}
-use Rattle.ls_sight.proofs.Reading.{read_is}
+use Rattle.ls_taking.proofs.Reading.{read_is}
 use Rattle.ls_taking.specs.Groups.{SubSeen}
 use Rattle.ls_taking.specs.Lives.{HasSeat}
 use Rattle.ls_parts.proofs.Changed.{has_seat_removed, has_seat_taken, has_no_seat}

@@ -3,9 +3,9 @@ use Rattle.ls_register.specs.declared.told.Told.{Told}
 use Rattle.ls_session.specs.declared.session.Session.{Session as Kept}
 use Rattle.ls_session.specs.Record.{Record, Question, passed_over}
 use Rattle.ls_told.specs.Seen.{Watched, seen_of}
-use Rattle.ls_taking.specs.Groups.{SubSeen}
-use Rattle.ls_taking.specs.Lives.{LivesAs, HasNothing}
-use Rattle.ls_taking.specs.Taking.{IsAskedFrom}
+use Rattle.ls_live_session.specs.Groups.{SubSeen}
+use Rattle.ls_live_session.specs.Lives.{LivesAs, HasNothing}
+use Rattle.ls_live_session.specs.Taking.{IsAskedFrom}
 use Rattle.ls_shared.proofs.taking.rests.Goals as goal
 
 pub returns-clause-rests : goal.returns-clause-rests

@@ -1,10 +1,11 @@
-use Rattle.std.proofs.Common.{subst, sym, ap, ◌∙◌, ◌≡◌, ◌+◌, ◌-◌, ℕ, zero, suc, List, Option, None, IsSome, get_or, set, arith}
+use Rattle.std.proofs.Common.{subst, sym, ap, ◌∙◌, ◌≡◌, ◌+◌, ◌-◌, ◌≤◌, ℕ, zero, suc, List, Option, None, IsSome, get_or, set, arith}
 use Rattle.std.proofs.lemmas.List.{length-set, get_or-set_same}
 use Rattle.std.specs.Option.{ForSome}
-use Rattle.ls_cell.specs.Any.{AnyAdmits}
-use Rattle.ls_cell.specs.Numbered.{slot_at, set_slot, EachSlot, StandsAll}
+use Rattle.ls_cell.specs.Any.{AnyAdmits, any_last}
+use Rattle.ls_cell.specs.Numbered.{slot_at, set_slot, IsAt, EachSlot, StandsAll}
 use Rattle.ls_cell.specs.Standing.{IsSlotOf, StandsSlot, last_at}
-use Rattle.ls_cell.proofs.Changes.{slot_read, within, each_set, slot_each, stands_set, slot_stands, live_at, live_kept, free_kept}
+use Rattle.ls_cell.proofs.Changes.{slot_read, within, each_set, slot_each, stands_set, slot_stands, live_at, live_kept, free_kept, read_live}
+use Rattle.ls_cell.proofs.Least.{least_kept}
 use Rattle.ls_cell.proofs.slots.Slots.enqueue.Goals as goal
 
 -- what stands at the number
@@ -56,21 +57,46 @@ invariant_of-self c =
     live_at _ c.args.slot (subst (λ t. IsSome (slot_at t c.args.slot)) (sym c.self.view_is) c.requires.live) in
     let new : IsSome c.enqueue_at.new.slot = subst (λ o. IsSome o) (sym (c.in_err-enqueue_at.ensures.err ∙ here c.self.inside.slots.items c.args.self.now c.args.slot c.index_mut.result.now
     c.self.view_is c.requires.live c.index_mut.ensures.value)) c.requires.live in
+    let i = c.self.invariant in
+    let before : IsSome (slot_at c.self.inside.slots.items c.args.slot) =
+    subst (λ t. IsSome (slot_at t c.args.slot)) (sym c.self.view_is) c.requires.live in
+    let own = slot_each (λ b. c.self.inside.least ≤ any_last b) _ c.args.slot _ before c.index_mut.ensures.value i.3 in
     rw (
       length-set c.self.inside.slots.items (c.args.slot - 1) c.enqueue_at.new.slot,
       live_kept _ _ c.enqueue_at.new.slot live new,
       free_kept _ _ c.enqueue_at.new.slot live new,
-    ) c.self.invariant
+    ) (
+      i.0,
+      i.1,
+      i.2,
+      each_set (λ b. c.self.inside.least ≤ any_last b) _ (c.args.slot - 1) _ i.3
+          (subst (IsAt (λ b. c.self.inside.least ≤ any_last b)) (sym c.in_err-enqueue_at.ensures.err) own),
+    )
 
 pub invariant_of-self-2 : goal.invariant_of-self-2
 invariant_of-self-2 c =
     let live : IsSome (get_or c.self.inside.slots.items (c.args.slot - 1) None) =
     live_at _ c.args.slot (subst (λ t. IsSome (slot_at t c.args.slot)) (sym c.self.view_is) c.requires.live) in
+    let i = c.self.invariant in
+    let before : IsSome (slot_at c.self.inside.slots.items c.args.slot) =
+    subst (λ t. IsSome (slot_at t c.args.slot)) (sym c.self.view_is) c.requires.live in
+    let read = read_live c.self.inside.slots.items c.args.slot _ before c.index_mut.ensures.value in
+    let own = slot_each (λ b. c.self.inside.least ≤ any_last b) _ c.args.slot _ before c.index_mut.ensures.value i.3 in
+    let stood = here c.self.inside.slots.items c.args.self.now c.args.slot c.index_mut.result.now c.self.view_is c.requires.live
+    c.index_mut.ensures.value in
+    let rises : last_at c.index_mut.result.now ≤ last_at c.enqueue_at.new.slot =
+    omega (arith, ap last_at stood, c.requires.next, c.in_ok-enqueue_at.ensures.last) in
     rw (
       length-set c.self.inside.slots.items (c.args.slot - 1) c.enqueue_at.new.slot,
       live_kept _ _ c.enqueue_at.new.slot live c.in_ok-enqueue_at.ensures.live,
       free_kept _ _ c.enqueue_at.new.slot live c.in_ok-enqueue_at.ensures.live,
-    ) c.self.invariant
+    ) (
+      i.0,
+      i.1,
+      i.2,
+      each_set (λ b. c.self.inside.least ≤ any_last b) _ (c.args.slot - 1) _ i.3
+          (least_kept c.self.inside.least _ c.enqueue_at.new.slot read rises own),
+    )
 
 pub returns-clause-sound : goal.returns-clause-sound
 returns-clause-sound c = λ p number kept low fields after each.

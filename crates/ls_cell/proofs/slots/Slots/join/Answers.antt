@@ -1,7 +1,8 @@
-use Rattle.std.proofs.Common.{◌≡◌, ◌<◌, ◌+◌, ◌∙◌, ap, arith, subst, sym}
+use Rattle.std.proofs.Common.{◌≡◌, ◌<◌, ◌≤◌, ◌+◌, ◌∙◌, ap, arith, subst, sym}
 use Rattle.ls_event.specs.declared.limits.TheConstants.{MOST_SLOTS}
+use Rattle.ls_cell.specs.Any.{any_last}
 use Rattle.ls_cell.specs.Numbered.{free_number, live_slots}
-use Rattle.ls_cell.proofs.Changes.{free_low, length_put, live_put, free_put}
+use Rattle.ls_cell.proofs.Changes.{free_low, length_put, live_put, free_put, each_put, each_weaker}
 use Rattle.ls_cell.proofs.slots.Slots.join.Goals as goal
 
 pub invariant_of-self-2 : goal.invariant_of-self-2
@@ -14,4 +15,10 @@ invariant_of-self-2 c =
       length_put _ _ MOST_SLOTS c.self.invariant.0 (omega (arith, few, free_low c.self.inside.slots.items)),
       omega (arith, c.self.invariant.1, live_put c.self.inside.slots.items c.args.buffer),
       omega (arith, free, free_put c.self.inside.slots.items c.args.buffer),
+      each_put (λ b. c.min-self-inside.result ≤ any_last b) _ c.args.buffer
+          (each_weaker (λ b. c.self.inside.least ≤ any_last b) (λ b. c.min-self-inside.result ≤ any_last b) (λ b most. omega (arith, most, c.min-self-inside.ensures)) _ c.self.invariant.3)
+          (omega (arith, c.min-self-inside.ensures, c.last-last.ensures)),
     )
+
+pub invariant_of-self : goal.invariant_of-self
+invariant_of-self c = rw c.in_err-put.ensures.err c.self.invariant

@@ -1,7 +1,7 @@
 use Rattle.std.proofs.Common.{◌+◌, ◌≤◌, List, IfSome, sym, subst}
 use Rattle.std.specs.Vec.{vec_len, vec_capacity}
 use Rattle.ls_register.specs.Watches.{Watched}
-use Rattle.ls_sight.specs.Sights.{ShowsIt}
+use Rattle.ls_joining.specs.Sights.{ShowsIt}
 use Rattle.ls_joining.specs.Adding.{IsAdding}
 use Rattle.ls_live_session.proofs.adding.Adding.show_items.Goals as goal
 

@@ -1,8 +1,8 @@
 use Rattle.std.proofs.Common.{IfSome, sym, ap, ◌∙◌, subst}
 use Rattle.std.proofs.lemmas.Bool.{eqb-true}
 use Rattle.ls_register.specs.Places.{Placed}
-use Rattle.ls_sight.specs.Sights.{ShowsIt}
-use Rattle.ls_sight.proofs.Shown.{one_session}
+use Rattle.ls_joining.specs.Sights.{ShowsIt}
+use Rattle.ls_joining.proofs.Shown.{one_session}
 use Rattle.ls_live_session.proofs.live.LiveSession.is_of.Goals as goal
 
 pub returns-clause-one : goal.returns-clause-one

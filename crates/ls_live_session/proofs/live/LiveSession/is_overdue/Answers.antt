@@ -1,9 +1,9 @@
 use Rattle.std.proofs.Common.{sym, ap, ◌∙◌, subst, arith}
 use Rattle.ls_told.specs.Heard.{heard, counts_as}
 use Rattle.ls_told.specs.Spoken.{Spoken}
-use Rattle.ls_sight.specs.Speaking.{Speaking}
-use Rattle.ls_parts.specs.Leaving.{IsOverdue}
-use Rattle.ls_parts.proofs.Living.{alive_is}
+use Rattle.ls_joining.specs.Speaking.{Speaking}
+use Rattle.ls_joining.specs.Leaving.{IsOverdue}
+use Rattle.ls_joining.proofs.Living.{alive_is}
 use Rattle.ls_live_session.proofs.live.LiveSession.is_overdue.Goals as goal
 
 pub returns-then-is_alive-clause-overdue : goal.returns-then-is_alive-clause-overdue

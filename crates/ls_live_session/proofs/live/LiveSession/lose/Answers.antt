@@ -1,6 +1,6 @@
 use Rattle.std.proofs.Common.{◌≡◌, ℕ, Some, false, length, nat_lt, subst}
 use Rattle.ls_told.specs.Heard.{heard}
-use Rattle.ls_sight.specs.Speaking.{Speaking}
+use Rattle.ls_joining.specs.Speaking.{Speaking}
 use Rattle.ls_live_session.proofs.live.LiveSession.lose.Goals as goal
 
 pub returns-clause-not_bound : goal.returns-clause-not_bound

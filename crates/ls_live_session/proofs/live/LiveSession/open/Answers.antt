@@ -1,9 +1,9 @@
 use Rattle.std.proofs.Common.{◌≡◌, IfSome, List, ◌++◌, ◌∷◌, [], sym, ap, ◌∙◌, subst, false}
 use Rattle.ls_register.specs.declared.told.Told.{Told}
 use Rattle.ls_register.specs.declared.told.Told.TheVariants.{Rate, Bound}
-use Rattle.ls_sight.specs.Sights.{ShowsIt}
-use Rattle.ls_taking.specs.Lives.{Lives}
-use Rattle.ls_parts.proofs.Living.{lives_opened}
+use Rattle.ls_joining.specs.Sights.{ShowsIt}
+use Rattle.ls_joining.specs.Lives.{Lives}
+use Rattle.ls_joining.proofs.Living.{lives_opened}
 use Rattle.ls_live_session.proofs.live.LiveSession.open.Goals as goal
 
 pub invariant_of-result : goal.invariant_of-result

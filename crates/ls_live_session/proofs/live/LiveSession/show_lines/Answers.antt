@@ -1,7 +1,7 @@
 use Rattle.std.proofs.Common.{ℕ, List, sym, ap, ◌∙◌, subst, arith}
 use Rattle.ls_register.specs.Watches.{Watched}
 use Rattle.ls_told.specs.Keeping.{KeepsTold}
-use Rattle.ls_parts.proofs.Living.{lives_room}
+use Rattle.ls_joining.proofs.Living.{lives_room}
 use Rattle.ls_live_session.proofs.live.LiveSession.show_lines.Goals as goal
 
 pub show_lines-requires-clause-few : goal.show_lines-requires-clause-few

@@ -1,5 +1,5 @@
 use Rattle.std.proofs.Common.{◌-◌, slice_get, refl, sym, ◌∙◌, ap}
-use Rattle.ls_sight.proofs.Reading.{read_is}
+use Rattle.ls_taking.proofs.Reading.{read_is}
 use Rattle.ls_taking.specs.Groups.{SubSeen}
 use Rattle.ls_taking.specs.Taking.{SeatAt}
 use Rattle.ls_parts.proofs.Asked.{seat_asked}

@@ -10,7 +10,7 @@ use Rattle.ls_subs.specs.Standing.{ref_of, what_of}
 use Rattle.ls_subs.proofs.Cuts.{cut_suits}
 use Rattle.ls_told.specs.Telling.{TellsOf}
 use Rattle.ls_turns.specs.declared.slot_ref.SlotRef.{SlotRef}
-use Rattle.ls_sight.proofs.Reading.{read_is}
+use Rattle.ls_taking.proofs.Reading.{read_is}
 use Rattle.ls_taking.specs.Groups.{SubSeen}
 use Rattle.ls_taking.specs.Taking.{seat_set}
 use Rattle.ls_taking.proofs.Moving.{SeatMoves}

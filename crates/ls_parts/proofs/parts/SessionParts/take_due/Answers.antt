@@ -2,7 +2,7 @@ use Rattle.std.proofs.Common.{◌-◌, List, slice_get, sym, ◌∙◌, ap, subs
 use Rattle.ls_cell.proofs.Arrivals.{ok_with}
 use Rattle.ls_register.specs.declared.told.Told.{Told}
 use Rattle.ls_session.specs.Record.{Record, Question}
-use Rattle.ls_sight.proofs.Reading.{read_is}
+use Rattle.ls_taking.proofs.Reading.{read_is}
 use Rattle.ls_taking.specs.Groups.{SubSeen}
 use Rattle.ls_taking.specs.Taking.{IsAskedFrom, IsWhole}
 use Rattle.ls_parts.specs.Replying.{Replies}

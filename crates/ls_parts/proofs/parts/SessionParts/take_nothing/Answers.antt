@@ -1,7 +1,7 @@
 use Rattle.std.proofs.Common.{◌-◌, Bool, List, slice_get, slice_set, refl, sym, ◌∙◌, ap, subst}
 use Rattle.ls_event.specs.Cuts.{cut, is_pending}
 use Rattle.ls_seated.specs.Seats.{SeatSeen}
-use Rattle.ls_sight.proofs.Reading.{read_is}
+use Rattle.ls_taking.proofs.Reading.{read_is}
 use Rattle.ls_taking.specs.Groups.{SubSeen}
 use Rattle.ls_taking.specs.Taking.{seat_set}
 use Rattle.ls_taking.proofs.Moving.{SeatMoves}

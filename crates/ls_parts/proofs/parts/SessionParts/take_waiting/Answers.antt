@@ -5,7 +5,7 @@ use Rattle.ls_register.specs.declared.told.Told.{Told}
 use Rattle.ls_session.specs.Record.{Record, Question, question_of, passed_over, waited}
 use Rattle.ls_session.specs.Session.{StandsSession, ask_in}
 use Rattle.ls_session.specs.declared.session.Reply.TheVariants as reply
-use Rattle.ls_sight.proofs.Reading.{read_is}
+use Rattle.ls_taking.proofs.Reading.{read_is}
 use Rattle.ls_taking.specs.Groups.{SubSeen}
 use Rattle.ls_taking.specs.Taking.{IsAskedFrom, IsWhole}
 use Rattle.ls_parts.specs.Replying.{Replies, reply_by}

@@ -3,7 +3,7 @@ use mathlib.Core.List.{IsPrefix}
 use Rattle.ls_record.specs.Records.{is_alive}
 use Rattle.ls_told.specs.Heard.{heard, counts_as}
 use Rattle.ls_told.specs.Requests.{InTime, RefusesOp}
-use Rattle.ls_sight.specs.Speaking.{Speaking}
+use Rattle.ls_live_session.specs.Speaking.{Speaking}
 use Rattle.ls_shared.proofs.Grown.{grows_on, lined}
 use Rattle.ls_shared.proofs.Changing.{always, does_as, on_ok}
 use Rattle.ls_shared.proofs.shared.Shared.alter.Goals as goal

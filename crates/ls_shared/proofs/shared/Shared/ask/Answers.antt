@@ -2,7 +2,7 @@ use Rattle.std.proofs.Common.{◌≡◌, ℕ, refl, sym, ap, ◌∙◌, subst, L
 use Rattle.ls_register.specs.declared.told.Told.{Told}
 use Rattle.ls_told.specs.Seen.{Watched, SeesMore}
 use Rattle.ls_told.proofs.Watching.{sees_same}
-use Rattle.ls_taking.specs.Lives.{Lives}
+use Rattle.ls_live_session.specs.Lives.{Lives}
 use Rattle.ls_shared.specs.Asking.{AsksRound, GoesRound}
 use Rattle.ls_shared.proofs.Asking.{rested_round, asks_same, asks_still, goes_same, on_ok}
 use Rattle.ls_shared.proofs.Turning.{lives_same}

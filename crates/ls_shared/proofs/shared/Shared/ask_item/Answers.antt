@@ -1,9 +1,9 @@
 use Rattle.std.proofs.Common.{◌≡◌, ℕ, refl, sym, ap, subst, List}
 use mathlib.Core.List.{IsPrefix}
 use Rattle.ls_register.specs.declared.told.Told.{Told}
-use Rattle.ls_taking.specs.Lives.{Lives}
+use Rattle.ls_live_session.specs.Lives.{Lives}
 use Rattle.ls_event.specs.declared.event.Entry.{Entry}
-use Rattle.ls_parts.specs.Replying.{TakesFrom}
+use Rattle.ls_live_session.specs.Replying.{TakesFrom}
 use Rattle.ls_shared.proofs.Asking.{asked_round, asks_same, goes_same}
 use Rattle.ls_shared.proofs.Turning.{asked_same, lives_same, replied_begins, either_lives}
 use Rattle.ls_shared.proofs.shared.Shared.ask_item.Goals as goal

@@ -1,7 +1,7 @@
 use Rattle.std.proofs.Common.{◌≡◌, ◌∙◌, ℕ, List, Some, ap, inr, subst, sym}
 use Rattle.ls_register.specs.declared.told.Told.{Told}
 use Rattle.ls_told.specs.Requests.{bind_code_of}
-use Rattle.ls_sight.specs.Speaking.{Speaking}
+use Rattle.ls_live_session.specs.Speaking.{Speaking}
 use Rattle.ls_shared.proofs.Grown.{grows_on, lined}
 use Rattle.ls_shared.proofs.Changing.{always, of_err}
 use Rattle.ls_shared.proofs.Operations.{binds_ok}

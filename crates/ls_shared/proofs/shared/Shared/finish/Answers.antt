@@ -1,5 +1,5 @@
 use Rattle.std.proofs.Common.{ap}
-use Rattle.ls_sight.specs.Speaking.{Speaking}
+use Rattle.ls_live_session.specs.Speaking.{Speaking}
 use Rattle.ls_shared.proofs.Adds.{adds_shown}
 use Rattle.ls_shared.proofs.shared.Shared.finish.Goals as goal
 

@@ -1,7 +1,7 @@
 use Rattle.std.proofs.Common.{◌≡◌}
 use mathlib.Core.List.{IsPrefix}
 use Rattle.ls_told.specs.Seen.{SeesMore}
-use Rattle.ls_taking.specs.Lives.{Lives}
+use Rattle.ls_live_session.specs.Lives.{Lives}
 use Rattle.ls_shared.specs.Asking.{GoesRound}
 use Rattle.ls_shared.proofs.shared.Shared.steps.Given as goal
 

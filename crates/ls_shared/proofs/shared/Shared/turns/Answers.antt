@@ -3,7 +3,7 @@ use Rattle.std.specs.Result.{IfOk}
 use mathlib.Core.List.{IsPrefix}
 use Rattle.ls_register.specs.declared.told.Told.{Told}
 use Rattle.ls_told.specs.Seen.{Watched, SeesMore}
-use Rattle.ls_taking.specs.Groups.{SubSeen}
+use Rattle.ls_live_session.specs.Groups.{SubSeen}
 use Rattle.ls_shared.specs.Asking.{GoesRound}
 use Rattle.ls_shared.specs.Taking.{EndsTurn}
 use Rattle.ls_shared.proofs.shared.Shared.turns.Goals as goal

@@ -1,0 +1,2 @@
+-- Handed on: definitions of ls_joining that the crates above read.
+pub use Rattle.ls_joining.specs.Speaking.{Speaking}

@@ -1,0 +1,2 @@
+-- Handed on: lemmas of ls_taking that the crates above read.
+pub use Rattle.ls_taking.proofs.Reading.{shape_found}

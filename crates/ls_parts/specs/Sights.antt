@@ -1,0 +1,2 @@
+-- Handed on: definitions of ls_taking that the crates above read.
+pub use Rattle.ls_taking.specs.Sights.{AreOneItems, GaveAt, IsFirst, IsGiven, MeetEach, NoneBefore, SeesOf, ShowsAll, ShowsIt}

@@ -1,0 +1,2 @@
+-- Handed on: definitions of ls_sight that the crates above read.
+pub use Rattle.ls_sight.specs.Speaking.{Speaking}
