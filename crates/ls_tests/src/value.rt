@@ -4,15 +4,24 @@ use ls_value::*;
 use std::alloc::Global;
 use std::test::Fail;
 
-/// Whether bytes that are UTF-8 are a text, also by way of a string and a copy.
+/// Whether a text has these bytes.
+fn has(text: &Text, bytes: &[u8]) -> bool {
+    text.as_bytes() == bytes
+        && text.len() == bytes.len()
+        && text.as_str().len() == bytes.len()
+        && text.is_empty() == bytes.is_empty()
+}
+
+/// Whether bytes that are UTF-8 are a text, also by way of a copy, of a string and of its copy.
 fn is_text(alloc: Global, bytes: &[u8]) -> Result<bool, TextRefused> {
     let text = Text::of(alloc, bytes)?;
-    let copy = Text::from_string(text.copy(alloc)?.into_string());
+    let copy = text.copy(alloc)?;
+    let string = Text::from_string(String::from_str(alloc, copy.as_str())?);
     Ok(
-        copy.as_bytes() == bytes
-            && copy.len() == bytes.len()
-            && copy.as_str().len() == text.len()
-            && copy.is_empty() == bytes.is_empty(),
+        has(&text, bytes)
+            && has(&copy, bytes)
+            && has(&string, bytes)
+            && has(&string.copy(alloc)?, bytes),
     )
 }
 
@@ -25,6 +34,16 @@ fn is_ill_formed(alloc: Global, bytes: &[u8]) -> bool {
 fn texts_are_utf8(rt: HostRuntime) -> Result<(), Fail> {
     let alloc = rt.alloc();
     for bytes in [b"20:06:10".as_slice(), b"\xC3\xA9", b""] {
+        assert!(rt; is_text(alloc, bytes)?);
+    }
+    // 16 and 17 bytes, and a character whose bytes are the 15th and 16th, and the 16th and 17th.
+    for bytes in [b"2026-12-01 20:06".as_slice(), b"2026-12-01 20:06Z"] {
+        assert!(rt; is_text(alloc, bytes)?);
+    }
+    for bytes in [
+        b"2026-12-01 20:\xC3\xA9".as_slice(),
+        b"2026-12-01 20:0\xC3\xA9",
+    ] {
         assert!(rt; is_text(alloc, bytes)?);
     }
     for bytes in [b"\xC3".as_slice(), b"\xE0\x80\x80", b"\xED\xA0\x80"] {
@@ -88,13 +107,23 @@ fn cells_projected(alloc: Global) -> Result<bool, NoMemory> {
     })
 }
 
-/// Whether a text takes another one's place, a longer and a shorter one.
-fn set_texts(alloc: Global) -> Result<bool, NoMemory> {
-    let mut text = Text::from_str(alloc, "3.04")?;
-    text.set("20:06:10")?;
-    let longer = same_bytes(text.as_bytes(), b"20:06:10");
-    text.set("3")?;
-    Ok(longer && same_bytes(text.as_bytes(), b"3"))
+/// Whether a text, and a copy of it, becomes each of these in turn: of 8, 17, 16, 0, 20 and 1 bytes.
+fn set_texts(alloc: Global, first: Text) -> Result<bool, NoMemory> {
+    let mut text = first;
+    for word in [
+        "20:06:10",
+        "2026-12-01 20:0\u{E9}",
+        "2026-12-01 20:06",
+        "",
+        "2026-12-01T20:06:10Z",
+        "3",
+    ] {
+        text.set(word)?;
+        if !has(&text, word.as_bytes()) || !has(&text.copy(alloc)?, word.as_bytes()) {
+            return Ok(false);
+        }
+    }
+    Ok(true)
 }
 
 /// Whether a row of two fields becomes another one of three.
@@ -137,7 +166,9 @@ fn set_applied_at(alloc: Global, spare: &mut Row, places: &Places) -> Result<boo
 #[test]
 fn rows_change_in_their_room(rt: HostRuntime) -> Result<(), Fail> {
     let alloc = rt.alloc();
-    assert!(rt; set_texts(alloc)?);
+    assert!(rt; set_texts(alloc, Text::from_str(alloc, "3.04")?)?);
+    assert!(rt; set_texts(alloc, Text::from_str(alloc, "2026-12-01T20:06:10Z")?)?);
+    assert!(rt; set_texts(alloc, Text::from_string(String::new(alloc)))?);
     assert!(rt; set_from(alloc, "#|20:06:10|3.05")?);
     let mut spare = row(alloc, "a|b")?;
     assert!(rt; set_applied(alloc, &mut spare, "=|#|0.32")?);

@@ -1,4 +1,4 @@
-//! Values, rows and cells: what fields hold, and what updates make of them. It stands on nothing.
+//! Values, rows and cells: what fields hold, and what updates make of them. Of other crates it uses `arrayvec` alone.
 //!
 //! A `Text` is UTF-8, seen as its bytes. A `Value` is null or a text; a `Row` has a value for each field of an item or
 //! of a schema. A `Cell` is what an update says of a field: same, null or a text; `Cells` has one for each field.
@@ -10,6 +10,9 @@
 //! last|time  3.05|20:00:33      the row after it
 //! ```
 //!
+//! A text of at most 16 bytes lies in the value itself and takes no memory, so a row of such values is one block. A
+//! longer text is a string of its own.
+//!
 //! `Names` are names of fields or items in order; `find` tells the place of one, from 0.
 //!
 //! `Text::set`, `Value::set_from` and `Row::set_from` change a thing in the room that it has. Each call that takes
@@ -19,6 +22,7 @@
 mod limits;
 mod lists;
 mod projection;
+mod repr;
 mod reuse;
 mod row;
 mod text;

@@ -3,6 +3,7 @@ ghost use Rattle.std.specs.Prelude.{◌≡◌, ◌↔◌, IfOk, OnOk, OnErr, IsE
 ghost use Rattle.std.specs.Str.{IsUtf8};
 ghost use Rattle.ls_value.specs.Values.{text_eq};
 
+use crate::repr::Repr;
 use std::alloc::{AllocError, AllocFailed, Global};
 use std::marker::Model;
 
@@ -53,18 +54,20 @@ impl From<AllocError> for TextRefused {
     }
 }
 
-/// A text in UTF-8, seen as its bytes (TLCP 2.1: the texts of fields and names are UTF-8).
+/// A text in UTF-8, seen as its bytes (TLCP 2.1: the texts of fields and names are UTF-8). One of at most 16 bytes lies
+/// in the value itself, and takes no memory.
 #[derive(Drop)]
 pub struct Text {
-    inner: String,
+    repr: Repr,
 }
 
 impl Model for Text {
-    ghost use Rattle.std.specs.Prelude.{List, ℕ, string_bytes};
+    ghost use Rattle.std.specs.Prelude.{List, ℕ};
+    ghost use Rattle.ls_value.specs.Bytes.{repr_bytes};
 
     ghost Value = { List ℕ };
 
-    ghost view = { λ t. string_bytes t.inner };
+    ghost view = { λ t. repr_bytes t.repr };
 }
 
 impl Text {
@@ -76,7 +79,7 @@ impl Text {
     {
         match std::str::from_utf8(bytes) {
             Ok(s) => Ok(Text {
-                inner: String::from_str(alloc, s)?,
+                repr: Repr::of(alloc, s)?,
             }),
             Err(_) => Err(TextRefused::NotUtf8),
         }
@@ -98,22 +101,17 @@ impl Text {
     pub fn from_str(alloc: Global, text: &str) -> Result<Text, NoMemory>
         ensures { IfOk result (λ t. t ≡ text.now) }
     {
-        let inner = String::from_str(alloc, text)?;
-        Ok(Text { inner })
+        let repr = Repr::of(alloc, text)?;
+        Ok(Text { repr })
     }
 
     /// The text of a string, whose memory it keeps.
     pub fn from_string(string: String) -> Text
         ensures { result ≡ string_bytes string }
     {
-        Text { inner: string }
-    }
-
-    /// Its string, which keeps the text's memory.
-    pub fn into_string(self) -> String
-        ensures { string_bytes result ≡ self }
-    {
-        self.inner
+        Text {
+            repr: Repr::Long(string),
+        }
     }
 
     /// An equal text. Its bytes are UTF-8.
@@ -121,7 +119,8 @@ impl Text {
         ensures equal { IfOk result (λ t. t ≡ self.now) }
         ensures textual { IfOk result IsUtf8 }
     {
-        Text::from_str(alloc, self.as_str())
+        let repr = self.repr.copy(alloc)?;
+        Ok(Text { repr })
     }
 
     /// Becomes the text of a `str`. It takes memory only where its own is too small; after `NoMemory` it is as before.
@@ -129,41 +128,35 @@ impl Text {
         ensures ok { OnOk result (self.new ≡ text.now) }
         ensures err { OnErr result (self.new ≡ self.old) }
     {
-        self.inner
-            .reserve(text.len().saturating_sub(self.inner.len()))?;
-        self.inner.clear();
-        if self.inner.push_str(text).is_err() {
-            unreachable!()
-        }
-        Ok(())
+        self.repr.set(text)
     }
 
     /// Its bytes.
     pub fn as_bytes(&self) -> &[u8]
         ensures { result.now ≡ self.now }
     {
-        self.inner.as_bytes()
+        self.repr.as_str().as_bytes()
     }
 
     /// It as a `str`.
     pub fn as_str(&self) -> &str
         ensures { result.now ≡ self.now }
     {
-        self.inner.as_str()
+        self.repr.as_str()
     }
 
     /// The number of its bytes.
     pub fn len(&self) -> usize
         ensures { result ≡ length self.now }
     {
-        self.inner.len()
+        self.repr.len()
     }
 
     /// Whether it has no bytes.
     pub fn is_empty(&self) -> bool
         ensures { result ≡ nat_eq (length self.now) 0 }
     {
-        self.inner.is_empty()
+        self.repr.len() == 0
     }
 }
 
