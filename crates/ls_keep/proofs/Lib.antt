@@ -1,4 +1,5 @@
 pub mod Places
+pub mod Moved
 pub mod Least
 pub mod Trimming
 pub mod Losing

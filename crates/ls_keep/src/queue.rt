@@ -1,5 +1,5 @@
 //! Texts in one piece of memory.
-ghost use Rattle.std.specs.Prelude.{◌≡◌, ◌≤◌, ◌<◌, ◌+◌, ◌^◌, ◌++◌, ◌∷◌, [], true, false, length, drop, slice_get, slice_range};
+ghost use Rattle.std.specs.Prelude.{◌≡◌, ◌≤◌, ◌<◌, ◌+◌, ◌-◌, ◌^◌, ◌++◌, ◌∷◌, [], true, false, length, take, drop, slice_get, slice_range};
 ghost use Rattle.std.specs.Prelude.{option_map, IfOk, OnErr, vec_len, vec_capacity};
 ghost use Rattle.std.specs.VecDeque.{deque_len, deque_capacity};
 ghost use Rattle.ls_keep.specs.Kept.{text_of};
@@ -175,9 +175,40 @@ fn give_up_front(bytes: &mut Vec<u8>, from: usize)
     requires { from ≤ length bytes.old.items }
     ensures { bytes.new.items ≡ drop from bytes.old.items }
 {
-    let len = bytes.len();
-    bytes.as_mut_slice().copy_within(from..len, 0);
-    bytes.truncate(len - from);
+    let rest = bytes.len() - from;
+    move_to_front(bytes.as_mut_slice(), from);
+    bytes.truncate(rest);
+}
+
+/// The bytes from a place on move to the front, in pieces that don't overlap the place they go to. What stands after them
+/// isn't said.
+fn move_to_front(bytes: &mut [u8], from: usize)
+    requires { from ≤ length bytes.old }
+    ensures len { length bytes.new ≡ length bytes.old }
+    ensures moved { take (length bytes.old - from) bytes.new ≡ drop from bytes.old }
+{
+    if from == 0 {
+        return;
+    }
+    let rest = bytes.len() - from;
+    let mut moved = 0;
+    while moved < rest {
+        let count = from.min(rest - moved);
+        copy_apart(bytes, from + moved, moved, count);
+        moved += count;
+    }
+}
+
+/// So many bytes from a place on are copied to a place before them, where they end before they begin.
+fn copy_apart(bytes: &mut [u8], from: usize, to: usize, count: usize)
+    requires apart { to + count ≤ from }
+    requires within { from + count ≤ length bytes.old }
+    ensures len { length bytes.new ≡ length bytes.old }
+    ensures copied { take (to + count) bytes.new ≡ take to bytes.old ++ take count (drop from bytes.old) }
+    ensures behind { drop from bytes.new ≡ drop from bytes.old }
+{
+    let (front, back) = bytes.split_at_mut(from);
+    front[to..to + count].copy_from_slice(&back[..count]);
 }
 
 /// The bytes from a place on, in memory of their own with room for so many more.
