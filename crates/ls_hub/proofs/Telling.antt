@@ -51,7 +51,7 @@ turn_begun now items epoch r s is first =
     ∙ from_first now items epoch r.session ∙ ap (session_turn now items epoch) is
 
 -- a turn at the tick of a record of which no question stands
-here_from : (now : ℕ) (items : List Item) (epoch : ℕ) (r : Record) (s : Session) (n : ℕ) (wait : Option ℕ)
+pub here_from : (now : ℕ) (items : List Item) (epoch : ℕ) (r : Record) (s : Session) (n : ℕ) (wait : Option ℕ)
     → turn_from now items epoch (record r { session = s; tick = now; asked = n; asks = false; wait = wait }) ≡ epoch_from now items epoch s n wait
 here_from now items epoch r s n wait = ap (λ b. epoch_from now items epoch s (cond b n 0) (cond b wait None)) (eq-eqb now now refl)
 
@@ -490,6 +490,14 @@ module _ (now : ℕ) (items : List Item) (epoch : ℕ) (first others : List Live
         turn = turn_waiting now items epoch r q (turned now epoch r).after told_asking undue pends;
         quiet = λ line. same_quiet (λ x. waited x q.live) refl;
       }
+
+  pub told_held : (k' : Kept) → q.due ≡ false → is_pending (history_of items q.live.item) q.live.slot ≡ true
+      → StandsSession k' (waited (turned now epoch r).after q.live) → Unasked now items epoch first others r k' c
+  unfolding told_waiting
+  told_held k' undue pends st = record { on = told_waiting k' undue pends st; unasked = refl }
+
+  pub told_cells : StandsCells c items (first ++ (turned now epoch r).after.session.board.round ++ others)
+  told_cells = same_cells (λ x. x) refl
 
   told_sent : r.session.sent ≤ length r.session.board.lines
   told_sent =

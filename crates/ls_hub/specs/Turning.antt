@@ -12,7 +12,7 @@ use Rattle.ls_record.specs.Records.{is_unsent, history_of, is_due, waits_of, lea
 use Rattle.ls_record.specs.Records.{unbound_at}
 use Rattle.ls_record.specs.Turning.{SessionTurn, TurnGives, Send, Idle, NotDue, Spent, Superseded, Unbound, Ended}
 use Rattle.ls_record.specs.Turning.{waits_until, next_given, turn_owing, turn_bound, loop_text, gives_unbound}
-use Rattle.ls_session.specs.Record.{Record, Question, Asks, from_place, wait_from, turned}
+use Rattle.ls_session.specs.Record.{Record, Question, Asks, from_place, wait_from, waited, turned}
 use Rattle.ls_session.specs.declared.session.Ask.{Ask}
 use Rattle.ls_session.specs.declared.session.Session.{Session as Kept}
 use Rattle.ls_subs.specs.Standing.{ref_of}
@@ -141,6 +141,18 @@ pub record IsNextSettled (items : List Item) (r : Record) : Type 0 where
   pub live : LiveSlot
   pub found : slice_get r.session.board.round r.asked ≡ Some live
   pub settled : is_pending (history_of items live.item) live.slot ≡ false
+
+-- something is
+pub record IsNextPending (items : List Item) (r : Record) : Type 0 where
+  pub live : LiveSlot
+  pub found : slice_get r.session.board.round r.asked ≡ Some live
+  pub pending : is_pending (history_of items live.item) live.slot ≡ true
+
+-- the slot that was to be asked next isn't due at the round's tick, something of it is pending, and it was passed over
+pub record HoldsNext (items : List Item) (r : Record) (k : Kept) : Type 0 where
+  pub next : IsNextPending items r
+  pub early : is_due r.tick r.session next.live ≡ false
+  pub session : StandsSession k (waited r next.live)
 
 -- a session gave this in its turn at a tick, which is as it was to be from a record on
 pub record HasTurned (now : ℕ) (items : List Item) (epoch : ℕ) (before behind : List LiveSlot) (r : Record) (t : Turn)

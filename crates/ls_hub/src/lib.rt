@@ -8,8 +8,9 @@
 //! What is done with one session alone is ls_acts': an operation of a control request, a slot that tells what it has, and
 //! the lines that answer requests. The hub finds the session, says where it stands among the others, and prints. A
 //! session's turn asks what a slot has to tell. Of a slot whose frequency or whose session's bandwidth doesn't allow an
-//! update yet only whether something is pending is told. Behind a slot that has nothing the hub passes over those of
-//! which the cells know that nothing is pending. The tick is the last one of the script, in ms.
+//! update yet only whether something is pending is told. Behind a slot that has nothing or waits the hub passes over
+//! those of which the cells say so, and a turn begins behind the first slots that the session knows to wait. The tick is
+//! the last one of the script, in ms.
 //!
 //! ```text
 //! take c 9
@@ -20,7 +21,7 @@
 //!   Session::turn    Send: the line
 //!   Session::turn    Ask: does this slot wait, which isn't due?
 //!   AllItems::pending   something is pending
-//!   Session::answer  it waits
+//!   Session::hold_next  it waits
 //!   Session::turn    NotDue: nothing before this tick
 //! ```
 #![tactic(auto)]

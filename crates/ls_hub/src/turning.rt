@@ -1,21 +1,24 @@
 //! Turns of sessions: a session asks what a slot has to tell, the hub looks, the session answers with a line or none,
 //! and the slot moves past what was taken. Of a slot that isn't due the hub only looks whether it waits. Behind a slot
-//! that has nothing the hub passes over those that are known to be settled, without a question.
-ghost use Rattle.std.specs.Prelude.{◌≡◌, ◌≤◌, ◌<◌, ◌+◌, ◌++◌, ℕ, length, List, IfOk, OnOk, OnErr, true};
+//! that waits or has nothing the hub passes over those of which it sees that they do, without a question, and a turn
+//! begins behind the first slots that are known to wait.
+ghost use Rattle.std.specs.Prelude.{◌≡◌, ◌≤◌, ◌<◌, ◌+◌, ◌++◌, ◌∷◌, ℕ, length, List, IfOk, OnOk, OnErr, true, false};
 ghost use Rattle.std.specs.Vec.{vec_len, vec_capacity};
 ghost use Rattle.ls_value.specs.declared.limits.TheConstants.{GREATEST_TICK};
 ghost use Rattle.ls_step.specs.Notes.{text_of_out};
 ghost use Rattle.ls_world.specs.World.{World};
-ghost use Rattle.ls_record.specs.Records.{Item, LiveSlot};
+ghost use Rattle.ls_event.specs.Cuts.{is_pending};
+ghost use Rattle.ls_record.specs.Records.{Item, LiveSlot, history_of};
 ghost use Rattle.ls_world.specs.Steps.{take_once as one_turn, repeated};
 ghost use Rattle.ls_cells.specs.Cells.{StandsCells};
-ghost use Rattle.ls_session.specs.Record.{Record};
+ghost use Rattle.ls_subs.specs.Standing.{ref_of};
+ghost use Rattle.ls_session.specs.Record.{Record, Question};
 ghost use Rattle.ls_session.specs.Session.{StandsSession};
 ghost use Rattle.ls_session.specs.declared.session.Turn.TheVariants as given;
 ghost use Rattle.ls_hub.specs.Hub.{StandsHub, Prints, DidOnce};
 ghost use Rattle.ls_hub.specs.Quiet.{StandsQuiet, FailedBehind};
-ghost use Rattle.ls_hub.specs.Turning.{turn_from, TakesAnswer, KeepsQuestion, GoesOn, Unasked, MaySkip, IsNextSettled};
-ghost use Rattle.ls_hub.specs.Turning.{TurnEnded, TurnFailed, out_of_turn, gave_line};
+ghost use Rattle.ls_hub.specs.Turning.{turn_from, HasAsked, TakesAnswer, KeepsQuestion, GoesOn, Unasked, MaySkip};
+ghost use Rattle.ls_hub.specs.Turning.{IsNextSettled, IsNextPending, HoldsNext, TurnEnded, TurnFailed, out_of_turn, gave_line};
 
 use crate::hub::Hub;
 use crate::printing::append_out;
@@ -91,6 +94,27 @@ fn turn_of(
         → StandsCells cells.old items (before ++ r.session.board.round ++ behind)
         → TurnFailed now items before behind r.number r.session session.new cells.new) }
 {
+    session.pass_front(now);
+    ask_round(cells, session, now, epoch)
+}
+
+/// The turn from where its round stands.
+fn ask_round(
+    cells: &mut AllItems,
+    session: &mut Session,
+    now: u64,
+    epoch: u64,
+) -> Result<Turn, NoMemory>
+    ensures ok { IfOk result (λ turn. (items : List Item) (before behind : List LiveSlot) (r : Record)
+        → StandsSession session.old r → r.floor ≤ now → now ≤ GREATEST_TICK
+        → StandsCells cells.old items (before ++ r.session.board.round ++ behind)
+        → TurnEnded now items before behind r.number r.session (turn_from now items epoch r) turn session.new
+        cells.new) }
+    ensures err { OnErr result ((items : List Item) (before behind : List LiveSlot) (r : Record)
+        → StandsSession session.old r → r.floor ≤ now → now ≤ GREATEST_TICK
+        → StandsCells cells.old items (before ++ r.session.board.round ++ behind)
+        → TurnFailed now items before behind r.number r.session session.new cells.new) }
+{
     for _ in 0..u64::MAX {
         match session.turn(now, epoch) {
             Turn::Ask(ask) => reply(cells, session, ask)?,
@@ -103,36 +127,60 @@ fn turn_of(
     }
 }
 
-/// Answers what a session asks of a slot, and behind one that has nothing passes over those that are known to be
-/// settled. After `NoMemory` the question stands, and all is as before.
+/// Answers what a session asks of a slot, and behind one that waits or has nothing passes over those of which that is
+/// known. After `NoMemory` the question stands, and all is as before.
 fn reply(cells: &mut AllItems, session: &mut Session, ask: Ask) -> Result<(), NoMemory>
+    ensures ok { OnOk result (TakesAnswer ask session.old cells.old session.new cells.new) }
+    ensures err { OnErr result (KeepsQuestion session.old cells.old session.new cells.new) }
+{
+    if hold_asked(cells, session, ask) {
+        pass_known(cells, session);
+        return Ok(());
+    }
+    answer(cells, session, ask)
+}
+
+/// A slot that isn't due, of which something is pending, is passed over, and whether it was. Else the question stands.
+fn hold_asked(cells: &AllItems, session: &mut Session, ask: Ask) -> bool
+    ensures held { result ≡ true → (now : ℕ) (items : List Item) (epoch : ℕ) (before behind : List LiveSlot)
+        (r : Record) (q : Question) → HasAsked now items epoch before behind r q session.old cells.now
+        → ask ≡ record { slot = ref_of q.live; due = q.due }
+        → Unasked now items epoch before behind r session.new cells.now }
+    ensures stands { result ≡ false → session.new ≡ session.old }
+{
+    !ask.due && hold_pending(cells, session)
+}
+
+/// Answers what a session asks of a slot, by what the slot has. After `NoMemory` the question stands, and all is as
+/// before.
+fn answer(cells: &mut AllItems, session: &mut Session, ask: Ask) -> Result<(), NoMemory>
     ensures ok { OnOk result (TakesAnswer ask session.old cells.old session.new cells.new) }
     ensures err { OnErr result (KeepsQuestion session.old cells.old session.new cells.new) }
 {
     let found = tell(cells, session, ask)?;
     match found {
         Found::Nothing => {
-            pass_settled(cells, session);
+            pass_known(cells, session);
             Ok(())
         }
         _ => Ok(()),
     }
 }
 
-/// The slots that are asked next are passed over as far as they are known to be settled, where a number is left for a
-/// line.
-fn pass_settled(cells: &AllItems, session: &mut Session)
+/// The slots that are asked next are passed over as far as they are known to have nothing or to wait, where a number is
+/// left for a line.
+fn pass_known(cells: &AllItems, session: &mut Session)
     ensures { (now : ℕ) (items : List Item) (epoch : ℕ) (before behind : List LiveSlot) (r : Record)
         → Unasked now items epoch before behind r session.old cells.now
         → GoesOn now items epoch before behind r session.new cells.now }
 {
     if session.last() < GREATEST_NUMBER {
-        skip_settled(cells, session);
+        skip_known(cells, session);
     }
 }
 
 /// They are passed over.
-fn skip_settled(cells: &AllItems, session: &mut Session)
+fn skip_known(cells: &AllItems, session: &mut Session)
     ensures { (now : ℕ) (items : List Item) (epoch : ℕ) (before behind : List LiveSlot) (r : Record)
         → MaySkip now items epoch before behind r session.old cells.now
         → MaySkip now items epoch before behind r session.new cells.now }
@@ -140,13 +188,23 @@ fn skip_settled(cells: &AllItems, session: &mut Session)
     for _ in 0..u64::MAX {
         if is_next_settled(cells, session) {
             session.skip();
-        } else {
+        } else if !hold_pending(cells, session) {
             return;
         }
     }
 }
 
-/// Whether there is a slot that is asked next, and it is known to be settled.
+/// The slot that is asked next is passed over where something of it is pending and it isn't due, and whether it was.
+fn hold_pending(cells: &AllItems, session: &mut Session) -> bool
+    ensures held { result ≡ true → (items : List Item) (before behind : List LiveSlot) (r : Record)
+        → StandsSession session.old r → StandsCells cells.now items (before ++ r.session.board.round ++ behind)
+        → HoldsNext items r session.new }
+    ensures stands { result ≡ false → session.new ≡ session.old }
+{
+    is_next_pending(cells, session) && session.hold_next()
+}
+
+/// Whether there is a slot that is asked next, and nothing of it is pending.
 fn is_next_settled(cells: &AllItems, session: &Session) -> bool
     ensures { result ≡ true → (items : List Item) (before behind : List LiveSlot) (r : Record)
         → StandsSession session.now r → StandsCells cells.now items (before ++ r.session.board.round ++ behind)
@@ -154,7 +212,28 @@ fn is_next_settled(cells: &AllItems, session: &Session) -> bool
 {
     match session.next_slot() {
         None => false,
-        Some(slot) => cells.is_settled(slot.item, slot.slot),
+        Some(slot) => has_nothing(cells, slot.item, slot.slot),
+    }
+}
+
+/// Whether nothing is pending of a slot on an item. It mostly is marked so, and that costs least.
+fn has_nothing(cells: &AllItems, item: u32, slot: u32) -> bool
+    ensures { result ≡ true → (items : List Item) (a b : List LiveSlot) (v : LiveSlot)
+        → StandsCells cells.now items (a ++ v ∷ b) → v.item ≡ item → v.number ≡ slot
+        → is_pending (history_of items v.item) v.slot ≡ false }
+{
+    cells.is_settled(item, slot) || !cells.pending(item, slot)
+}
+
+/// Whether there is a slot that is asked next, and something of it is pending.
+fn is_next_pending(cells: &AllItems, session: &Session) -> bool
+    ensures { result ≡ true → (items : List Item) (before behind : List LiveSlot) (r : Record)
+        → StandsSession session.now r → StandsCells cells.now items (before ++ r.session.board.round ++ behind)
+        → IsNextPending items r }
+{
+    match session.next_slot() {
+        None => false,
+        Some(slot) => cells.pending(slot.item, slot.slot),
     }
 }
 

@@ -1,5 +1,5 @@
 -- A subscription that begins.
-use Rattle.std.proofs.Common.{◌≡◌, ◌+◌, ◌++◌, ℕ, Bool, Option, List, [], ◌∷◌, ◌==◌, ◌||◌, cond, true, false, length, map, refl, sym, ◌∙◌, ap, subst}
+use Rattle.std.proofs.Common.{◌≡◌, ◌+◌, ◌++◌, ℕ, Bool, Option, None, Some, List, [], ◌∷◌, ◌==◌, ◌||◌, cond, true, false, length, map, refl, sym, ◌∙◌, ap, subst}
 use Rattle.std.proofs.lemmas.List.{map-append}
 use Rattle.ls_event.specs.declared.item.ItemDef.{ItemDef}
 use Rattle.ls_request.specs.declared.request.Add.{Add}
@@ -69,7 +69,7 @@ added k lines₁ lines₂ subs' asking' r defs a p numbers vs st ready first_lin
           (lines_numbered lines₁ lines₂ (numbered (with_next first round) r.session) second (round ++ vs) p.configures
           (lines_numbered k.lines lines₁ r.session first round p.begins st.lines first_line is.begins ready.begins) second_line is.configures
           ready.configures);
-      round = round_with k.asking asking' asking'.turns r.number r.floor r.tick (numbered (with_plan defs a vs) r.session) st.round.above
+      round = round_with k.asking asking' asking'.turns None r.number r.floor r.tick (numbered (with_plan defs a vs) r.session) st.round.above
           st.round.most st.round.tick anew
           (joined
           ∙ ap (λ xs. xs ++ refs_from p.sub 1 p.items.items numbers)
@@ -81,4 +81,5 @@ added k lines₁ lines₂ subs' asking' r defs a p numbers vs st ready first_lin
           (asks_of defs a)));
       rate = rate_numbered k.bandwidth r.session.rate (first ∷ lines) r.floor second
           (rate_numbered k.bandwidth r.session.rate lines r.floor first st.rate refl) refl;
+      front = λ f e. absurd (let x : None ≡ Some f = sym (ap (λ (a : Asking). a.front) anew) ∙ e in cc);
     }

@@ -14,43 +14,50 @@ use Rattle.ls_record.specs.Lines.{Line, Ends, Configures, Answers, MessageOutcom
 use Rattle.ls_stream.proofs.Moving.{lines_roomier, lines_numbered, lines_owed, with_next}
 use Rattle.ls_stream.specs.Standing.{NumbersLine, IsRoomier, IsShort}
 use Rattle.ls_stream.specs.declared.lines.Lines.{Lines as KeptLines}
-use Rattle.ls_record.specs.Records.{LiveSlot, Life, Alive, Ending, Closed, Session, numbered, removed, without, constrained}
+use Rattle.ls_record.specs.Records.{LiveSlot, Session, numbered, removed, without, constrained}
 use Rattle.ls_record.specs.Records.{bandwidth_text, is_alive}
 use Rattle.ls_record.specs.Records.{with_frequency, frequency_in, with_outcome}
 use Rattle.ls_subs.specs.declared.subs.Subs.{Subs}
 use Rattle.ls_subs.specs.Standing.{ref_of, StandsSubs}
 use Rattle.ls_subs.proofs.Keeping.{answered_stands}
 use Rattle.ls_session.specs.Asking.{Asking, asked_anew, with_turns}
+use Rattle.ls_session.specs.Front.{IsFront}
+use Rattle.ls_session.specs.declared.asking.Front.{Front}
+use Rattle.ls_session.proofs.Fronts.{front_answers}
 use Rattle.ls_session.specs.Record.{Record, rests, begun_again, begun_anew, unless_ended}
 use Rattle.ls_session.specs.Record.{slots_of as slots_in}
 use Rattle.ls_session.specs.Session.{StandsSession, StandsRound, StandsRate, refs_of, configured}
 use Rattle.ls_session.specs.declared.session.Session.{Session as Kept}
 use Rattle.ls_session.proofs.Moves.{round_anew, rate_numbered}
-use Rattle.ls_session.proofs.Seats.{left_slots, named_limited}
+use Rattle.ls_session.proofs.Seats.{left_slots, named_limited, no_front}
 
 -- the round begins anew with other slots, at the same tick
-pub round_with : (k k' : Asking) (turns : Round) (number floor tick : ℕ) (s : Session) → floor ≤ tick → tick ≤ GREATEST_TICK → k.tick ≡ tick
-    → k' ≡ with_turns turns k → slots_of turns ≡ map ref_of s.board.round → StandsRound k' (rests number floor tick s)
-round_with k k' turns number floor tick s above most same is slots =
+pub round_with : (k k' : Asking) (turns : Round) (front : Option Front) (number floor tick : ℕ) (s : Session) → floor ≤ tick → tick ≤ GREATEST_TICK
+    → k.tick ≡ tick → k' ≡ asked_anew k.tick (record k { turns = turns; front = front }) → slots_of turns ≡ map ref_of s.board.round → StandsRound k' (rests number floor tick s)
+round_with k k' turns front number floor tick s above most same is slots =
     subst (λ (x : Asking). StandsRound x (rests number floor tick s)) (sym is)
-    (subst (λ (n : ℕ). StandsRound (asked_anew n (record k { turns = turns })) (rests number floor tick s)) (sym same)
-    (round_anew (record k { turns = turns }) number floor tick s above most slots))
+    (subst (λ (n : ℕ). StandsRound (asked_anew n (record k { turns = turns; front = front })) (rests number floor tick s)) (sym same)
+    (round_anew (record k { turns = turns; front = front }) number floor tick s above most slots))
 
 -- a line is numbered, and the round begins anew with other slots, and with another floor
-pub numbered_stands : (k : Kept) (lines₁ lines' : KeptLines) (subs' : Subs) (asking' : Asking) (bandwidth' : KeptCredit) (turns : Round) (r : Record) (l : Line)
+pub numbered_stands : (k : Kept) (lines₁ lines' : KeptLines) (subs' : Subs) (asking' : Asking) (bandwidth' : KeptCredit) (turns : Round) (front : Option Front)
+    (r : Record) (l : Line)
     (round : List LiveSlot) (text : List ℕ) (floor : ℕ) → StandsSession k r → IsRoomier k.lines lines₁ → NumbersLine lines₁ text lines'
     → text ≡ line_text r.session.board.lines l
-    → IsShort text → StandsSubs subs' (l ∷ r.session.board.lines) round → asking' ≡ with_turns turns k.asking
+    → IsShort text → StandsSubs subs' (l ∷ r.session.board.lines) round
+    → asking' ≡ asked_anew k.asking.tick (record k.asking { turns = turns; front = front })
     → slots_of turns ≡ map ref_of round → floor ≤ r.tick → StandsRate bandwidth' r.session.rate (l ∷ r.session.board.lines) floor
+    → ForSome front (λ f. IsFront turns f (l ∷ r.session.board.lines) round)
     → StandsSession (record k { lines = lines'; subs = subs'; asking = asking'; bandwidth = bandwidth' })
     (rests r.number floor r.tick (numbered (with_next l round) r.session))
-numbered_stands k lines₁ lines' subs' asking' bandwidth' turns r l round text floor st room numbers is short subs anew slots above rate =
+numbered_stands k lines₁ lines' subs' asking' bandwidth' turns front r l round text floor st room numbers is short subs anew slots above rate known =
     record {
       number = st.number;
       lines = lines_numbered lines₁ lines' r.session l round text (lines_roomier k.lines lines₁ r.session st.lines room) numbers is short;
-      round = round_with k.asking asking' turns r.number floor r.tick (numbered (with_next l round) r.session) above st.round.most st.round.tick anew slots;
+      round = round_with k.asking asking' turns front r.number floor r.tick (numbered (with_next l round) r.session) above st.round.most st.round.tick anew slots;
       subs = subs;
       rate = rate;
+      front = subst (λ (a : Asking). ForSome a.front (λ f. IsFront a.turns f (l ∷ r.session.board.lines) round)) (sym anew) known;
     }
 
 -- a subscription's slots by their names
@@ -69,32 +76,33 @@ pub deleted : (k : Kept) (lines₁ lines' : KeptLines) (subs' : Subs) (asking' :
     → StandsSubs subs' (Ends sub ∷ r.session.board.lines) (without sub r.session.board.round) → asking' ≡ with_turns (left sub k.asking.turns) k.asking
     → StandsSession (record k { lines = lines'; subs = subs'; asking = asking' }) (begun_again (numbered (removed sub) r.session) r)
 deleted k lines₁ lines' subs' asking' r sub text st room numbers is short subs anew =
-    numbered_stands k lines₁ lines' subs' asking' k.bandwidth (left sub k.asking.turns) r (Ends sub) (without sub r.session.board.round) text r.floor st room
+    numbered_stands k lines₁ lines' subs' asking' k.bandwidth (left sub k.asking.turns) None r (Ends sub) (without sub r.session.board.round) text r.floor st room
     numbers is short subs anew (left_slots sub k.asking.turns r.session.board.round st.round.slots) st.round.above
-    (rate_numbered k.bandwidth r.session.rate r.session.board.lines r.floor (Ends sub) st.rate refl)
+    (rate_numbered k.bandwidth r.session.rate r.session.board.lines r.floor (Ends sub) st.rate refl) (no_front _)
 
 -- a subscription has another frequency, and CONF is numbered
 pub limited : (k : Kept) (lines₁ lines' : KeptLines) (subs' : Subs) (asking' : Asking) (r : Record) (sub : ℕ) (frequency : Option ℕ) (filtered : Bool)
     (text : List ℕ) → StandsSession k r → IsRoomier k.lines lines₁ → NumbersLine lines₁ text lines' → text ≡ line_text [] (Configures sub frequency filtered)
     → IsShort text
     → StandsSubs subs' (Configures sub frequency filtered ∷ r.session.board.lines) (map (with_frequency sub frequency) r.session.board.round)
-    → asking' ≡ asked_anew k.asking.tick k.asking
+    → asking' ≡ with_turns k.asking.turns k.asking
     → StandsSession (record k { lines = lines'; subs = subs'; asking = asking' })
     (begun_again (numbered (configured sub frequency filtered) r.session) r)
 limited k lines₁ lines' subs' asking' r sub frequency filtered text st room numbers is short subs anew =
-    numbered_stands k lines₁ lines' subs' asking' k.bandwidth k.asking.turns r (Configures sub frequency filtered)
+    numbered_stands k lines₁ lines' subs' asking' k.bandwidth k.asking.turns None r (Configures sub frequency filtered)
     (map (with_frequency sub frequency) r.session.board.round) text r.floor st room numbers is short subs anew
     (st.round.slots ∙ sym (named_limited sub frequency r.session.board.round)) st.round.above
-    (rate_numbered k.bandwidth r.session.rate r.session.board.lines r.floor (Configures sub frequency filtered) st.rate refl)
+    (rate_numbered k.bandwidth r.session.rate r.session.board.lines r.floor (Configures sub frequency filtered) st.rate refl) (no_front _)
 
 -- a client is told what became of its message
 pub outcome_stands : (k : Kept) (lines' : KeptLines) (asking' : Asking) (r : Record) (outcome : MessageOutcome) (text : List ℕ) → StandsSession k r
     → NumbersLine k.lines text lines' → text ≡ text_of_line (outcome_line outcome) → IsShort text → asking' ≡ asked_anew k.asking.tick k.asking
     → StandsSession (record k { lines = lines'; asking = asking' }) (begun_again (numbered (with_outcome outcome) r.session) r)
 outcome_stands k lines' asking' r outcome text st numbers is short anew =
-    numbered_stands k k.lines lines' k.subs asking' k.bandwidth k.asking.turns r (Answers outcome) r.session.board.round text r.floor st refl numbers is short
+    numbered_stands k k.lines lines' k.subs asking' k.bandwidth k.asking.turns k.asking.front r (Answers outcome) r.session.board.round text r.floor st refl numbers is short
     (answered_stands k.subs outcome r.session.board.lines r.session.board.round st.subs) anew st.round.slots st.round.above
     (rate_numbered k.bandwidth r.session.rate r.session.board.lines r.floor (Answers outcome) st.rate refl)
+    (λ f e. front_answers k.asking.turns f r.session.board.lines r.session.board.round outcome (st.front f e))
 
 -- a frequency in a mode is above 0, where there is one
 pub some_in : (m : Mode) (frequency : Option ℕ) → ForSome frequency (λ f. 0 < f) → ForSome (frequency_in m frequency) (λ f. 0 < f)
@@ -135,6 +143,7 @@ constrained_stands k lines' asking' bandwidth' r limit now text st alive most ow
         spends = subst (λ (spends : List Spend). StandsBandwidth bandwidth' limit spends)
             (sym (spends_none (length r.session.board.lines) r.session.board.lines (omega arith))) stands;
       };
+      front = subst (λ (a : Asking). ForSome a.front (λ f. IsFront a.turns f r.session.board.lines r.session.board.round)) (sym anew) st.front;
     }
 
 -- the mode of a subscription, by what is kept of it

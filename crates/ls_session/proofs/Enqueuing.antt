@@ -8,6 +8,7 @@ use Rattle.ls_record.specs.Records.{Item, LiveSlot, history_of, is_at, is_due, e
 use Rattle.ls_subs.specs.Standing.{ref_of}
 use Rattle.ls_subs.proofs.Enqueues.{enqueue_stands}
 use Rattle.ls_session.specs.Record.{Record, Question, question_of}
+use Rattle.ls_session.proofs.Fronts.{front_enqueued}
 use Rattle.ls_session.specs.Session.{StandsSession, asked_of}
 use Rattle.ls_session.specs.declared.session.Session.{Session as Kept}
 use Rattle.ls_stream.proofs.Moving.{lines_round}
@@ -87,4 +88,5 @@ session_enqueued k r items sub rank st =
       };
       subs = enqueue_stands items sub rank k.subs r.session.board.lines r.session.board.round st.subs;
       rate = st.rate;
+      front = λ f e. front_enqueued k.asking.turns f r.session.board.lines items sub rank r.session.board.round (st.front f e);
     }

@@ -179,4 +179,4 @@ nothing_first k lines' r now epoch st gives =
     by_first : (o : Option SessionTurn) → GivesFirst o r.session stream.Nothing lines' → turned now epoch r ≡ turned_first now r o
         → StandsSession (record k { lines = lines' }) r × (turned now epoch r ≡ round_turned now r)
     by_first (Some d) given is = absurd (none_given d.gives lines' given.0)
-    by_first None given is = (record { number = st.number; lines = given.1; round = st.round; subs = st.subs; rate = st.rate }, is)
+    by_first None given is = (record { number = st.number; lines = given.1; round = st.round; subs = st.subs; rate = st.rate; front = st.front }, is)

@@ -1,5 +1,5 @@
 -- How a session ends.
-use Rattle.std.proofs.Common.{◌≡◌, ℕ, List, [], map, ap, sym, subst}
+use Rattle.std.proofs.Common.{◌≡◌, ◌∙◌, ℕ, List, [], map, ap, sym, subst, None, Some}
 use Rattle.ls_stream.specs.Standing.{StandsLines}
 use Rattle.ls_stream.specs.declared.lines.Lines.{Lines as KeptLines}
 use Rattle.ls_record.specs.Lines.{Line}
@@ -22,10 +22,11 @@ ended_stands k lines' subs' asking' r code st lines subs none round =
       number = st.number;
       lines = lines;
       round = subst (λ (x : Asking). StandsRound x (begun_again (ended code r.session) r)) (sym round)
-          (subst (λ (n : ℕ). StandsRound (record (asked_anew n (record k.asking { turns = asking'.turns })) { room = asking'.room })
+          (subst (λ (n : ℕ). StandsRound (record (asked_anew n (record k.asking { turns = asking'.turns; front = None })) { room = asking'.room })
           (begun_again (ended code r.session) r)) (sym st.round.tick)
-          (round_anew (record k.asking { turns = asking'.turns; room = asking'.room }) r.number r.floor r.tick (ended code r.session) st.round.above
+          (round_anew (record k.asking { turns = asking'.turns; front = None; room = asking'.room }) r.number r.floor r.tick (ended code r.session) st.round.above
           st.round.most (ap (map (λ s. s.slot)) none)));
       subs = subs r.session.board.lines;
       rate = st.rate;
+      front = λ f e. absurd (let x : None ≡ Some f = sym (ap (λ (a : Asking). a.front) round) ∙ e in cc);
     }

@@ -1,6 +1,8 @@
 pub mod Seats
 pub mod Moves
+pub mod Fronts
 pub mod Turns
+pub mod Passing
 pub mod Firsts
 pub mod Leaving
 pub mod Adding

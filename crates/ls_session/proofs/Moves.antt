@@ -13,7 +13,10 @@ use Rattle.ls_record.specs.Lines.{Line, spent_by, spends_behind}
 use Rattle.ls_record.specs.Records.{Board, Rate, Session}
 use Rattle.ls_subs.specs.Standing.{ref_of, StandsSubs}
 use Rattle.ls_subs.specs.declared.subs.Subs.{Subs}
+use Rattle.std.specs.Option.{ForSome}
 use Rattle.ls_session.specs.Asking.{Asking, asked_anew}
+use Rattle.ls_session.specs.Front.{IsFront}
+use Rattle.ls_session.proofs.Fronts.{front_seats}
 use Rattle.ls_session.specs.Record.{Record, rests}
 use Rattle.ls_session.specs.Session.{StandsSession, StandsRound, StandsRate}
 use Rattle.ls_session.specs.declared.session.Session.{Session as Kept}
@@ -84,6 +87,7 @@ stands_anew k lines r s floor now st rose above most kept board rate =
       rate = subst (λ (b : Board). StandsRate k.bandwidth s.rate b.lines floor) (sym board)
           (subst (λ (x : Rate). StandsRate k.bandwidth x r.session.board.lines floor) (sym rate)
           (rate_later k.bandwidth r.session.rate r.session.board.lines r.floor floor st.rate rose));
+      front = subst (λ (b : Board). ForSome k.asking.front (λ f. IsFront k.asking.turns f b.lines b.round)) (sym board) st.front;
     }
 
 -- a floor may be given up for a higher one
@@ -105,6 +109,7 @@ stands_above k r floor st rose above =
       };
       subs = st.subs;
       rate = rate_later k.bandwidth r.session.rate r.session.board.lines r.floor floor st.rate rose;
+      front = st.front;
     }
 
 -- what is true, whatever a call answers
@@ -132,7 +137,7 @@ round_reserved k k' r st same rest =
 -- other subscriptions that stand for the same
 pub stands_subs : (k : Kept) (subs : Subs) (r : Record) → StandsSession k r → StandsSubs subs r.session.board.lines r.session.board.round
     → StandsSession (record k { subs = subs }) r
-stands_subs k subs r st s = record { number = st.number; lines = st.lines; round = st.round; subs = s; rate = st.rate }
+stands_subs k subs r st s = record { number = st.number; lines = st.lines; round = st.round; subs = s; rate = st.rate; front = st.front }
 
 -- more room for slots and lines alone
 pub stands_reserved : (k : Kept) (asking' : Asking) (lines' : KeptLines) (r : Record) → StandsSession k r → asking'.turns.seats ≡ k.asking.turns.seats
@@ -145,4 +150,6 @@ stands_reserved k asking' lines' r st seats round roomier =
       round = round_reserved k.asking asking' r st.round seats round;
       subs = st.subs;
       rate = st.rate;
+      front = λ f is. front_seats k.asking.turns asking'.turns f r.session.board.lines r.session.board.round seats
+          (st.front f (sym (ap (λ (a : Asking). a.front) round) ∙ is));
     }

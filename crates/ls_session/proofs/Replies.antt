@@ -1,7 +1,7 @@
 -- A question is answered.
 use Rattle.std.proofs.Common.{◌≡◌, ◌<◌, ◌≤◌, ◌+◌, ◌++◌, ℕ, zero, suc, Bool, Option, List, [], ◌∷◌, length, map, take, drop, true, false, None, Some, is_some}
 use Rattle.std.proofs.Common.{Result, Ok, Err, inl, inr, IfOk, option_map, refl, sym, ◌∙◌, ap, subst, cond, arith, slice_get, min, nat_lt, ◌/◌, ◌^◌}
-use Rattle.std.specs.Option.{option_map_or}
+use Rattle.std.specs.Option.{ForSome, option_map_or}
 use Rattle.std.proofs.lemmas.Bool.{leb-true}
 use Rattle.std.proofs.lemmas.List.{map-append, take-map, drop-map}
 use Rattle.ls_budget.specs.Budget.{Spend, credit_tick, has_credit, debt}
@@ -24,7 +24,7 @@ use Rattle.ls_subs.proofs.Moves.{found_live}
 use Rattle.ls_subs.specs.declared.cut_line.CutLine.TheVariants as tells
 use Rattle.ls_subs.specs.Standing.{ref_of, StandsKeptAt, AskedSlot, AcceptedAs, what_of, passed_live, passed_at, passed_back}
 use Rattle.ls_subs.specs.Subscription.{Appended, told_by}
-use Rattle.ls_session.specs.Asking.{Asking, ask_of, is_now, unasked, with_turns, waiting}
+use Rattle.ls_session.specs.Asking.{Asking, ask_of, is_now, unasked, with_gave, waiting}
 use Rattle.ls_session.specs.Record.{Record, Question, question_of, answered, answered_by, passed_over, waited}
 use Rattle.ls_stream.proofs.Moving.{lines_roomier, lines_round}
 use Rattle.ls_stream.specs.Standing.{IsShort, IsRoomier, NumbersLine}
@@ -33,7 +33,10 @@ use Rattle.ls_session.specs.Session.{StandsSession, StandsRate, PassesOver, Spen
 use Rattle.ls_session.specs.declared.asking.Asked.{Asked}
 use Rattle.ls_session.specs.declared.session.Reply.{Reply}
 use Rattle.ls_session.specs.declared.session.Session.{Session as Kept}
+use Rattle.ls_session.specs.Front.{tick_of}
+use Rattle.ls_session.specs.declared.asking.Front.{Front}
 use Rattle.ls_session.proofs.Changing.{numbered_stands}
+use Rattle.ls_session.proofs.Fronts.{due_early, front_silent, front_told}
 use Rattle.ls_session.proofs.Moves.{rate_later, rate_numbered, rate_spent}
 use Rattle.ls_session.proofs.Seats.{gave_slots}
 use Rattle.ls_session.proofs.Turns.{is_now_due}
@@ -117,6 +120,7 @@ passed_stands k k' r st passes =
       };
       subs = st.subs;
       rate = st.rate;
+      front = st.front;
     }))
 
 pub waited_stands : (k k' : Kept) (r : Record) (v : LiveSlot) (tick : ℕ) → StandsSession k r → tick ≡ due_at r.tick r.session v
@@ -141,6 +145,7 @@ waited_stands k k' r v tick st is passes =
       };
       subs = st.subs;
       rate = st.rate;
+      front = st.front;
     }))
 
 -- a slot that isn't due is due at a tick
@@ -169,13 +174,19 @@ named_back n v t vs =
     ∙ ap (λ xs. (xs ++ map ref_of (drop (n + 1) vs)) ++ ref_of v ∷ []) (sym (take-map ref_of n vs))
     ∙ ap (λ xs. (take n (map ref_of vs) ++ xs) ++ ref_of v ∷ []) (sym (drop-map ref_of (n + 1) vs))
 
+-- the frequency of a slot that is due allows an update before that of the first ones does
+allowed_early : (k : Kept) (r : Record) (v : LiveSlot) → is_due r.tick r.session v ≡ true → ForSome k.asking.front (λ f. r.tick < f.tick)
+    → (f : Front) → k.asking.front ≡ Some f → tick_of r.session.board.lines v < f.tick
+allowed_early k r v due later f e = omega (arith, due_early r.tick r.session v due, later f e)
+
 -- a cut that makes no line
 pub answered_silent : (k : Kept) (lines₁ : KeptLines) (subs' : Subs) (asking' : Asking) (r : Record) (v : LiveSlot) (t : Taken) (a : Appended) → StandsSession k r
     → IsRoomier k.lines lines₁ → asking' ≡ unasked k.asking → a.told ≡ tells.Nothing
+    → slice_get r.session.board.round r.asked ≡ Some v → is_due r.tick r.session v ≡ true → ForSome k.asking.front (λ f. r.tick < f.tick)
     → AcceptedAs (what_of r.session.board.lines v t) subs' (asked_slot r v) t a
     → (false ≡ is_some (what_of r.session.board.lines v t))
     × StandsSession (record k { lines = lines₁; subs = subs'; asking = asking' }) (answered r v t)
-answered_silent k lines₁ subs' asking' r v t a st room again silent accepted =
+answered_silent k lines₁ subs' asking' r v t a st room again silent here due later accepted =
     by_what (what_of r.session.board.lines v t) accepted
   where
     by_what : (o : Option What) → AcceptedAs o subs' (asked_slot r v) t a
@@ -205,13 +216,16 @@ answered_silent k lines₁ subs' asking' r v t a st room again silent accepted =
             };
             subs = d.1;
             rate = st.rate;
+            front = λ f e. front_silent k.asking.turns f r.session.board.lines r.session.board.round r.asked v t (st.front f e) here
+                (allowed_early k r v due later f e);
           }),
     )
 
 -- a cut that makes a line, which is numbered
 pub answered_line : (k : Kept) (lines₁ lines' : KeptLines) (subs' : Subs) (asking' : Asking) (bandwidth' : KeptCredit) (r : Record) (v : LiveSlot) (t : Taken)
     (a : Appended) → StandsSession k r → IsRoomier k.lines lines₁ → NumbersLine lines₁ a.after lines' → a.before ≡ []
-    → slice_get r.session.board.round r.asked ≡ Some v → asking' ≡ with_turns (gave v.sub v.rank k.asking.turns) k.asking
+    → slice_get r.session.board.round r.asked ≡ Some v → is_due r.tick r.session v ≡ true → ForSome k.asking.front (λ f. r.tick < f.tick)
+    → asking' ≡ with_gave (gave v.sub v.rank k.asking.turns) k.asking
     → (a.told ≡ tells.Nothing → ⊥)
     → ((what : What) → what_of r.session.board.lines v t ≡ Some what
     → IsShort (tells_text (last_row (came v.sub v.rank r.session.board.lines)) v.sub v.rank what))
@@ -220,7 +234,7 @@ pub answered_line : (k : Kept) (lines₁ lines' : KeptLines) (subs' : Subs) (ask
     → AcceptedAs (what_of r.session.board.lines v t) subs' (asked_slot r v) t a
     → (true ≡ is_some (what_of r.session.board.lines v t))
     × StandsSession (record k { lines = lines'; subs = subs'; asking = asking'; bandwidth = bandwidth' }) (answered r v t)
-answered_line k lines₁ lines' subs' asking' bandwidth' r v t a st room numbers empty here gives speaks short rate accepted =
+answered_line k lines₁ lines' subs' asking' bandwidth' r v t a st room numbers empty here due later gives speaks short rate accepted =
     by_what (what_of r.session.board.lines v t) refl accepted
   where
     by_what : (o : Option What) → what_of r.session.board.lines v t ≡ o → AcceptedAs o subs' (asked_slot r v) t a
@@ -234,12 +248,14 @@ answered_line k lines₁ lines' subs' asking' bandwidth' r v t a st room numbers
         d.0.1 ∙ ap (λ ts. ts ++ tells_text (last_row (came v.sub v.rank lines)) v.sub v.rank what) empty in
         let few : IsShort a.after = subst (λ (x : List ℕ). IsShort x) (sym text) (short what e) in (
           refl,
-          numbered_stands k lines₁ lines' subs' asking' bandwidth' (gave v.sub v.rank k.asking.turns) r l (passed_back r.asked v t r.session.board.round)
+          numbered_stands k lines₁ lines' subs' asking' bandwidth' (gave v.sub v.rank k.asking.turns) k.asking.front r l (passed_back r.asked v t r.session.board.round)
               a.after r.tick
               st room numbers text few d.1 gives
               (gave_slots k.asking.turns r.session.board.round r.asked v st.subs.apart st.round.slots here
               ∙ sym (named_back r.asked v t r.session.board.round))
-              (omega arith) (rate what d.0.0 text few),
+              (omega arith) (rate what d.0.0 text few)
+              (λ f e. front_told k.asking.turns f lines r.session.board.round r.asked r.tick v t (came_by v.slot t what) (st.front f e)
+              st.round.slots st.subs.apart here (allowed_early k r v due later f e)),
         )
 
 -- what a light cut tells is short

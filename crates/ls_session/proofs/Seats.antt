@@ -16,6 +16,7 @@ use Rattle.ls_record.specs.Records.{is_of as is_live_of}
 use Rattle.ls_subs.specs.Standing.{ref_of}
 use Rattle.ls_subs.proofs.Rounds.{eqb_self, eqb_swap}
 use Rattle.ls_session.specs.Asking.{Holds}
+use Rattle.ls_session.specs.declared.asking.Front.{Front}
 use Rattle.ls_session.specs.Session.{refs_from, refs_of}
 use Rattle.ls_subs.specs.declared.plan.PlanItem.{PlanItem}
 
@@ -49,6 +50,10 @@ held_anew turns first most is few =
       question = λ q e. absurd (let x : None ≡ Some q = e in cc);
       room = few;
     }
+
+-- none of the first slots is known to wait
+pub no_front : (P : Front → Type 0) → ForSome None P
+no_front P = λ f e. absurd (let x : None ≡ Some f = e in cc)
 
 -- a walk is at a place of the round: there is a slot, and the rest follows
 pub node_within : (turns : Round) (i : ℕ) → i < length turns.seats → node_of_place turns i ≡ None → ⊥
@@ -227,6 +232,72 @@ gave_slots turns round n v apart is at =
     (passing (λ s. not (is_there v.sub v.rank s)) turns.seats ∙ ap (filter (λ s. not (is_there v.sub v.rank s))) is ∙ one.0)
     ∙ ap (λ xs. (take n (map ref_of round) ++ drop (n + 1) (map ref_of round)) ++ xs)
     (passing (is_there v.sub v.rank) turns.seats ∙ ap (filter (is_there v.sub v.rank)) is ∙ one.1)
+
+-- before it each stays at its place
+before_gave : (round : List LiveSlot) (seats : List Seat) (behind : List Seat) (n i : ℕ) (v : LiveSlot) → Apart round → map (λ (s : Seat). s.slot) seats ≡ map ref_of round
+    → slice_get round n ≡ Some v → i < n → slice_get (filter (λ s. not (is_named v.sub v.rank s)) seats ++ behind) i ≡ slice_get seats i
+before_gave [] seats behind n i v apart is at low = absurd (let x : None ≡ Some v = at in cc)
+before_gave (u ∷ round) [] behind n i v apart is at low = absurd (let x : [] ≡ ref_of u ∷ map ref_of round = is in cc)
+before_gave (u ∷ round) (s ∷ seats) behind zero i v apart is at low = absurd (omega (arith, low))
+before_gave (u ∷ round) (s ∷ seats) behind (suc n) i v apart is at low =
+    let x : s.slot ∷ map (λ (y : Seat). y.slot) seats ≡ ref_of u ∷ map ref_of round = is in
+    let here : s.slot ≡ ref_of u = cc in
+    let rest : map (λ (y : Seat). y.slot) seats ≡ map ref_of round = cc in
+    let away : is_at u.sub u.rank v ≡ false = each_at (λ w. is_at u.sub u.rank w ≡ false) round n v apart.0 at in
+    let other : is_there v.sub v.rank s.slot ≡ false = ap (is_there v.sub v.rank) here ∙ away in
+    ap (λ b. slice_get (cond (not b) (s ∷ filter (λ y. not (is_named v.sub v.rank y)) seats) (filter (λ y. not (is_named v.sub v.rank y)) seats) ++ behind) i) other
+    ∙ by_place i low (λ j few. before_gave round seats behind n j v apart.1 rest at few)
+  where
+    by_place : (j : ℕ) → j < suc n
+        → ((k : ℕ) → k < n → slice_get (filter (λ y. not (is_named v.sub v.rank y)) seats ++ behind) k ≡ slice_get seats k)
+        → slice_get (s ∷ (filter (λ y. not (is_named v.sub v.rank y)) seats ++ behind)) j ≡ slice_get (s ∷ seats) j
+    by_place zero few more = refl
+    by_place (suc j) few more = more j (omega (arith, few))
+
+pub gave_node : (turns : Round) (round : List LiveSlot) (n : ℕ) (v : LiveSlot) (i : ℕ) → Apart round → slots_of turns ≡ map ref_of round
+    → slice_get round n ≡ Some v → i < n → node_of_place (gave v.sub v.rank turns) i ≡ node_of_place turns i
+gave_node turns round n v i apart is at low =
+    ap (option_map (λ (s : Seat). s.node)) (before_gave round turns.seats (filter (is_named v.sub v.rank) turns.seats) n i v apart is at low)
+
+-- and each is seated still
+kept_by : (p : Seat → Bool) (seats : List Seat) (i : ℕ) (s : Seat) → slice_get seats i ≡ Some s → p s ≡ true
+    → (j : ℕ) × (slice_get (filter p seats) j ≡ Some s)
+kept_by p [] i s at is = absurd (let x : None ≡ Some s = at in cc)
+kept_by p (t ∷ seats) zero s at is =
+    let x : Some t ≡ Some s = at in
+    let same : t ≡ s = cc in
+    (0, ap (λ b. slice_get (cond b (t ∷ filter p seats) (filter p seats)) 0) (ap p same ∙ is) ∙ at)
+kept_by p (t ∷ seats) (suc i) s at is = by_test (p t) (kept_by p seats i s at is)
+  where
+    by_test : (b : Bool) → (j : ℕ) × (slice_get (filter p seats) j ≡ Some s)
+        → (j : ℕ) × (slice_get (cond b (t ∷ filter p seats) (filter p seats)) j ≡ Some s)
+    by_test true more = (suc more.0, more.1)
+    by_test false more = more
+
+first_of : (xs ys : List Seat) (i : ℕ) (s : Seat) → slice_get xs i ≡ Some s → slice_get (xs ++ ys) i ≡ Some s
+first_of [] ys i s at = absurd (let x : None ≡ Some s = at in cc)
+first_of (x ∷ xs) ys zero s at = at
+first_of (x ∷ xs) ys (suc i) s at = first_of xs ys i s at
+
+behind_of : (xs ys : List Seat) (i : ℕ) (s : Seat) → slice_get ys i ≡ Some s → (j : ℕ) × (slice_get (xs ++ ys) j ≡ Some s)
+behind_of [] ys i s at = (i, at)
+behind_of (x ∷ xs) ys i s at = let more = behind_of xs ys i s at in (suc more.0, more.1)
+
+pub gave_seated : (sub place : ℕ) (turns : Round) (node : ℕ) → IsSeated turns node → IsSeated (gave sub place turns) node
+gave_seated sub place turns node seat = by_test (is_named sub place seat.1) refl
+  where
+    by_test : (b : Bool) → is_named sub place seat.1 ≡ b → IsSeated (gave sub place turns) node
+    by_test true e =
+        let kept = kept_by (is_named sub place) turns.seats seat.0 seat.1 seat.2 e in
+        let at = behind_of (filter (λ s. not (is_named sub place s)) turns.seats) (filter (is_named sub place) turns.seats) kept.0 seat.1 kept.1 in
+        (at.0, seat.1, at.1, seat.3)
+    by_test false e =
+        let kept = kept_by (λ s. not (is_named sub place s)) turns.seats seat.0 seat.1 seat.2 (ap not e) in (
+          kept.0,
+          seat.1,
+          first_of (filter (λ s. not (is_named sub place s)) turns.seats) (filter (is_named sub place) turns.seats) kept.0 seat.1 kept.1,
+          seat.3,
+        )
 
 -- another frequency leaves the names
 pub named_limited : (sub : ℕ) (frequency : Option ℕ) (round : List LiveSlot) → map ref_of (map (with_frequency sub frequency) round) ≡ map ref_of round

@@ -10,8 +10,10 @@ use Rattle.ls_stream.specs.Standing.{last_line}
 use Rattle.ls_record.specs.Records.{LiveSlot, is_due, due_at}
 use Rattle.ls_turns.specs.declared.slot_ref.SlotRef.{SlotRef}
 use Rattle.ls_subs.specs.Standing.{ref_of}
+use Rattle.std.specs.Option.{ForSome}
 use Rattle.ls_session.specs.Asking.{Asking, is_now, asked_anew, resumed, questioned}
-use Rattle.ls_session.specs.Record.{Record, Question, Turned, Asks, Spent, begun_at, rests, round_asked}
+use Rattle.ls_session.specs.Front.{IsFront}
+use Rattle.ls_session.specs.Record.{Record, Question, Turned, Asks, Spent, begun_at, round_asked}
 use Rattle.ls_session.specs.Record.{from_place, wait_from, waits_until, question_of}
 use Rattle.ls_session.specs.Session.{StandsSession, StandsRound, AnswersTurn, turn_of_wait}
 use Rattle.ls_session.specs.declared.asking.Asked.{Asked}
@@ -74,6 +76,15 @@ resumed_round k r now st above most =
       wait = cond (cond (is_some k.question) false (nat_eq n now)) r.wait None;
     })) st.tick (resumed_by k r now st above most (is_some k.question) (nat_eq k.tick now) refl refl))
 
+-- what is true of it is true then, where it is when the round begins anew
+resumed_keeps : (P : Asking → Type 0) (now : ℕ) (a : Asking) → P a → P (asked_anew now a) → P (resumed now a)
+resumed_keeps P now a same anew = by_tests (is_some a.question) (nat_eq a.tick now)
+  where
+    by_tests : (asks here : Bool) → P (cond asks (asked_anew now a) (cond here a (asked_anew now a)))
+    by_tests true here = anew
+    by_tests false true = same
+    by_tests false false = anew
+
 pub stands_resumed : (k : Kept) (a : Asking) (r : Record) (now : ℕ) → StandsSession k r → r.floor ≤ now → now ≤ GREATEST_TICK → a ≡ resumed now k.asking
     → StandsSession (record k { asking = a }) (resumed_record now r)
 stands_resumed k a r now st later most is =
@@ -84,6 +95,8 @@ stands_resumed k a r now st later most is =
       round = resumed_round k.asking r now st.round later most;
       subs = st.subs;
       rate = st.rate;
+      front = resumed_keeps (λ (x : Asking). ForSome x.front (λ f. IsFront x.turns f r.session.board.lines r.session.board.round)) now k.asking st.front
+          st.front;
     })
 
 -- the slot of a name
@@ -197,6 +210,7 @@ round_asks k k' r now v a t st tick some is low asks after =
         };
         subs = st.subs;
         rate = st.rate;
+        front = st.front;
       },
     )))
   where

@@ -1,3 +1,4 @@
 pub mod Record
 pub mod Asking
+pub mod Front
 pub mod Session

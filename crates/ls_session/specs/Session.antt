@@ -1,6 +1,7 @@
 -- What a session keeps, and the record that it stands for. It says nothing of items or their histories.
 use Rattle.std.specs.Prelude.{◌≡◌, ◌≤◌, ◌<◌, ◌⊎◌, ℕ, ◌+◌, List, [], ◌∷◌, length, map, Bool, true, false}
-use Rattle.std.specs.Prelude.{Option, None, Some, is_some, option_map, nat_eq, if◌then◌else◌}
+use Rattle.std.specs.Prelude.{Option, None, Some, is_some, option_map, slice_get, nat_eq, if◌then◌else◌}
+use Rattle.std.specs.Option.{ForSome}
 use Rattle.ls_value.specs.declared.limits.TheConstants.{GREATEST_NUMBER, GREATEST_TICK}
 use Rattle.ls_budget.specs.Budget.{Spend, credit_tick}
 use Rattle.ls_budget.specs.Kept.{KeptCredit, StandsBandwidth}
@@ -11,7 +12,7 @@ use Rattle.ls_stream.specs.Standing.{StandsLines, IsShort, IsReadyFor, current_t
 use Rattle.ls_stream.specs.declared.lines.StreamTurn.{StreamTurn}
 use Rattle.ls_stream.specs.declared.lines.StreamTurn.TheVariants as stream
 use Rattle.ls_record.specs.Lines.{Line as NumberedLine, Configures, spends_behind}
-use Rattle.ls_record.specs.Records.{Board, Rate, Session, due_at, with_frequency}
+use Rattle.ls_record.specs.Records.{Board, LiveSlot, Rate, Session, due_at, with_frequency}
 use Rattle.ls_record.specs.declared.TheConstants.{MOST_GROUP_ITEMS}
 use Rattle.ls_subs.specs.declared.plan.AddPlan.{AddPlan}
 use Rattle.ls_subs.specs.declared.plan.PlanItem.{PlanItem}
@@ -19,8 +20,9 @@ use Rattle.ls_subs.specs.Kept.{has_sub, room_of}
 use Rattle.ls_subs.specs.Plans.{IsReady as IsReadyItems}
 use Rattle.ls_subs.specs.Standing.{ref_of, StandsSubs}
 use Rattle.ls_session.specs.Asking.{Asking, Passes}
+use Rattle.ls_session.specs.Front.{IsFront, HoldsFirst}
 use Rattle.ls_session.specs.Record.{Record, Question, question_of, Gives, Send, Asks, Idle, NotDue, Spent}
-use Rattle.ls_session.specs.Record.{Superseded, Unbound, Ended}
+use Rattle.ls_session.specs.Record.{Superseded, Unbound, Ended, from_place, wait_from}
 use Rattle.ls_session.specs.declared.asking.Asked.{Asked}
 use Rattle.ls_session.specs.declared.session.Ask.{Ask}
 use Rattle.ls_session.specs.declared.session.Reply.{Reply}
@@ -64,6 +66,20 @@ pub record StandsSession (k : Kept) (r : Record) : Type 0 where
   pub round : StandsRound k.asking r
   pub subs : StandsSubs k.subs r.session.board.lines r.session.board.round
   pub rate : StandsRate k.bandwidth r.session.rate r.session.board.lines r.floor
+  pub front : ForSome k.asking.front
+      (λ f. IsFront k.asking.turns f r.session.board.lines r.session.board.round)
+
+-- a slot is asked next, and is named so
+abbrev pub IsNext : Record → LiveSlot → SlotRef → Type 0
+IsNext r v slot = (slice_get r.session.board.round r.asked ≡ Some v) × (slot ≡ ref_of v)
+
+-- the round of a session goes on at a tick, or begins anew and its first slots, which wait, are passed over
+pub record PassesFront (now : ℕ) (r : Record) (k : Kept) : Type 0 where
+  pub asked : ℕ
+  pub wait : Option ℕ
+  pub session : StandsSession k (record r { tick = now; asked = asked; asks = false; wait = wait })
+  pub passed : ((asked ≡ from_place now r) × (wait ≡ wait_from now r))
+      ⊎ ((from_place now r ≡ 0) × (wait_from now r ≡ None) × HoldsFirst now r.session asked wait)
 
 -- what a turn answers, by what was given before the round is asked
 abbrev pub turn_of : StreamTurn → Turn

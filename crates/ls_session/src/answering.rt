@@ -6,7 +6,8 @@ ghost use Rattle.ls_turns.specs.Round.{has_slot, gave};
 ghost use Rattle.ls_record.specs.Records.{LiveSlot};
 ghost use Rattle.ls_record.specs.Light.{IsLight};
 ghost use Rattle.ls_subs.specs.Standing.{ref_of, Suits, what_of};
-ghost use Rattle.ls_session.specs.Asking.{is_now, ask_of, waiting, with_turns};
+ghost use Rattle.std.specs.Option.{ForSome};
+ghost use Rattle.ls_session.specs.Asking.{is_now, ask_of, waiting, with_gave};
 ghost use Rattle.ls_session.specs.Record.{Record, question_of, passed_over, waited, answered};
 ghost use Rattle.ls_session.specs.Session.{StandsSession, IsOther, PassesOver, SpendsText, suits};
 ghost use Rattle.ls_stream.specs.Standing.{IsReadyFor, NumbersLine};
@@ -79,7 +80,10 @@ impl Session {
                 Ok(false)
             }
             Reply::Taken(taken) => match asked.due {
-                Due::Now => self.tell(asked.slot, taken),
+                Due::Now => {
+                    self.asking.drop_due_front();
+                    self.tell(asked.slot, taken)
+                }
                 Due::At(_) => Ok(false),
             },
         }
@@ -99,7 +103,8 @@ impl Session {
     /// The line of a cut of the slot that is asked is numbered, and the slot goes to the back of the round; or there is
     /// no such line, and the slot is asked again.
     fn tell(&mut self, slot: SlotRef, taken: Taken) -> Result<bool, NoMemory>
-        requires { has_slot slot.sub slot.place self.old.asking.turns ≡ true }
+        requires named { has_slot slot.sub slot.place self.old.asking.turns ≡ true }
+        requires later { ForSome self.old.asking.front (λ f. self.old.asking.tick < f.tick) }
         ensures told { IfOk result (λ told. (r : Record) (v : LiveSlot) → StandsSession self.old r
             → question_of r ≡ Some (record { live = v; due = true }) → slot ≡ ref_of v
             → Suits v.slot.plan.mode taken → IsLight v.wanted.places taken
@@ -137,7 +142,7 @@ impl Session {
         requires named { has_slot slot.now.sub slot.now.place self.old.asking.turns ≡ true }
         ensures line { NumbersLine self.old.lines text.items self.new.lines }
         ensures back { self.new.asking
-            ≡ with_turns (gave slot.now.sub slot.now.place self.old.asking.turns) self.old.asking }
+            ≡ with_gave (gave slot.now.sub slot.now.place self.old.asking.turns) self.old.asking }
         ensures rest { self.new ≡ record self.old { lines = self.new.lines; asking = self.new.asking } }
     {
         self.lines.number_text(text);

@@ -1,8 +1,11 @@
 //! The round of a session's slots at a tick, and how far it was asked (this project's profile).
-ghost use Rattle.std.specs.Prelude.{◌≡◌, ◌≤◌, ◌+◌, ◌++◌, ℕ, [], length, true, None, Some, IfOk, OnOk, OnErr, IfSome};
+ghost use Rattle.std.specs.Prelude.{◌≡◌, ◌≤◌, ◌<◌, ◌+◌, ◌++◌, ℕ, [], length, true, None, Some, IfOk, OnOk, OnErr, IfSome};
+ghost use Rattle.std.specs.Option.{ForSome};
 ghost use Rattle.std.specs.Vec.{vec_len, vec_capacity};
-ghost use Rattle.ls_turns.specs.Round.{node_of_place, slot_of_place, slots_of, has_slot, left, gave};
-ghost use Rattle.ls_session.specs.Asking.{asked_anew, resumed, questioned, waiting, unasked, Passes, with_turns};
+ghost use Rattle.ls_turns.specs.Round.{AreApart, node_of_place, slot_of_place, slots_of, has_slot, left, gave};
+ghost use Rattle.ls_session.specs.Asking.{asked_anew, resumed, questioned, waiting, unasked, Passes, with_turns, with_gave};
+ghost use Rattle.ls_session.specs.Asking.{Extends, BeginsAtFront, PassesTo};
+ghost use Rattle.ls_session.specs.declared.asking.Front.{Front as TheFront};
 ghost use Rattle.ls_session.specs.Session.{refs_from, refs_of};
 ghost use Rattle.ls_record.specs.declared.TheConstants.{MOST_GROUP_ITEMS};
 
@@ -22,9 +25,18 @@ pub struct Asked {
     pub(crate) due: Due,
 }
 
+/// The first slots of a round, which wait for their frequency: the node of the last of them, and the least tick at which
+/// the frequency of one of them allows an update.
+#[derive(Clone, Copy, Debug, PartialEq, Eq)]
+pub struct Front {
+    pub(crate) node: usize,
+    pub(crate) tick: u64,
+}
+
 /// The round of a session's slots, the tick at which it is asked, the node of the slot that is asked or is asked next,
-/// the question that stands, and the least tick at which one of those that wait is due. When the session ends its slots
-/// are put into `leaving`, which has room for all of them, and `empty` takes the place of their round.
+/// the question that stands, the least tick at which one of those that wait is due, and the first slots that are known
+/// to wait. When the session ends its slots are put into `leaving`, which has room for all of them, and `empty` takes
+/// the place of their round.
 #[derive(Drop)]
 pub struct Asking {
     turns: Turns,
@@ -32,6 +44,7 @@ pub struct Asking {
     next: Option<usize>,
     question: Option<Asked>,
     wait: Option<u64>,
+    front: Option<Front>,
     leaving: Vec<SlotRef>,
     empty: Option<Turns>,
 }
@@ -40,6 +53,7 @@ impl Model for Asking {
     ghost use Rattle.std.specs.Prelude.{◌≡◌, []};
     ghost use Rattle.std.specs.Vec.{vec_capacity};
     ghost use Rattle.std.specs.Option.{ForSome};
+    ghost use Rattle.ls_turns.specs.Round.{IsSeated};
     ghost use Rattle.ls_session.specs.Asking.{Asking as Kept, Holds};
 
     ghost Value = { Kept };
@@ -50,18 +64,20 @@ impl Model for Asking {
       next = a.next;
       question = a.question;
       wait = a.wait;
+      front = a.front;
       room = vec_capacity a.leaving;
     } };
 
     ghost invariant = { λ a.
         Holds a.turns a.next a.question (vec_capacity a.leaving) × (a.leaving.items ≡ [])
+        × ForSome a.front (λ f. IsSeated a.turns f.node)
         × ForSome a.empty (λ turns. turns.seats ≡ []) };
 }
 
 impl Asking {
     /// No slot, at a tick.
     pub(crate) fn new(alloc: Global, now: u64) -> Result<Asking, NoMemory>
-        ensures { IfOk result (λ a. (a.turns.seats ≡ []) × (a ≡ asked_anew now a)) }
+        ensures { IfOk result (λ a. (a.turns.seats ≡ []) × (a ≡ asked_anew now a) × (a.front ≡ None)) }
     {
         let turns = Turns::new(alloc)?;
         let empty = Turns::new(alloc)?;
@@ -71,6 +87,7 @@ impl Asking {
             next: None,
             question: None,
             wait: None,
+            front: None,
             leaving: Vec::new(alloc),
             empty: Some(empty),
         })
@@ -159,6 +176,74 @@ impl Asking {
         self.pass();
     }
 
+    /// The slot that is asked next waits for its frequency until a tick: it is one of the first that do, where no other
+    /// slot stands between.
+    pub(crate) fn extend_front(&mut self, tick: u64)
+        ensures front { Extends tick self.old self.new }
+        ensures apart { AreApart self.new.turns }
+    {
+        self.turns.are_apart();
+        let behind = match self.front {
+            None => self.turns.first(),
+            Some(front) => self.turns.next(front.node),
+        };
+        if behind == self.next
+            && let Some(node) = self.next
+        {
+            let least = match self.front {
+                None => tick,
+                Some(front) => tick.min(front.tick),
+            };
+            self.front = Some(Front { node, tick: least });
+        }
+    }
+
+    /// The least tick at which the frequency of one of the first slots that are known to wait allows an update, where
+    /// the round is at its first slot.
+    pub(crate) fn front_tick(&self) -> Option<u64>
+        ensures { IfSome result (λ tick. BeginsAtFront tick self.now) }
+    {
+        self.turns.are_apart();
+        let front = self.front?;
+        if self.wait.is_none() && self.next == self.turns.first() {
+            Some(front.tick)
+        } else {
+            None
+        }
+    }
+
+    /// The first slots that are known to wait are passed over. One of them is due at a tick, and none before it.
+    pub(crate) fn pass_front(&mut self, tick: u64)
+        ensures { (f : TheFront) → self.old.front ≡ Some f → PassesTo f.node tick self.old self.new }
+    {
+        if let Some(front) = self.front {
+            self.next = self.turns.next(front.node);
+            self.question = None;
+            self.wait = Some(tick);
+        }
+    }
+
+    /// No slot is known to wait whose frequency allows an update at the round's tick.
+    pub(crate) fn drop_due_front(&mut self)
+        ensures same { self.new ≡ record self.old { front = self.new.front } }
+        ensures later { ForSome self.new.front (λ f. (self.old.front ≡ Some f) × (self.old.tick < f.tick)) }
+    {
+        if let Some(front) = self.front
+            && front.tick <= self.tick
+        {
+            self.front = None;
+        }
+    }
+
+    /// The round begins anew at the same tick, and no slot is known to wait.
+    pub(crate) fn restart(&mut self)
+        ensures { self.new ≡ with_turns self.old.turns self.old }
+    {
+        self.front = None;
+        let same_tick = self.tick;
+        self.begin(same_tick);
+    }
+
     /// The question was answered: the slot is asked again.
     pub(crate) fn again(&mut self)
         ensures { self.new ≡ unasked self.old }
@@ -169,7 +254,7 @@ impl Asking {
     /// A slot gave a line: it goes to the back, and the round begins anew.
     pub(crate) fn give(&mut self, slot: &SlotRef)
         requires { has_slot slot.now.sub slot.now.place self.old.turns ≡ true }
-        ensures { self.new ≡ with_turns (gave slot.now.sub slot.now.place self.old.turns) self.old }
+        ensures { self.new ≡ with_gave (gave slot.now.sub slot.now.place self.old.turns) self.old }
     {
         self.turns.gave(slot);
         self.next = self.turns.first();
@@ -207,6 +292,7 @@ impl Asking {
         self.next = self.turns.first();
         self.question = None;
         self.wait = None;
+        self.front = None;
     }
 
     /// The slots of a subscription, in their order.
@@ -224,6 +310,7 @@ impl Asking {
         self.next = self.turns.first();
         self.question = None;
         self.wait = None;
+        self.front = None;
     }
 
     /// All slots leave, and are handed back in their order; the memory of their round is given back. No memory is taken.
@@ -241,6 +328,7 @@ impl Asking {
         self.next = None;
         self.question = None;
         self.wait = None;
+        self.front = None;
         leaving
     }
 }

@@ -25,7 +25,7 @@ impl Session {
 }
 
 /// The later of two ticks.
-fn later(a: Due, b: Due) -> Due
+pub(crate) fn later(a: Due, b: Due) -> Due
     ensures { (x y now : ℕ) → a ≡ due_at x now → b ≡ due_at y now → result ≡ due_at (max x y) now }
 {
     match a {

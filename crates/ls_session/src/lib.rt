@@ -17,7 +17,9 @@
 //! ```
 //!
 //! Each question takes the same time, however many slots there are. Who knows that nothing is pending of the slot that
-//! is asked next (`next_slot`) passes over it without a question (`skip`). `prepare_add` and `finish_add` add a
+//! is asked next (`next_slot`) passes over it without a question (`skip`), and who knows that something is, without an
+//! answer where the slot isn't due (`hold_next`). The first slots of the round that wait for their frequency are
+//! remembered, so that a turn may begin behind them (`pass_front`). `prepare_add` and `finish_add` add a
 //! subscription around the joining of its slots, `reconf` gives it another frequency, `delete` ends it, `constrain`
 //! gives the session another bandwidth, and `finish` ends it. `bind` begins a new stream of the next epoch, also where
 //! a client lost the last one and goes on behind the lines that it has; `lose` leaves the session without a stream, and

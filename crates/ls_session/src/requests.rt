@@ -239,8 +239,7 @@ impl Session {
         self.lines.reserve(1)?;
         self.subs.set_frequency(sub, frequency);
         self.lines.number(line);
-        let tick = self.asking.tick();
-        self.asking.begin(tick);
+        self.asking.restart();
         Ok(())
     }
 

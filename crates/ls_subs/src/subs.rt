@@ -103,6 +103,14 @@ impl Subs {
         }
     }
 
+    /// The mode of a slot: `None` exactly where there is no such slot. No memory is taken.
+    pub fn slot_mode(&self, slot: &SlotRef) -> Option<Mode>
+        ensures { result ≡ option_map (λ p. p.mode) (kept_at self.now slot.now.sub slot.now.place) }
+    {
+        let items = self.items.get(&(slot.sub as u64))?;
+        mode_at(items, slot.place)
+    }
+
     /// The mode of a subscription: `None` exactly where none of this number is live. No memory is taken.
     pub fn mode(&self, sub: u32) -> Option<Mode>
         ensures { (lines : List Line) (round : List LiveSlot) → StandsSubs self.now lines round
@@ -263,6 +271,15 @@ fn due_at(items: &[PlanItem], place: u32, now: u64) -> Due
         None => Due::Now,
         Some(item) => item.frequency.due(now),
     }
+}
+
+/// The mode of the item at a place.
+fn mode_at(items: &[PlanItem], place: u32) -> Option<Mode>
+    ensures { result ≡ option_map (λ p. p.mode) (item_at items.now place) }
+{
+    let index = place.checked_sub(1)?;
+    let item = items.get(index as usize)?;
+    Some(item.mode)
 }
 
 /// The mode of the first item.

@@ -71,7 +71,12 @@ module _ (config : List ItemDef) (number : ℕ) (es : List Told) (ws : List Watc
         quiet = λ b. absurd (let x : false ≡ true = b in cc);
       } in
       record {
-        stands = session_caught k r n l1.stands;
+        stands =
+            session_caught k r n
+            (λ x e.
+            let is : Some v ≡ Some x = sym here ∙ e in
+            let same : v ≡ x = cc in
+            omega (arith, ap (λ (y : LiveSlot). y.slot.last) same, own.at.last, long)) l1.stands;
         number_is = l1.number_is;
         floor = l1.floor;
         latest = l1.latest;

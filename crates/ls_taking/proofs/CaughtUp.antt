@@ -1,7 +1,12 @@
 -- A session whose asked slot has more events enqueued: what is kept of it stands for that record too.
-use Rattle.std.proofs.Common.{◌≡◌, ℕ, zero, suc, ◌+◌, Bool, Option, None, Some, List, [], ◌∷◌, map, true, false, refl, sym, ◌∙◌, ap, cond, ◌||◌}
-use Rattle.std.proofs.Common.{slice_get, option_map}
+use Rattle.std.proofs.Common.{◌≡◌, ◌≤◌, ℕ, zero, suc, ◌+◌, Bool, Option, None, Some, List, [], ◌∷◌, map, take, true, false, refl, sym, ◌∙◌, ap, arith, cond, ◌||◌}
+use Rattle.std.proofs.Common.{slice_get, option_map, min, nat_lt}
+use Rattle.std.specs.Option.{option_map_or}
+use Rattle.std.proofs.lemmas.Bool.{lt-ltb, ltb-true}
 use Rattle.ls_value.specs.Each.{Each}
+use Rattle.ls_event.specs.Cuts.{is_behind}
+use Rattle.ls_event.specs.Slots.{Slot}
+use Rattle.ls_turns.specs.Round.{Round}
 use Rattle.ls_record.specs.Apart.{Apart}
 use Rattle.ls_record.specs.Acting.{subscriptions}
 use Rattle.ls_record.specs.Lines.{Line}
@@ -13,8 +18,10 @@ use Rattle.ls_subs.specs.declared.subs.Subs.{Subs}
 use Rattle.ls_subs.specs.Kept.{kept_at}
 use Rattle.ls_subs.specs.Standing.{ref_of, StandsKeptAt, StandsSubs}
 use Rattle.ls_subs.proofs.Rounds.{first, subscriptions_cons}
+use Rattle.ls_session.specs.Front.{IsFront, IsHeld, least_by, tick_of}
 use Rattle.ls_session.specs.Record.{Record, Question, question_of}
 use Rattle.ls_session.specs.Session.{StandsSession, asked_of}
+use Rattle.ls_session.specs.declared.asking.Front.{Front}
 use Rattle.ls_session.specs.declared.session.Session.{Session as Kept}
 use Rattle.ls_taking.specs.Taking.{reached, caught_up}
 
@@ -121,9 +128,50 @@ same_question r n true (Some v) = (
       (question_at r v, (refl, ap (λ (y : Question). y.due) same ∙ f)),
 )
 
+-- of the first elements one may change
+each_changed : {A : Type 0} (P : A → Type 0) (g : A → A) (xs : List A) (k m : ℕ) → ((x : A) → slice_get xs k ≡ Some x → P x → P (g x))
+    → Each P (take m xs) → Each P (take m (change k g xs))
+each_changed P g [] k m step e = e
+each_changed P g (x ∷ xs) k zero step e = tt
+each_changed P g (x ∷ xs) zero (suc m) step e = (step x refl e.0, e.1)
+each_changed P g (x ∷ xs) (suc k) (suc m) step e = (e.0, each_changed P g xs k m step e.1)
+
+-- a slot that is behind what was enqueued is so with more events
+behind_longer : (s : Slot) (n : ℕ) → s.last ≤ n → is_behind s ≡ true → is_behind (record s { last = n }) ≡ true
+behind_longer s n low is = by_owed (nat_lt 0 s.owed) is
+  where
+    by_ends : (b : Bool) → (b || nat_lt s.cursor s.last) ≡ true → (b || nat_lt s.cursor n) ≡ true
+    by_ends true e = refl
+    by_ends false e = lt-ltb s.cursor n (omega (arith, ltb-true s.cursor s.last e, low))
+
+    by_owed : (b : Bool) → ((b || s.ends) || nat_lt s.cursor s.last) ≡ true → ((b || s.ends) || nat_lt s.cursor n) ≡ true
+    by_owed true e = refl
+    by_owed false e = by_ends s.ends e
+
+least_reached : (lines : List Line) (n : ℕ) (w : Option ℕ) (vs : List LiveSlot) (k m : ℕ)
+    → least_by (tick_of lines) w (take m (change k (reached n) vs)) ≡ least_by (tick_of lines) w (take m vs)
+least_reached lines n w [] k m = refl
+least_reached lines n w (v ∷ vs) k zero = refl
+least_reached lines n w (v ∷ vs) zero (suc m) = refl
+least_reached lines n w (v ∷ vs) (suc k) (suc m) =
+    least_reached lines n (Some (option_map_or (min (tick_of lines v)) w (tick_of lines v))) vs k m
+
+-- so the first slots that are known to wait stay known
+front_reached : (turns : Round) (f : Front) (lines : List Line) (vs : List LiveSlot) (k n : ℕ)
+    → ((v : LiveSlot) → slice_get vs k ≡ Some v → v.slot.last ≤ n) → IsFront turns f lines vs → IsFront turns f lines (change k (reached n) vs)
+front_reached turns f lines vs k n low st =
+    record {
+      last = st.last;
+      node = st.node;
+      held = each_changed IsHeld (reached n) vs k (st.last + 1)
+          (λ v e h. record { mode = h.mode; behind = behind_longer v.slot n (low v e) h.behind }) st.held;
+      least = least_reached lines n None vs k (st.last + 1) ∙ st.least;
+    }
+
 -- a session stands for the record whose asked slot has every event
-pub session_caught : (k : Kept) (r : Record) (n : ℕ) → StandsSession k r → StandsSession k (caught_up n r)
-session_caught k r n st =
+pub session_caught : (k : Kept) (r : Record) (n : ℕ) → ((v : LiveSlot) → slice_get r.session.board.round r.asked ≡ Some v → v.slot.last ≤ n)
+    → StandsSession k r → StandsSession k (caught_up n r)
+session_caught k r n low st =
     let vs : List LiveSlot = r.session.board.round in
     let same = same_question r n r.asks (slice_get vs r.asked) in
     let after : question_of (caught_up n r)
@@ -145,4 +193,5 @@ session_caught k r n st =
       };
       subs = subs_reached k.subs r.session.board.lines n r.asked vs st.subs;
       rate = st.rate;
+      front = λ f e. front_reached k.asking.turns f r.session.board.lines vs r.asked n low (st.front f e);
     }

@@ -11,7 +11,7 @@ returns-in-Some c = λ settled items before behind r st cells.
     record {
       live = found.0;
       found = found.1.0;
-      settled = c.is_settled.ensures settled items _ _ found.0
+      settled = c.has_nothing.ensures settled items _ _ found.0
           (subst (StandsCells c.args.cells.now items) (live_split before r.session.board.round behind r.asked found.0 found.1.0) cells)
           (sym (ap (λ (x : SlotRef). x.item) found.1.1)) (sym (ap (λ (x : SlotRef). x.slot) found.1.1));
     }

@@ -1,54 +1,27 @@
-use Rattle.ls_hub.proofs.Hubs.{on_failed}
-use Rattle.ls_hub.proofs.Telling.{goes_from, turns_on, no_question, asks_this, ask_failed, goes_then}
+use Rattle.std.proofs.Common.{subst, false}
+use Rattle.std.proofs.lemmas.Result.{on_err_weaker}
+use Rattle.ls_record.specs.Turning.{SessionTurn}
+use Rattle.ls_session.specs.Record.{Record}
+use Rattle.ls_session.proofs.Replies.{ok_then}
+use Rattle.ls_hub.specs.Turning.{TurnEnded}
+use Rattle.ls_hub.proofs.Skipping.{front_turn}
 use Rattle.ls_hub.proofs.turning.turn_of.Goals as goal
 
-pub loop-init : goal.loop-init
-loop-init c = λ items before behind r st early range cells. goes_from c.args.now items c.args.epoch before behind r _ _ early st cells
+pub returns-clause-ok : goal.returns-clause-ok
+returns-clause-ok c =
+    ok_then _ _ c.ask_round.result
+    (λ turn ends. λ items before behind r st early range cells.
+    let p = c.pass_front.ensures r st early range in
+    let on : Record = record r { tick = c.args.now; asked = p.asked; asks = false; wait = p.wait } in
+    subst (λ (t : SessionTurn). TurnEnded c.args.now items before behind r.number r.session t turn c.ask_round.new.session c.ask_round.new.cells)
+    (front_turn c.args.now items c.args.epoch r c.pass_front.new.self p) (ends items before behind on p.session early range cells))
+    c.ask_round.ensures.ok
 
-pub returns-in_default : goal.returns-in_default
-returns-in_default c = record {
-  ok = λ items before behind r st early range cells.
-      let g = c.loop.invariant items before behind r st early range cells in
-      no_question c.args.now items c.args.epoch before behind r c.turn.result c.turn.new.self c.loop.cells
-      (turns_on c.args.now items c.args.epoch before behind r c.turn.result c.loop.session c.turn.new.self c.loop.cells g
-      (c.turn.ensures g.asking g.session g.early range))
-      c.in_default.not-Ask;
-  err = tt;
-}
-
-pub returns-in_err-reply-in-Ask-clause-err : goal.returns-in_err-reply-in-Ask-clause-err
-returns-in_err-reply-in-Ask-clause-err c = on_failed c.from_residual.result (λ items before behind r st early range cells.
-    let g = c.loop.invariant items before behind r st early range cells in
-    let h = turns_on c.args.now items c.args.epoch before behind r c.turn.result c.loop.session c.turn.new.self c.loop.cells g
-    (c.turn.ensures g.asking g.session g.early range) in
-    let a = asks_this c.args.now items c.args.epoch before behind r c.turn.result c.turn.new.self c.loop.cells h c.in-Ask.ask c.in-Ask.is in
-    ask_failed c.args.now items c.args.epoch before behind r c.turn.result c.turn.new.self c.loop.cells h c.in-Ask.ask a c.reply.new.session c.reply.new.cells
-    (c.in_err-reply-in-Ask.ensures.err c.args.now items c.args.epoch before behind h.asking a.question a.asked))
-
-pub loop-preserved : goal.loop-preserved
-loop-preserved c = λ items before behind r st early range cells.
-    let g = c.loop.invariant items before behind r st early range cells in
-    let h = turns_on c.args.now items c.args.epoch before behind r c.turn.result c.loop.session c.turn.new.self c.loop.cells g
-    (c.turn.ensures g.asking g.session g.early range) in
-    let a = asks_this c.args.now items c.args.epoch before behind r c.turn.result c.turn.new.self c.loop.cells h c.in-Ask.ask c.in-Ask.is in
-    goes_then c.args.now items c.args.epoch before behind r c.turn.result c.turn.new.self c.loop.cells h c.in-Ask.ask a c.reply.new.session c.reply.new.cells
-    (c.in_ok-reply-in-Ask.ensures.ok c.args.now items c.args.epoch before behind h.asking a.question a.asked a.is)
-
-pub returns-in-Ask-turn-clause-err : goal.returns-in-Ask-turn-clause-err
-returns-in-Ask-turn-clause-err c = λ items before behind r st early range cells.
-    let g = c.loop.invariant items before behind r st early range cells in
-    let h = turns_on c.args.now items c.args.epoch before behind r c.turn-2.result c.loop.session c.turn-2.new.self c.loop.cells g
-    (c.turn-2.ensures g.asking g.session g.early range) in
-    let a = asks_this c.args.now items c.args.epoch before behind r c.turn-2.result c.turn-2.new.self c.loop.cells h c.in-Ask-turn.field-0 c.in-Ask-turn.is in
-    ask_failed c.args.now items c.args.epoch before behind r c.turn-2.result c.turn-2.new.self c.loop.cells h c.in-Ask-turn.field-0 a c.turn-2.new.self
-    c.loop.cells a.asked
-
-pub returns-in_default-turn : goal.returns-in_default-turn
-returns-in_default-turn c = record {
-  ok = λ items before behind r st early range cells.
-      let g = c.loop.invariant items before behind r st early range cells in
-      no_question c.args.now items c.args.epoch before behind r c.turn-2.result c.turn-2.new.self c.loop.cells
-      (turns_on c.args.now items c.args.epoch before behind r c.turn-2.result c.loop.session c.turn-2.new.self c.loop.cells g
-      (c.turn-2.ensures g.asking g.session g.early range)) c.in_default-turn.not-Ask;
-  err = tt;
-}
+pub returns-clause-err : goal.returns-clause-err
+returns-clause-err c =
+    on_err_weaker c.ask_round.result
+    (λ failed. λ items before behind r st early range cells.
+    let p = c.pass_front.ensures r st early range in
+    let on : Record = record r { tick = c.args.now; asked = p.asked; asks = false; wait = p.wait } in
+    failed items before behind on p.session early range cells)
+    c.ask_round.ensures.err

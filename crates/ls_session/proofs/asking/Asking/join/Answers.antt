@@ -2,7 +2,7 @@ use Rattle.std.proofs.Common.{◌≡◌, length, ap, subst, sym, arith, false}
 use Rattle.std.specs.List.{list_any}
 use Rattle.ls_turns.specs.Round.{Round, is_of}
 use Rattle.ls_session.specs.Asking.{Asking}
-use Rattle.ls_session.proofs.Seats.{held_anew, none_left, joined_few}
+use Rattle.ls_session.proofs.Seats.{no_front, held_anew, none_left, joined_few}
 use Rattle.ls_session.proofs.asking.Asking.join.Goals as goal
 
 pub join_slots-requires-clause-absent : goal.join_slots-requires-clause-absent
@@ -21,5 +21,6 @@ invariant_of-self c = (
         ap (λ (a : Asking). a.room) c.self.view_is,
       )),
   c.self.invariant.1,
-  c.self.invariant.2,
+  no_front _,
+  c.self.invariant.3,
 )

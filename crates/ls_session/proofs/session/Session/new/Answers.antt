@@ -1,4 +1,4 @@
-use Rattle.std.proofs.Common.{map, ap, sym, subst, refl, [], arith}
+use Rattle.std.proofs.Common.{◌≡◌, ◌∙◌, None, Some, map, ap, sym, subst, refl, [], arith}
 use Rattle.ls_record.specs.Records.{Session, opened}
 use Rattle.ls_session.specs.Record.{created}
 use Rattle.ls_session.specs.Asking.{Asking}
@@ -16,4 +16,5 @@ returns c = λ most.
           (round_anew c.in_ok-asking.asking c.args.id c.args.now c.args.now s (omega arith) most (ap (λ ss. map (λ s. s.slot) ss) c.in_ok-asking.ensures.0));
       subs = c.new-3.ensures [];
       rate = record { latest = omega (arith, c.new-4.ensures.latest); behind = omega arith; spends = c.new-4.ensures.stands };
+      front = λ f e. absurd (let x : None ≡ Some f = sym c.in_ok-asking.ensures.2 ∙ e in cc);
     }

@@ -5,7 +5,7 @@ use Rattle.ls_cells.specs.Cells.{StandsCells}
 use Rattle.ls_session.specs.Record.{Record}
 use Rattle.ls_session.specs.Session.{StandsSession}
 use Rattle.ls_hub.specs.Turning.{GoesOn}
-use Rattle.ls_hub.proofs.turning.turn_of.Given as goal
+use Rattle.ls_hub.proofs.turning.ask_round.Given as goal
 
 abbrev pub invariant-loop : goal.invariant-loop
 invariant-loop l = (items : List Item) (before behind : List LiveSlot) (r : Record) → StandsSession l.initial.session r → r.floor ≤ l.now

@@ -2,7 +2,7 @@ use Rattle.std.proofs.Common.{ℕ, List}
 use Rattle.ls_record.specs.Records.{Item, LiveSlot}
 use Rattle.ls_session.specs.Record.{Record}
 use Rattle.ls_hub.specs.Turning.{MaySkip}
-use Rattle.ls_hub.proofs.turning.skip_settled.Given as goal
+use Rattle.ls_hub.proofs.turning.skip_known.Given as goal
 
 abbrev pub invariant-loop : goal.invariant-loop
 invariant-loop l = (now : ℕ) (items : List Item) (epoch : ℕ) (before behind : List LiveSlot) (r : Record)
