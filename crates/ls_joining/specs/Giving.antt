@@ -1,2 +1,2 @@
 -- Handed on: definitions of ls_parts that the crates above read.
-pub use Rattle.ls_parts.specs.Giving.{Gives, GivesNext, StaysStill, given, speaks}
+pub use Rattle.ls_parts.specs.Giving.{AsksNone, AsksOn, AsksSlot, Gives, GivesNext, StaysStill, StaysUnasked, given, speaks}

@@ -1,4 +1,5 @@
 pub mod Begun
 pub mod AddDone
+pub mod Ahead
 pub mod Catching
 pub mod Shown

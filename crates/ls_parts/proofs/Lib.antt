@@ -5,6 +5,7 @@ pub mod Turning
 pub mod Changed
 pub mod Replied
 pub mod Asked
+pub mod Ahead
 pub mod Catching
 pub mod Reading
 pub mod Seeing

@@ -1,18 +1,18 @@
 -- What a turn of a session in threads gives, by its history (TLCP 2.1, session life; this project's profile).
-use Rattle.std.specs.Prelude.{◌≡◌, ◌<◌, ℕ, List, [], ◌∷◌, ◌++◌, length, Bool, false, not, ◌&&◌, None, Some, is_some, nat_lt, nat_le, if◌then◌else◌}
+use Rattle.std.specs.Prelude.{◌≡◌, ◌≤◌, ◌<◌, ◌⊎◌, ℕ, List, [], ◌∷◌, ◌++◌, length, Bool, false, not, ◌&&◌, None, Some, is_some, nat_lt, nat_le, if◌then◌else◌, Option}
 use Rattle.ls_value.specs.declared.limits.TheConstants.{GREATEST_NUMBER}
 use Rattle.ls_event.specs.declared.item.ItemDef.{ItemDef}
 use Rattle.ls_record.specs.Records.{Alive, is_alive}
 use Rattle.ls_register.specs.declared.told.Told.{Told}
 use Rattle.ls_register.specs.declared.told.Told.TheVariants.{Gave}
 use Rattle.ls_session.specs.declared.session.Session.{Session as Kept}
-use Rattle.ls_session.specs.Record.{Record, Turned, turned, Spent}
+use Rattle.ls_session.specs.Record.{Record, Question, Turned, Asks, turned, round_turned, Spent}
 use Rattle.ls_told.specs.Spoken.{Spoken, spoken_of, next_of, text_of_next, GivesNothing}
 use Rattle.ls_told.specs.Heard.{heard, counts_as}
 use Rattle.ls_told.specs.Seen.{Watched}
 use Rattle.ls_session.specs.declared.session.Ask.{Ask}
 use Rattle.ls_session.specs.declared.session.Turn.{Turn}
-use Rattle.ls_session.specs.Session.{AnswersTurn}
+use Rattle.ls_session.specs.Session.{AnswersTurn, ask_in}
 use Rattle.ls_told.specs.Turns.{HasEnded, IsUnbound, IsSpent}
 use Rattle.ls_session.specs.declared.session.Turn.TheVariants as turn
 use Rattle.ls_taking.specs.Groups.{SubSeen}
@@ -59,3 +59,31 @@ pub record Gives (config : List ItemDef) (number epoch now : ℕ) (before es : L
   pub ended : (code : ℕ) → answer ≡ turn.Ended code → HasEnded number code before
   pub unbound : answer ≡ turn.Unbound → IsUnbound number before
   pub spent : answer ≡ turn.Spent → IsSpent number before
+
+-- the next slot of a round was asked at a tick, whatever lines wait to be given, of a session that lives
+pub record AsksSlot (config : List ItemDef) (number now : ℕ) (es : List Told) (ws : List Watched) (subs : List SubSeen) (k : Kept)
+    (r : Record) (ask : Ask) : Type 0 where
+  pub q : Question
+  pub gives : (round_turned (counts_as now es) r).gives ≡ Asks q
+  pub ask_is : ask ≡ ask_in q
+  pub lives : LivesAs config number es ws subs k (round_turned (counts_as now es) r).after
+  pub alive : (heard number es).life ≡ Alive
+  pub room : length es < GREATEST_NUMBER
+
+-- none was, as the history is spent or the session has ended
+pub record StaysUnasked (config : List ItemDef) (number : ℕ) (es : List Told) (ws : List Watched) (subs : List SubSeen) (k : Kept)
+    (r : Record) : Type 0 where
+  pub lives : LivesAs config number es ws subs k r
+  pub cause : (GREATEST_NUMBER ≤ length es) ⊎ (is_alive (heard number es).life ≡ false)
+
+-- or as the round has none that may be asked
+pub record AsksNone (config : List ItemDef) (number now : ℕ) (es : List Told) (ws : List Watched) (subs : List SubSeen) (k : Kept)
+    (r : Record) : Type 0 where
+  pub lives : LivesAs config number es ws subs k (round_turned (counts_as now es) r).after
+  pub none : (q : Question) → (round_turned (counts_as now es) r).gives ≡ Asks q → ⊥
+
+-- what is asked next of a round, whatever lines wait to be given
+abbrev pub AsksOn : List ItemDef → ℕ → ℕ → List Told → List Watched → List SubSeen → Kept → Record → Option Ask → Type 0
+AsksOn config number now es ws subs k r None =
+    StaysUnasked config number es ws subs k r ⊎ AsksNone config number now es ws subs k r
+AsksOn config number now es ws subs k r (Some ask) = AsksSlot config number now es ws subs k r ask

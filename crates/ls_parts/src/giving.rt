@@ -10,12 +10,12 @@ ghost use Rattle.ls_told.specs.Heard.{heard, counts_as};
 ghost use Rattle.ls_told.specs.Requests.{is_spent};
 ghost use Rattle.ls_told.specs.Turns.{IsSilent, SpokeInTime, probe_text};
 ghost use Rattle.ls_taking.specs.Lives.{Lives, LivesAs};
-ghost use Rattle.ls_parts.specs.Giving.{speaks, Gives};
+ghost use Rattle.ls_parts.specs.Giving.{speaks, AsksOn, Gives};
 
 use crate::parts::SessionParts;
 use ls_line::LineBuf;
 use ls_register::House;
-use ls_session::{Session, Turn};
+use ls_session::{Ask, Session, Turn};
 use ls_subs::SlotRef;
 use ls_taking::History;
 
@@ -44,6 +44,30 @@ impl<N: House> SessionParts<N> {
             self.history.tell_given(epoch, into.text(), tick);
         }
         turn
+    }
+
+    /// The question what the next slot of the round has to tell, at a tick that counts as in [`SessionParts::give`],
+    /// whatever lines wait to be given. `None` where no slot is left to ask, or no number for a line, where the history is
+    /// spent, or the session has ended. It takes no memory.
+    pub fn ask_on(&mut self, now: u64) -> Option<Ask>
+        requires tick { now ≤ GREATEST_TICK }
+        ensures rest { self.new ≡ record self.old { session = self.new.session } }
+        ensures asks { (r : Record) → LivesAs N.deed.config self.old.number self.old.history.list
+            self.old.watches.items self.old.subs.items self.old.session r
+            → AsksOn N.deed.config self.old.number now self.old.history.list self.old.watches.items
+            self.old.subs.items self.new.session r result }
+    {
+        if self.history.is_spent() {
+            return None;
+        }
+        if !self.session.is_alive() {
+            return None;
+        }
+        let tick = self.history.tick(now);
+        match self.session.turn_round(tick) {
+            Turn::Ask(ask) => Some(ask),
+            _ => None,
+        }
     }
 
     /// PROBE, where the stream of an epoch gave nothing for its keep-alive and has nothing to give, and whether it was

@@ -1,5 +1,5 @@
 -- A turn asks one slot of a session after another: those that had nothing stay such.
-use Rattle.std.proofs.Common.{◌≡◌, ◌≤◌, ◌<◌, ◌⊎◌, ℕ, zero, suc, ◌+◌, List, [], ◌∷◌, ◌++◌, length, take, Bool, true, false, not, ◌&&◌, nat_eq, nat_le, nat_lt}
+use Rattle.std.proofs.Common.{◌≡◌, ◌≤◌, ◌<◌, ◌⊎◌, inl, inr, ℕ, zero, suc, ◌+◌, List, [], ◌∷◌, ◌++◌, length, take, Bool, true, false, not, ◌&&◌, nat_eq, nat_le, nat_lt}
 use Rattle.std.proofs.Common.{Option, None, Some, refl, sym, ap, subst, arith, cond, ◌∙◌, slice_get, is_some, if◌then◌else◌, Result, Ok, Err}
 use Rattle.std.specs.Result.{OnOk}
 use Rattle.std.proofs.lemmas.Bool.{eqb-true, lt-ltb}
@@ -43,16 +43,17 @@ use Rattle.ls_told.proofs.Turns.{turned_rule}
 use Rattle.ls_told.proofs.Watching.{history_seen, length_seen, seen_more, sees_same, sees_twice}
 use Rattle.ls_live_session.specs.Groups.{SubSeen}
 use Rattle.ls_live_session.specs.Lives.{LivesAs, HasSeat, HasNothing as KnowsNothing}
-use Rattle.ls_live_session.specs.Giving.{given, speaks}
+use Rattle.ls_live_session.specs.Giving.{given, speaks, AsksOn, AsksSlot}
 use Rattle.ls_live_session.specs.Giving.{Gives as GivesTurn}
 use Rattle.ls_live_session.specs.Taking.{IsAskedFrom, reached, caught_up, asked_now}
 use Rattle.ls_live_session.specs.Replying.{Replies, TakesFrom, replied, reply_by, reply_of}
+use Rattle.ls_live_session.proofs.Ahead.{asks_that}
 use Rattle.ls_live_session.proofs.Catching.{asked_still}
 use Rattle.ls_shared.specs.Asking.{HadNothing, HadNone, AskedInVain, GoesRound, AsksRound, QuietRound}
 use Rattle.ls_shared.proofs.NoCuts.{nothing_left, merge_owes}
 use Rattle.ls_shared.proofs.Rounds.{take_at, take_changed, past_end, none_sees, none_alike, none_more, one_waits}
 use Rattle.ls_shared.proofs.Turned.{bound_some}
-use Rattle.ls_shared.proofs.Turning.{asks_that, given_stood}
+use Rattle.ls_shared.proofs.Turning.{given_stood, round_question}
 
 module _ (config : List ItemDef) (held : List Watched) where
   -- what is known of a live slot
@@ -170,6 +171,25 @@ module _ (config : List ItemDef) (held : List Watched) where
             none = by_reply q.due (cut h v.slot) (is_pending h v.slot) refl refl refl l;
           }
 
+  -- the one for which memory was refused
+  pub stayed_round : (number n : ℕ) (es : List Told) (old ws : List Watched) (subs : List SubSeen) (k : Kept) (r : Record) → SeesMore old ws
+      → SeesMore held old → AskedInVain config held old r
+      → LivesAs config number es ws subs k r ⊎ LivesAs config number es ws subs k (caught_up n r) → GoesRound config number es held ws subs k
+  stayed_round number n es old ws subs k r more early vain either = by_either either
+    where
+      vain_still : AskedInVain config held ws r
+      vain_still = none_sees config held old ws more r.tick r.session (take r.asked r.session.board.round) r.wait vain
+
+      by_either : LivesAs config number es ws subs k r ⊎ LivesAs config number es ws subs k (caught_up n r) → GoesRound config number es held ws subs k
+      by_either (inl l) = record { r = r; lives = l; more = sees_twice held old ws early more; none = vain_still }
+      by_either (inr l) =
+          record {
+            r = caught_up n r;
+            lives = l;
+            more = sees_twice held old ws early more;
+            none = vain_changed ws r (reached n) r.asks vain_still;
+          }
+
   -- and the one of which its seat knows that it has nothing
   pub rested_round : (number : ℕ) (es : List Told) (ws : List Watched) (subs : List SubSeen) (k : Kept) (r : Record) (q : Question)
       → question_of r ≡ Some q → LivesAs config number es ws subs k (passed_over r) → KnowsNothing (seen_of ws q.live.item) q.live.slot
@@ -248,6 +268,15 @@ module _ (config : List ItemDef) (held : List Watched) where
               λ is. absurd (let e : Asks (record { live = v; due = is_due now r.session v }) ≡ Idle = is in cc),
               λ n is. absurd (let e : Asks (record { live = v; due = is_due now r.session v }) ≡ NotDue n = is in cc),
             ))
+
+    pub round_vain : AskedInVain config held ws r → AskedInVain config held ws (round_turned now r).after
+    round_vain vain = by_slot (slice_get r.session.board.round (from_place now r))
+      where
+        by_slot : (o : Option LiveSlot) → AskedInVain config held ws (round_asked now (wait_from now r) r (from_place now r) o).after
+        by_slot None = none_yet ws now r.session
+        by_slot (Some v) =
+            cond_rule (λ (t : Turned). AskedInVain config held ws t.after)
+            (is_due now r.session v && nat_le GREATEST_NUMBER (length r.session.board.lines)) _ _ (λ t. none_yet ws now r.session) (λ t. went_on vain)
 
     -- what gives neither says nothing of it
     abbrev IsOther : Gives → Type 0
@@ -343,6 +372,41 @@ module _ (config : List ItemDef) (number epoch now : ℕ) (before es : List Told
       quiet_then (Some at) (g.stays (λ sent. absurd (let x : turn.Send ≡ turn.NotDue at = sym sent ∙ is in cc)))
       ((given_went config held (counts_as now before) ws r (length before) epoch vain).2 at
       (not_due_by (given (length before) (counts_as now before) epoch r).gives answer k at g.answers is))
+
+-- where the round is asked on, whatever waits to be given, the question stands
+pub slot_asked : (config : List ItemDef) (number now : ℕ) (es : List Told) (ws : List Watched) (subs : List SubSeen) (k : Kept) (r : Record) (ask : Asking)
+    (s : AsksSlot config number now es ws subs k r ask) → IsAskedFrom config number es ws subs k (round_turned (counts_as now es) r).after s.q ask now
+slot_asked config number now es ws subs k r ask s =
+    let stood = round_question (counts_as now es) s.q r s.gives in
+    record { lives = s.lives; asks = stood.0; ask_is = s.ask_is; tick = stood.1 }
+
+-- and so is known how far it was asked
+module _ (config : List ItemDef) (number now : ℕ) (es : List Told) (held ws : List Watched) (subs : List SubSeen) (k0 k : Kept)
+    (g : GoesRound config number es held ws subs k0) where
+  pub asked_on : (ask : Asking) → AsksSlot config number now es ws subs k g.r ask → AsksRound config number es held ws subs k ask now
+  asked_on ask s =
+      record {
+        r = (round_turned (counts_as now es) g.r).after;
+        q = s.q;
+        asked = slot_asked config number now es ws subs k g.r ask s;
+        more = g.more;
+        none = round_vain config held (counts_as now es) ws g.r g.none;
+      }
+
+  pub none_asked : AsksOn config number now es ws subs k g.r None → GoesRound config number es held ws subs k
+  none_asked (inl stays) = record { r = g.r; lives = stays.lives; more = g.more; none = g.none }
+  none_asked (inr over) =
+      record {
+        r = (round_turned (counts_as now es) g.r).after;
+        lives = over.lives;
+        more = g.more;
+        none = round_vain config held (counts_as now es) ws g.r g.none;
+      }
+
+-- a question that stands, where nothing asks it any more
+pub asks_goes : (config : List ItemDef) (number : ℕ) (es : List Told) (held ws : List Watched) (subs : List SubSeen) (k : Kept) (ask : Asking) (now : ℕ)
+    → AsksRound config number es held ws subs k ask now → GoesRound config number es held ws subs k
+asks_goes config number es held ws subs k ask now a = record { r = a.r; lives = a.asked.lives; more = a.more; none = a.none }
 
 -- a turn for no stream begins the round anew
 given_anew : (entries now : ℕ) (r : Record) → 1 ≤ length r.session.streams

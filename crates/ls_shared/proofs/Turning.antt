@@ -28,6 +28,7 @@ use Rattle.ls_live_session.specs.Giving.{GivesNext, StaysStill, given, speaks}
 use Rattle.ls_live_session.specs.Giving.{Gives as GivesTurn}
 use Rattle.ls_live_session.specs.Taking.{IsAskedFrom}
 use Rattle.ls_live_session.specs.Replying.{Replies}
+use Rattle.ls_live_session.proofs.Ahead.{asks_that}
 use Rattle.ls_shared.specs.Asking.{QuietRound}
 use Rattle.ls_shared.specs.Taking.{EndsQuiet, EndsTurn, GaveLast, GaveProbe, GivesNone}
 use Rattle.ls_shared.proofs.Grown.{newer_there}
@@ -57,12 +58,14 @@ module _ (now : ℕ) (q : Question) where
         refl,
       ))
 
+  pub round_question : (r : Record) → Stood (round_turned now r)
+  round_question r = round_stood (wait_from now r) r (from_place now r) (slice_get r.session.board.round (from_place now r)) refl
+
   owed_stood : (r : Record) (owed : List (List ℕ)) → Stood (owed_turned now r owed)
   owed_stood r (text ∷ owed) = λ g. absurd (let x : Send text ≡ Asks q = g in cc)
   owed_stood r [] =
       pick Stood (is_to_loop r.session.streams) _ _ (λ g. absurd (let x : Send _ ≡ Asks q = g in cc))
-      (pick Stood (is_unsent r.session) _ _ (λ g. absurd (let x : Send _ ≡ Asks q = g in cc))
-      (round_stood (wait_from now r) r (from_place now r) (slice_get r.session.board.round (from_place now r)) refl))
+      (pick Stood (is_unsent r.session) _ _ (λ g. absurd (let x : Send _ ≡ Asks q = g in cc)) (round_question r))
 
   bound_stood : (r : Record) (life : Life) → Stood (bound_turned now r life)
   bound_stood r Alive = owed_stood r r.session.owed
@@ -80,18 +83,6 @@ module _ (now : ℕ) (q : Question) where
       (λ g. absurd (let x : Spent ≡ Asks q = g in cc))
       (pick Stood (nat_lt epoch (length r.session.streams)) _ _ (λ g. absurd (let x : Superseded _ ≡ Asks q = g in cc))
       (pick Stood (is_bound r.session) _ _ (bound_stood r r.session.life) (λ g. absurd (unbound_stood r r.session.life g))))
-
--- which question was asked
-pub asks_that : (g : Gives) (t : Turn) (k : Kept) (ask : Asking) → AnswersTurn g t k → t ≡ turn.Ask ask
-    → (q : Question) × (g ≡ Asks q) × (ask ≡ ask_in q)
-asks_that (Send text) t k ask a is = absurd (let x : turn.Send ≡ turn.Ask ask = sym a.0 ∙ is in cc)
-asks_that (Asks q) t k ask a is = (q, refl, (let x : turn.Ask ask ≡ turn.Ask (ask_in q) = sym is ∙ a in cc))
-asks_that Idle t k ask a is = absurd (let x : turn.Idle ≡ turn.Ask ask = sym a ∙ is in cc)
-asks_that (NotDue at) t k ask a is = absurd (let x : turn.NotDue at ≡ turn.Ask ask = sym a ∙ is in cc)
-asks_that Spent t k ask a is = absurd (let x : turn.Spent ≡ turn.Ask ask = sym a ∙ is in cc)
-asks_that (Superseded e) t k ask a is = absurd (let x : turn.Superseded e ≡ turn.Ask ask = sym a ∙ is in cc)
-asks_that Unbound t k ask a is = absurd (let x : turn.Unbound ≡ turn.Ask ask = sym a ∙ is in cc)
-asks_that (Ended code) t k ask a is = absurd (let x : turn.Ended code ≡ turn.Ask ask = sym a ∙ is in cc)
 
 module _ (config : List ItemDef) (number epoch now : ℕ) (before es : List Told) (ws : List Watched) (subs : List SubSeen) (k : Kept)
     (r : Record) (answer : Turn) (text : List ℕ) (g : GivesTurn config number epoch now before es ws subs k r answer text) where

@@ -20,9 +20,13 @@ use ls_line::LineBuf;
 use ls_live_session::{LiveSession, SessionParts, Sight};
 use ls_outside::{Gate, Point};
 use ls_register::{House, wait_for_good};
+use ls_seated::Seated;
 use ls_session::{Ask, Turn};
 use ls_value::NoMemory;
 use std::sync::Wait;
+
+/// How many lines at most are numbered under one hold of an item's lock, beside the first.
+const MOST_AHEAD: u32 = 32;
 
 impl<N: House> Shared<N> {
     /// A turn of the session of which `seen` is, at a tick, in ms, of at most [`GREATEST_TICK`](ls_value::GREATEST_TICK),
@@ -232,8 +236,9 @@ impl<N: House> Shared<N> {
         self.ask_item(rt, parts, ask, now)
     }
 
-    /// Asks the slot of a session's question what it has to tell, under its item's lock, and answers the question. Where
-    /// the item doesn't have the slot, it waits for good.
+    /// Asks the slot of a session's question what it has to tell, under its item's lock, and answers the question. After a
+    /// line the next slots are asked under the same lock, as long as they are of this item and have lines: a few lines are
+    /// numbered, which the next turns give.
     fn ask_item<R: Wait>(
         &self,
         rt: &R,
@@ -262,13 +267,114 @@ impl<N: House> Shared<N> {
             unreachable!()
         };
         let mut item = lock.lock(rt);
-        let Some(found) = parts.find(&self.register, &mut item, ask.slot) else {
+        let told = self.ask_held(rt, parts, &mut item, ask, now)?;
+        if !told {
+            return Ok(());
+        }
+        self.ask_more(rt, parts, &mut item, ask.slot.item, now);
+        Ok(())
+    }
+
+    /// Asks the slot of a session's question what it has to tell, of an item whose lock is held, and answers the question;
+    /// whether a line was numbered. Where the item doesn't have the slot, it waits for good. After `NoMemory` the slot may
+    /// have got events.
+    fn ask_held<R: Wait>(
+        &self,
+        rt: &R,
+        parts: &mut SessionParts<N>,
+        item: &mut Seated<N>,
+        ask: Ask,
+        now: u64,
+    ) -> Result<bool, NoMemory>
+        requires tick { now ≤ GREATEST_TICK }
+        requires room { length parts.old.history.list < GREATEST_NUMBER }
+        requires alive { (heard parts.old.number parts.old.history.list).life ≡ Alive }
+        requires asked { (r : Record) × (q : Question) × IsAskedFrom N.deed.config parts.old.number parts.old.history.list parts.old.watches.items
+            parts.old.subs.items parts.old.session r q ask now }
+        ensures rest { (parts.new.number ≡ parts.old.number) × (parts.new.place ≡ parts.old.place)
+            × (parts.new.history.table ≡ parts.old.history.table) }
+        ensures lives { Lives N.deed.config parts.new.number parts.new.history.list parts.new.watches.items
+            parts.new.subs.items parts.new.session }
+        ensures items { SeesMore parts.old.watches.items parts.new.watches.items }
+        ensures begins { IsPrefix parts.old.history.list parts.new.history.list }
+        ensures goes { (held : List Watched) → AsksRound N.deed.config parts.old.number parts.old.history.list held
+            parts.old.watches.items parts.old.subs.items parts.old.session ask now
+            → GoesRound N.deed.config parts.new.number parts.new.history.list held parts.new.watches.items
+            parts.new.subs.items parts.new.session }
+    {
+        let Some(found) = parts.find(&self.register, item, ask.slot) else {
             wait_for_good(rt);
             unreachable!()
         };
-        match parts.take_from(&mut item, ask, found, now) {
-            Ok(_) => Ok(()),
+        match parts.take_from(item, ask, found, now) {
+            Ok(told) => Ok(told),
             Err(NoMemory) => Err(NoMemory),
+        }
+    }
+
+    /// Slots of an item whose lock is held are asked one after another, as the round has them, while each has a line. Where
+    /// memory is refused for a line, it is asked for anew by a later turn.
+    fn ask_more<R: Wait>(
+        &self,
+        rt: &R,
+        parts: &mut SessionParts<N>,
+        item: &mut Seated<N>,
+        number: u32,
+        now: u64,
+    )
+        requires tick { now ≤ GREATEST_TICK }
+        requires lives { Lives N.deed.config parts.old.number parts.old.history.list parts.old.watches.items
+            parts.old.subs.items parts.old.session }
+        ensures rest { (parts.new.number ≡ parts.old.number) × (parts.new.place ≡ parts.old.place)
+            × (parts.new.history.table ≡ parts.old.history.table) }
+        ensures lives { Lives N.deed.config parts.new.number parts.new.history.list parts.new.watches.items
+            parts.new.subs.items parts.new.session }
+        ensures items { SeesMore parts.old.watches.items parts.new.watches.items }
+        ensures begins { IsPrefix parts.old.history.list parts.new.history.list }
+        ensures goes { (held : List Watched) → GoesRound N.deed.config parts.old.number parts.old.history.list held
+            parts.old.watches.items parts.old.subs.items parts.old.session
+            → GoesRound N.deed.config parts.new.number parts.new.history.list held parts.new.watches.items
+            parts.new.subs.items parts.new.session }
+    {
+        for _ in 0..MOST_AHEAD {
+            if !self.ask_ahead(rt, parts, item, number, now) {
+                return;
+            }
+        }
+    }
+
+    /// The next slot of the round is asked, where it is of an item whose lock is held; whether a line was numbered.
+    fn ask_ahead<R: Wait>(
+        &self,
+        rt: &R,
+        parts: &mut SessionParts<N>,
+        item: &mut Seated<N>,
+        number: u32,
+        now: u64,
+    ) -> bool
+        requires tick { now ≤ GREATEST_TICK }
+        requires lives { Lives N.deed.config parts.old.number parts.old.history.list parts.old.watches.items
+            parts.old.subs.items parts.old.session }
+        ensures rest { (parts.new.number ≡ parts.old.number) × (parts.new.place ≡ parts.old.place)
+            × (parts.new.history.table ≡ parts.old.history.table) }
+        ensures lives { Lives N.deed.config parts.new.number parts.new.history.list parts.new.watches.items
+            parts.new.subs.items parts.new.session }
+        ensures items { SeesMore parts.old.watches.items parts.new.watches.items }
+        ensures begins { IsPrefix parts.old.history.list parts.new.history.list }
+        ensures goes { (held : List Watched) → GoesRound N.deed.config parts.old.number parts.old.history.list held
+            parts.old.watches.items parts.old.subs.items parts.old.session
+            → GoesRound N.deed.config parts.new.number parts.new.history.list held parts.new.watches.items
+            parts.new.subs.items parts.new.session }
+    {
+        let Some(ask) = parts.ask_on(now) else {
+            return false;
+        };
+        if ask.slot.item != number {
+            return false;
+        }
+        match self.ask_held(rt, parts, item, ask, now) {
+            Ok(told) => told,
+            Err(NoMemory) => false,
         }
     }
 }
