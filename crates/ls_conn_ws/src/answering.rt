@@ -49,12 +49,14 @@ pub(crate) enum Replied {
     NoMemory,
 }
 
-/// What a connection has: its view of the register, what was seen of sessions by its last message, and its stream.
+/// What a connection has: its view of the register, what was seen of sessions by its last message, its stream, and the
+/// tick, in ms, at which it was last looked for a message in vain.
 #[derive(Drop)]
 pub(crate) struct Desk<N: House> {
     pub(crate) view: View<N>,
     pub(crate) seen: Seen<N>,
     pub(crate) stream: Option<Running<N>>,
+    pub(crate) looked: Option<u64>,
 }
 
 /// Puts a line as an answer.

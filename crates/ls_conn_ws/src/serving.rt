@@ -237,12 +237,16 @@ fn listen<N: House, R: Wait, T: Talk + Wakes, K: Clock>(
             *idles = 0;
             None
         }
-        Heard::Nothing => rest(rt, talk, clock, &desk.stream, rings, ms, idles),
+        Heard::Nothing => {
+            desk.looked = Some(now);
+            rest(rt, talk, clock, &desk.stream, rings, ms, idles)
+        }
         Heard::End(end) => Some(end),
     }
 }
 
-/// The same after a line of the stream, after which nothing rests.
+/// The same after a line of the stream, after which nothing rests. At a tick at which it was looked in vain, it isn't
+/// looked again: each look costs a call of the system.
 fn after_line<N: House, R: Wait, T: Talk + Wakes, K: Clock>(
     rt: &R,
     alloc: Global,
@@ -265,13 +269,16 @@ fn after_line<N: House, R: Wait, T: Talk + Wakes, K: Clock>(
     ensures told { K.told clock.old ≤ K.told clock.new }
 {
     *idles = 0;
+    if desk.looked == Some(now) {
+        return None;
+    }
     listen(
         rt, alloc, shared, talk, clock, now, desk, rings, None, idles,
     )
 }
 
 /// Has a turn of the stream, where one goes on, and looks for a message: so at most one message is answered between two
-/// lines, and one line, where there is one, is given between two messages.
+/// lines, and a line, where there is one, is given between two messages.
 fn round<N: House, R: Wait, T: Talk + Wakes, K: Clock, G: Gate>(
     rt: &R,
     alloc: Global,
@@ -393,12 +400,13 @@ fn told_by<N: House>(stream: Option<Running<N>>) -> Option<Testimony<N>>
 /// Serves a WebSocket, after its handshake, to its end: answers its messages and gives the lines of its stream (TLCP 2.1,
 /// WebSocket transport).
 ///
-/// Before each look at the connection it asks the clock, and ends at the tick `until`, in ms, or a later one. A create or
-/// a bind that is accepted begins the connection's stream, in place of the one before, which is lost. Neither side starves
-/// the other: between two lines at most one message is answered, and between two messages one line is given, where there
-/// is one. Where there is nothing to do it lets go what was held back, and sleeps. While a stream goes on over a talk that
-/// can have the session's bell rung at messages, that is until the bell rings, a slot or the keep-alive is due, or
-/// `until` comes; else it looks again every 10 ms. While no stream goes on, so many looks in a row that find no message as
+/// Before each look at the connection it asks the clock, and ends at the tick `until`, in ms, or a later one. A create
+/// or a bind that is accepted begins the connection's stream, in place of the one before, which is lost. Neither side
+/// starves the other: between two lines at most one message is answered, and between two messages a line is given,
+/// where there is one. After a look that found no message, lines are given until the next ms before it looks again.
+/// Where there is nothing to do it lets go what was held back, and sleeps. While a stream goes on over a talk that can
+/// have the session's bell rung at messages, that is until the bell rings, a slot or the keep-alive is due, or `until`
+/// comes; else it looks again every 10 ms. While no stream goes on, so many looks in a row that find no message as
 /// [`MOST_IDLES`] end the connection. It takes the memory of one line, once, and that of one message and its answers.
 ///
 /// Over a talk that tells its log, contracts say of each end what was answered and given: each message has an answer for
@@ -425,12 +433,18 @@ pub fn serve_ws<N: House, R: Wait, T: Talk + Wakes, K: Clock, G: Gate>(
         view: shared.view(rt),
         seen: Seen::new(alloc),
         stream: None,
+        looked: None,
     };
     let end = all_rounds(rt, alloc, shared, talk, clock, gate, until, &mut desk);
     talk.let_go();
     let now = clock.now();
     leave(rt, shared, &mut desk.stream, now);
-    let Desk { view, seen, stream } = desk;
+    let Desk {
+        view,
+        seen,
+        stream,
+        ..
+    } = desk;
     ConnReport {
         end,
         view,
