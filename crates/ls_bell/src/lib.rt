@@ -8,10 +8,19 @@
 //! bell.wait(rt, seen, 10);        // at once where it was rung since, at most 10 ms
 //! ```
 //!
+//! A thread that waits for many bells ties each of them to a `CommonBell`, which is rung with any of them:
+//!
+//! ```text
+//! let seen = common.rings();
+//! bell.tie(rt, &common);
+//! // .. looks, and finds nothing ..
+//! common.wait(rt, seen, 10);
+//! ```
+//!
 //! It is shared by reference or in an `Arc`. It takes no memory, and no contract speaks of time.
 #![tactic(auto)]
 
 mod bell;
 mod cross;
 
-pub use bell::Bell;
+pub use bell::{Bell, CommonBell};
