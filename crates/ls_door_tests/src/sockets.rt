@@ -2,6 +2,8 @@
 use ls_door::{Door, Heard, Visit};
 use ls_net::{SysClock, TcpDoor, TcpPipe};
 use ls_outside::{Clock, Got, Put, Sink, Source, write_all};
+use ls_wake::Wakes;
+use std::alloc::{AllocError, Global};
 use std::io::{Read, Write};
 use std::net::TcpStream;
 use std::test::*;
@@ -125,6 +127,79 @@ fn a_client_that_does_not_read_is_given_up(rt: HostRuntime) -> Result<(), Fail> 
     assert!(rt; is_full_at_last(&mut pipe, &piece) && pipe.write_faults() == 1);
     assert!(rt; pipe.read(&mut [0u8; 1]) == Got::NotYet);
     drop(client);
+    Ok(())
+}
+
+/// How many bytes a piece has.
+const PIECE: usize = 65_536;
+
+/// A piece whose bytes are all its number.
+fn piece_of(alloc: Global, number: u8) -> Result<Vec<u8>, AllocError> {
+    let mut piece = Vec::with_capacity(alloc, PIECE)?;
+    for _ in 0..PIECE {
+        piece.push(number)?;
+    }
+    Ok(piece)
+}
+
+/// Writes pieces to a pipe whose writes don't wait until it is behind, and two more. Answers how many they are.
+fn pieces_until_behind(alloc: Global, pipe: &mut TcpPipe) -> Result<u8, AllocError> {
+    let mut more: u8 = 2;
+    for number in 0..250 {
+        let piece = piece_of(alloc, number)?;
+        if more == 0 || write_all(pipe, &piece) == Put::Failed {
+            return Ok(number);
+        }
+        if pipe.is_behind() {
+            more = more.saturating_sub(1);
+        }
+    }
+    Ok(250)
+}
+
+/// Whether a client reads these pieces and no more, while the pipe is read.
+fn are_read(pipe: &mut TcpPipe, client: &mut TcpStream, pieces: u8) -> bool {
+    let mut part = [0u8; 4096];
+    let mut at: usize = 0;
+    for _ in 0..MOST_LOOKS {
+        if at >= pieces as usize * PIECE {
+            return at == pieces as usize * PIECE;
+        }
+        if pipe.read(&mut [0u8; 1]) != Got::NotYet {
+            return false;
+        }
+        let count = client.read(&mut part).unwrap_or(0);
+        for byte in part.iter().take(count) {
+            if *byte as usize != at / PIECE {
+                return false;
+            }
+            at = at.saturating_add(1);
+        }
+        if count == 0 {
+            return false;
+        }
+    }
+    false
+}
+
+#[test]
+fn a_write_that_is_not_to_wait_is_kept_and_written_later(rt: HostRuntime) -> Result<(), Fail> {
+    let mut door = TcpDoor::new(rt, None);
+    let Heard::Ready { port, .. } = door.listen(0, 0) else {
+        panic!(rt; "it doesn't listen")
+    };
+    let mut client = TcpStream::connect(&rt, ("127.0.0.1", port)).expect(&rt, "a client connects");
+    let Some(mut pipe) = next_client(&mut door) else {
+        panic!(rt; "no client came")
+    };
+    assert!(rt; !pipe.is_behind());
+    pipe.wait_for_room(rt.alloc(), false);
+    let pieces = pieces_until_behind(rt.alloc(), &mut pipe)?;
+    assert!(rt; pipe.is_behind() && pieces < 250);
+    pipe.wait_for_room(rt.alloc(), true);
+    pipe.wait_for_room(rt.alloc(), false);
+    assert!(rt; are_read(&mut pipe, &mut client, pieces));
+    assert!(rt; !pipe.is_behind() && pipe.write_faults() == 0 && pipe.read_faults() == 0);
     Ok(())
 }
 

@@ -14,9 +14,11 @@
 //! watcher.settle(&rt);
 //! ```
 //!
-//! It keeps no bytes between a call and the next, and knows no protocol above TCP.
+//! Of what is read it keeps no bytes between a call and the next, and of what is written only where a write isn't to wait
+//! for room. It knows no protocol above TCP.
 #![tactic(auto)]
 
+mod backlog;
 mod clock;
 mod cross;
 mod door;

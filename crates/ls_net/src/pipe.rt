@@ -3,6 +3,7 @@ ghost use Rattle.std.specs.Prelude.{◌≡◌, ◌≤◌, ◌↔◌, IsTrue, IfO
 ghost use Rattle.std.specs.IoError.{error_kind};
 ghost use Rattle.ls_net.specs.Sockets.{IsLater};
 
+use crate::backlog::Room;
 use crate::watcher::{Seat, WatchedSockets};
 use ls_bell::Bell;
 use ls_outside::{Got, Pipe, Put, Sink, Source};
@@ -39,10 +40,13 @@ pub(crate) fn is_later(error: &Error) -> bool
 /// Bytes are sent at once (`set_nodelay`). The connection is closed when the pipe is dropped, in stages (RFC 9112, 9.6), so
 /// that a peer which still sends gets what was written.
 ///
-/// A client's pipe that a watcher watches can have a bell rung when bytes are there (`Wakes`).
+/// A client's pipe that a watcher watches can have a bell rung when bytes are there (`Wakes`). Where its writes aren't to
+/// wait, it keeps what there is no room for, and waits only for want of memory. A read or a write before which it can't
+/// write what it keeps fails; that is so after `ROOM_MS` without room, once writes are to wait again.
 pub struct TcpPipe {
     stream: TcpStream,
     seat: Seat,
+    room: Room,
     waits_for_bytes: bool,
     read_faults: u64,
     idles: u64,
@@ -54,12 +58,15 @@ impl Drop for TcpPipe {
         let TcpPipe {
             mut stream,
             seat: _,
+            mut room,
             waits_for_bytes: _,
             read_faults: _,
             idles: _,
             write_faults: _,
         } = self;
-        close_in_stages(&mut stream);
+        if !room.is_behind() || room.write_rest(&mut stream).is_ok() {
+            close_in_stages(&mut stream);
+        }
     }
 }
 
@@ -118,6 +125,7 @@ impl TcpPipe {
         Ok(TcpPipe {
             stream,
             seat: Seat::with(sockets),
+            room: Room::new(),
             waits_for_bytes,
             read_faults: 0,
             idles: 0,
@@ -144,6 +152,10 @@ impl Source for TcpPipe {
     }
 
     fn read(&mut self, piece: &mut [u8]) -> Got {
+        if self.room.catch_up(&mut self.stream).is_err() {
+            self.read_faults = self.read_faults.saturating_add(1);
+            return Got::Failed;
+        }
         match self.stream.read(piece) {
             Ok(0) => Got::End,
             Ok(count) => Got::Bytes(count),
@@ -181,6 +193,32 @@ fn write_waiting(stream: &mut TcpStream, blocks: bool, piece: &[u8]) -> Result<u
     taken
 }
 
+/// Writes from the front of a piece, after what is kept. Where there is no room it waits, or keeps the piece; for want of
+/// memory it waits anyway.
+fn write_on(stream: &mut TcpStream, room: &mut Room, blocks: bool, piece: &[u8]) -> Result<usize>
+    ensures { IfOk result (λ count. count ≤ length piece.now) }
+{
+    room.catch_up(stream)?;
+    if room.waits() || blocks {
+        return write_waiting(stream, blocks, piece);
+    }
+    if !room.is_behind() {
+        match stream.write(piece) {
+            Ok(count) => return Ok(count),
+            Err(error) => {
+                if !is_later(&error) {
+                    return Err(error);
+                }
+            }
+        }
+    }
+    if room.keep(piece) {
+        return Ok(piece.len());
+    }
+    room.write_rest(stream)?;
+    write_waiting(stream, false, piece)
+}
+
 impl Sink for TcpPipe {
     ghost held = { λ _. None };
 
@@ -193,7 +231,12 @@ impl Sink for TcpPipe {
     }
 
     fn write(&mut self, piece: &[u8]) -> Put {
-        match write_waiting(&mut self.stream, self.waits_for_bytes, piece) {
+        match write_on(
+            &mut self.stream,
+            &mut self.room,
+            self.waits_for_bytes,
+            piece,
+        ) {
             Ok(count) if count > 0 || piece.is_empty() => Put::Taken(count),
             _ => {
                 self.write_faults = self.write_faults.saturating_add(1);
@@ -215,5 +258,14 @@ impl Wakes for TcpPipe {
         ensures unwatched { self.now.seat.sockets ≡ None → result ≡ false }
     {
         self.seat.take(self.stream.as_raw_fd(), bell)
+    }
+
+    /// A feed's pipe waits anyway.
+    fn wait_for_room(&self, alloc: Global, waits: bool) {
+        self.room.wait(alloc, waits);
+    }
+
+    fn is_behind(&self) -> bool {
+        self.room.is_behind()
     }
 }

@@ -61,4 +61,12 @@ impl<'a, C: Wakes> Wakes for Lent<'a, C> {
     fn wake_with(&self, bell: &Arc<Bell, Global>) -> bool {
         self.pipe.wake_with(bell)
     }
+
+    fn wait_for_room(&self, alloc: Global, waits: bool) {
+        self.pipe.wait_for_room(alloc, waits);
+    }
+
+    fn is_behind(&self) -> bool {
+        self.pipe.is_behind()
+    }
 }

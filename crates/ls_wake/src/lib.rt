@@ -11,8 +11,17 @@
 //! bell.wait(rt, seen, if wakes { 1_000 } else { 10 });
 //! ```
 //!
-//! Pipes and talks in memory never ring a bell: their calls go by lists. No contract speaks of time, nor of whether a
-//! bell rings.
+//! A thread that serves many connections must not wait for the room of one. So it asks that writes don't, and looks after
+//! each whether the connection is behind:
+//!
+//! ```text
+//! conn.wait_for_room(alloc, false);
+//! // .. writes ..
+//! if conn.is_behind() { /* gives it to a thread of its own */ }
+//! ```
+//!
+//! Pipes and talks in memory never ring a bell, and keep nothing: their calls go by lists. No contract speaks of time, nor
+//! of whether a bell rings.
 #![tactic(auto)]
 
 mod in_memory;

@@ -236,4 +236,13 @@ impl<C: Pipe + Wakes + Drop> Wakes for WsWire<C> {
     fn wake_with(&self, bell: &Arc<Bell, Global>) -> bool {
         self.pipe().wake_with(bell)
     }
+
+    /// The pipe's writes wait, or don't.
+    fn wait_for_room(&self, alloc: Global, waits: bool) {
+        self.pipe().wait_for_room(alloc, waits);
+    }
+
+    fn is_behind(&self) -> bool {
+        self.pipe().is_behind()
+    }
 }
