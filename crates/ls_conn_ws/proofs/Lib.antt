@@ -10,3 +10,4 @@ pub mod Single
 pub mod Whole
 pub mod Counting
 pub mod Hearings
+pub mod Between

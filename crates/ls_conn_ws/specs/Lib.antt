@@ -6,4 +6,5 @@ pub mod Giving
 pub mod Losing
 pub mod Answering
 pub mod Hearing
+pub mod Steps
 pub mod Ends

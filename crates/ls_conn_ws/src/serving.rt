@@ -14,11 +14,14 @@ ghost use Rattle.ls_talk.specs.declared.talk.Incoming.TheVariants as incoming;
 ghost use Rattle.ls_register.specs.Deeds.{Deed};
 ghost use Rattle.ls_conn_ws.specs.Answering.{heard_for};
 ghost use Rattle.ls_conn_ws.specs.Hearing.{GoesOn, HearsSo, Heeds, IsNoText, LogsBare, PutsHeard, RestsSo, Runs, RunsOn};
+ghost use Rattle.ls_conn_ws.specs.Giving.{LeftSo};
 ghost use Rattle.ls_conn_ws.specs.Losing.{IsOver};
 ghost use Rattle.ls_conn_ws.specs.Serving.{Served, Spoke};
+ghost use Rattle.ls_conn_ws.specs.Steps.{ended_by};
 
 use crate::answering::{Desk, Replied, answer_message, put_reply};
 use crate::running::{Given, PAUSE, Running, give_any, leave, nap, rings_of};
+use crate::step::Step;
 use ls_conn::{ConnEnd, ConnReport, MOST_IDLES, Seen, Shared, Testimony};
 use ls_line::LineBuf;
 use ls_outside::{Clock, Gate};
@@ -138,8 +141,8 @@ fn hear<N: House, R: Wait, T: Talk + Wakes>(
     }
 }
 
-/// Sleeps until the session's bell rings, but no longer than so many ms; or lets the clock wait 10 ms or less, where it
-/// doesn't run by itself.
+/// Sleeps until the session's bell rings, but no longer than so many ms. Where no stream goes on, or the clock doesn't run
+/// by itself, it lets the clock wait 10 ms or less.
 fn sleep<N: House, R: Wait, K: Clock>(
     rt: &R,
     stream: &Option<Running<N>>,
@@ -151,7 +154,7 @@ fn sleep<N: House, R: Wait, K: Clock>(
 {
     match stream {
         Some(running) => {
-            if clock.runs() {
+            if running.runs && clock.runs() {
                 running.told.bell().wait(rt, rings, ms);
             } else {
                 clock.wait(ms.min(PAUSE));
@@ -169,165 +172,153 @@ fn runs<N: House>(stream: &Option<Running<N>>) -> bool {
     }
 }
 
-/// Where no message is there yet: lets go what was held back, and waits. Right after a line of a stream that goes on
-/// there is no need to.
-fn rest<N: House, R: Wait, T: Talk, K: Clock>(
-    rt: &R,
+/// Where no message is there yet: lets go what was held back, and says how long to rest. Right after a line of a stream
+/// that goes on there is no need to.
+fn rest<N: House, T: Talk>(
     talk: &mut T,
-    clock: &mut K,
     stream: &Option<Running<N>>,
-    rings: u64,
     ms: Option<u64>,
     idles: &mut u64,
-) -> Option<ConnEnd>
+) -> Step
     requires few { idles.old < MOST_IDLES }
-    ensures rests { RestsSo result idles.old idles.new (T.log talk.old) (T.log talk.new)
+    ensures rests { RestsSo (ended_by result) idles.old idles.new (T.log talk.old) (T.log talk.new)
         (T.LineOut.faults talk.old) (T.LineOut.faults talk.new) }
     ensures counts { T.counts talk.new ≡ T.counts talk.old }
-    ensures told { K.told clock.old ≤ K.told clock.new }
 {
     let runs = runs(stream);
     if runs && ms.is_none() {
         *idles = 0;
-        return None;
+        return Step::Goes;
     }
     if !talk.let_go() {
-        return Some(ConnEnd::WriteFault);
+        return Step::Ended(ConnEnd::WriteFault);
     }
     if runs {
         *idles = 0;
-        sleep(rt, stream, rings, clock, ms.unwrap_or(0));
-        return None;
+        return Step::Rests {
+            ms: ms.unwrap_or(0),
+        };
     }
     *idles += 1;
     if *idles == MOST_IDLES {
-        return Some(ConnEnd::TooSlow);
+        return Step::Ended(ConnEnd::TooSlow);
     }
     // Most clients send their first request right after the handshake.
-    clock.wait(PAUSE.min(*idles));
-    None
+    Step::Rests {
+        ms: PAUSE.min(*idles),
+    }
 }
 
 /// Looks for a message at a tick, and answers it; where there is none, rests.
-fn listen<N: House, R: Wait, T: Talk + Wakes, K: Clock>(
+fn listen<N: House, R: Wait, T: Talk + Wakes>(
     rt: &R,
     alloc: Global,
     shared: &Shared<N>,
     talk: &mut T,
-    clock: &mut K,
     now: u64,
     desk: &mut Desk<N>,
-    rings: u64,
     ms: Option<u64>,
     idles: &mut u64,
-) -> Option<ConnEnd>
+) -> Step
     requires tick { now ≤ GREATEST_TICK }
     requires few { idles.old < MOST_IDLES }
     ensures goes { (log : Optional (List Happening))
         → Served N.deed log (T.log talk.old) (known desk.old.view desk.old.seen) desk.old.stream idles.old
-        → GoesOn N.deed result log (T.log talk.new) (known desk.new.view desk.new.seen) desk.new.stream idles.new }
-    ensures few { result ≡ None → idles.new < MOST_IDLES }
+        → GoesOn N.deed (ended_by result) log (T.log talk.new) (known desk.new.view desk.new.seen) desk.new.stream
+        idles.new }
+    ensures few { ended_by result ≡ None → idles.new < MOST_IDLES }
     ensures cause { (c : Counts) (f : ℕ) → Runs idles.old c (T.counts talk.old) f (T.LineOut.faults talk.old)
-        → RunsOn result idles.new c (T.counts talk.new) f (T.LineOut.faults talk.new) }
-    ensures stays { ¬ (result ≡ Some ConnEnd.Stopped) }
-    ensures told { K.told clock.old ≤ K.told clock.new }
+        → RunsOn (ended_by result) idles.new c (T.counts talk.new) f (T.LineOut.faults talk.new) }
+    ensures stays { ¬ (ended_by result ≡ Some ConnEnd.Stopped) }
 {
     match hear(rt, alloc, shared, talk, now, desk) {
         Heard::Message => {
             *idles = 0;
-            None
+            Step::Goes
         }
         Heard::Nothing => {
             desk.looked = Some(now);
-            rest(rt, talk, clock, &desk.stream, rings, ms, idles)
+            rest(talk, &desk.stream, ms, idles)
         }
-        Heard::End(end) => Some(end),
+        Heard::End(end) => Step::Ended(end),
     }
 }
 
 /// The same after a line of the stream, after which nothing rests. At a tick at which it was looked in vain, it isn't
 /// looked again: each look costs a call of the system.
-fn after_line<N: House, R: Wait, T: Talk + Wakes, K: Clock>(
+fn after_line<N: House, R: Wait, T: Talk + Wakes>(
     rt: &R,
     alloc: Global,
     shared: &Shared<N>,
     talk: &mut T,
-    clock: &mut K,
     now: u64,
     desk: &mut Desk<N>,
-    rings: u64,
     idles: &mut u64,
-) -> Option<ConnEnd>
+) -> Step
     requires tick { now ≤ GREATEST_TICK }
     ensures goes { (log : Optional (List Happening))
         → Served N.deed log (T.log talk.old) (known desk.old.view desk.old.seen) desk.old.stream 0
-        → GoesOn N.deed result log (T.log talk.new) (known desk.new.view desk.new.seen) desk.new.stream idles.new }
-    ensures few { result ≡ None → idles.new < MOST_IDLES }
+        → GoesOn N.deed (ended_by result) log (T.log talk.new) (known desk.new.view desk.new.seen) desk.new.stream
+        idles.new }
+    ensures few { ended_by result ≡ None → idles.new < MOST_IDLES }
     ensures cause { (c : Counts) (f : ℕ) → Runs 0 c (T.counts talk.old) f (T.LineOut.faults talk.old)
-        → RunsOn result idles.new c (T.counts talk.new) f (T.LineOut.faults talk.new) }
-    ensures stays { ¬ (result ≡ Some ConnEnd.Stopped) }
-    ensures told { K.told clock.old ≤ K.told clock.new }
+        → RunsOn (ended_by result) idles.new c (T.counts talk.new) f (T.LineOut.faults talk.new) }
+    ensures stays { ¬ (ended_by result ≡ Some ConnEnd.Stopped) }
 {
     *idles = 0;
     if desk.looked == Some(now) {
-        return None;
+        return Step::Goes;
     }
-    listen(
-        rt, alloc, shared, talk, clock, now, desk, rings, None, idles,
-    )
+    listen(rt, alloc, shared, talk, now, desk, None, idles)
 }
 
-/// Has a turn of the stream, where one goes on, and looks for a message: so at most one message is answered between two
-/// lines, and a line, where there is one, is given between two messages.
-fn round<N: House, R: Wait, T: Talk + Wakes, K: Clock, G: Gate>(
+/// Has a turn of the stream at a tick before `until`, where one goes on, and looks for a message: so at most one message
+/// is answered between two lines, and a line, where there is one, is given between two messages. It never sleeps.
+pub(crate) fn round<N: House, R: Wait, T: Talk + Wakes, G: Gate>(
     rt: &R,
     alloc: Global,
     shared: &Shared<N>,
     talk: &mut T,
-    clock: &mut K,
     gate: &G,
+    now: u64,
     until: u64,
     desk: &mut Desk<N>,
     into: &mut LineBuf,
     idles: &mut u64,
-) -> Option<ConnEnd>
+) -> Step
+    requires tick { now ≤ GREATEST_TICK }
     requires few { idles.old < MOST_IDLES }
     ensures goes { (log : Optional (List Happening))
         → Served N.deed log (T.log talk.old) (known desk.old.view desk.old.seen) desk.old.stream idles.old
-        → GoesOn N.deed result log (T.log talk.new) (known desk.new.view desk.new.seen) desk.new.stream idles.new }
-    ensures few { result ≡ None → idles.new < MOST_IDLES }
+        → GoesOn N.deed (ended_by result) log (T.log talk.new) (known desk.new.view desk.new.seen) desk.new.stream
+        idles.new }
+    ensures few { ended_by result ≡ None → idles.new < MOST_IDLES }
     ensures cause { (c : Counts) (f : ℕ) → Runs idles.old c (T.counts talk.old) f (T.LineOut.faults talk.old)
-        → RunsOn result idles.new c (T.counts talk.new) f (T.LineOut.faults talk.new) }
-    ensures stopped { result ≡ Some ConnEnd.Stopped → until ≤ K.told clock.new }
+        → RunsOn (ended_by result) idles.new c (T.counts talk.new) f (T.LineOut.faults talk.new) }
+    ensures stays { ¬ (ended_by result ≡ Some ConnEnd.Stopped) }
 {
-    let now = clock.now();
-    if now >= until {
-        return Some(ConnEnd::Stopped);
-    }
-    let rings = rings_of(&desk.stream);
     match give_any(rt, shared, &mut desk.stream, talk, now, into, gate) {
-        Given::Line => after_line(rt, alloc, shared, talk, clock, now, desk, rings, idles),
+        Given::Line => after_line(rt, alloc, shared, talk, now, desk, idles),
         Given::Rest { due } => {
             let ms = nap(&desk.stream, now, due, until);
-            listen(
-                rt,
-                alloc,
-                shared,
-                talk,
-                clock,
-                now,
-                desk,
-                rings,
-                Some(ms),
-                idles,
-            )
+            listen(rt, alloc, shared, talk, now, desk, Some(ms), idles)
         }
-        Given::WriteFault => Some(ConnEnd::WriteFault),
-        Given::NoMemory => Some(ConnEnd::NoMemory),
+        Given::WriteFault => Step::Ended(ConnEnd::WriteFault),
+        Given::NoMemory => Step::Ended(ConnEnd::NoMemory),
     }
 }
 
-/// Has rounds until the connection ends.
+/// Asks the clock; none where the connection is to end at that tick.
+pub(crate) fn tick<K: Clock>(clock: &mut K, until: u64) -> Option<u64>
+    ensures told { K.told clock.old ≤ K.told clock.new }
+    ensures tick { IfSome result (λ now. now ≤ GREATEST_TICK) }
+    ensures stopped { result ≡ None → until ≤ K.told clock.new }
+{
+    let now = clock.now();
+    if now >= until { None } else { Some(now) }
+}
+
+/// Has rounds until the connection ends, and sleeps where there is nothing to do.
 fn rounds<N: House, R: Wait, T: Talk + Wakes, K: Clock, G: Gate>(
     rt: &R,
     alloc: Global,
@@ -350,11 +341,17 @@ fn rounds<N: House, R: Wait, T: Talk + Wakes, K: Clock, G: Gate>(
 {
     let mut idles = 0;
     for _ in rt.forever() {
+        let Some(now) = tick(clock, until) else {
+            return ConnEnd::Stopped;
+        };
+        // A bell that rings from here on wakes the sleep.
+        let rings = rings_of(&desk.stream);
         match round(
-            rt, alloc, shared, talk, clock, gate, until, desk, into, &mut idles,
+            rt, alloc, shared, talk, gate, now, until, desk, into, &mut idles,
         ) {
-            None => {}
-            Some(end) => return end,
+            Step::Goes => {}
+            Step::Rests { ms } => sleep(rt, &desk.stream, rings, clock, ms),
+            Step::Ended(end) => return end,
         }
     }
     unreachable!()
@@ -397,6 +394,48 @@ fn told_by<N: House>(stream: Option<Running<N>>) -> Option<Testimony<N>>
     }
 }
 
+/// What a connection has right after its handshake.
+pub(crate) fn desk_of<N: House, R: Wait>(rt: &R, alloc: Global, shared: &Shared<N>) -> Desk<N>
+    ensures seen { result.seen ≡ [] }
+    ensures stream { result.stream ≡ None }
+{
+    Desk {
+        view: shared.view(rt),
+        seen: Seen::new(alloc),
+        stream: None,
+        looked: None,
+    }
+}
+
+/// What came of a connection that ends. Its stream, where one goes on, is lost at this tick.
+pub(crate) fn report<N: House, R: Wait>(
+    rt: &R,
+    shared: &Shared<N>,
+    desk: Desk<N>,
+    end: ConnEnd,
+    now: u64,
+) -> ConnReport<N>
+    requires tick { now ≤ GREATEST_TICK }
+    ensures end { result.end ≡ end }
+    ensures known { known result.view result.seen ≡ known desk.view desk.seen }
+    ensures told { (stream : Optional StreamState) × (result.told ≡ option_map (λ s. s.told) stream)
+        × LeftSo desk.stream stream × IfSome stream (λ s. HasBound s.epoch s.told.lines × IsOver s.epoch s.told) }
+{
+    let Desk {
+        view,
+        seen,
+        mut stream,
+        ..
+    } = desk;
+    leave(rt, shared, &mut stream, now);
+    ConnReport {
+        end,
+        view,
+        seen,
+        told: told_by(stream),
+    }
+}
+
 /// Serves a WebSocket, after its handshake, to its end: answers its messages and gives the lines of its stream (TLCP 2.1,
 /// WebSocket transport).
 ///
@@ -429,26 +468,9 @@ pub fn serve_ws<N: House, R: Wait, T: Talk + Wakes, K: Clock, G: Gate>(
         (T.LineOut.faults talk.old) (T.LineOut.faults talk.new) }
     ensures stopped { result.end ≡ ConnEnd.Stopped → until ≤ K.told clock.new }
 {
-    let mut desk = Desk {
-        view: shared.view(rt),
-        seen: Seen::new(alloc),
-        stream: None,
-        looked: None,
-    };
+    let mut desk = desk_of(rt, alloc, shared);
     let end = all_rounds(rt, alloc, shared, talk, clock, gate, until, &mut desk);
     talk.let_go();
     let now = clock.now();
-    leave(rt, shared, &mut desk.stream, now);
-    let Desk {
-        view,
-        seen,
-        stream,
-        ..
-    } = desk;
-    ConnReport {
-        end,
-        view,
-        seen,
-        told: told_by(stream),
-    }
+    report(rt, shared, desk, end, now)
 }

@@ -1,13 +1,7 @@
 use Rattle.ls_conn_ws.specs.declared.running.Given.TheVariants as given
-use Rattle.ls_conn_ws.proofs.Going.{gave_any, settled}
-use Rattle.ls_conn_ws.proofs.Counting.{given_runs, line_runs, fault_runs, stopped_runs, starved_runs}
+use Rattle.ls_conn_ws.proofs.Going.{gave_any}
+use Rattle.ls_conn_ws.proofs.Counting.{given_runs, line_runs, fault_runs, starved_runs}
 use Rattle.ls_conn_ws.proofs.serving.round.Goals as goal
-
-pub returns-then-now-until-clause-goes : goal.returns-then-now-until-clause-goes
-returns-then-now-until-clause-goes g c = λ log st. settled _ log _ _ _ _ st
-
-pub returns-then-now-until-clause-cause : goal.returns-then-now-until-clause-cause
-returns-then-now-until-clause-cause g c = λ x f r. stopped_runs _ _ x _ f _ r
 
 pub returns-in-Line-clause-goes : goal.returns-in-Line-clause-goes
 returns-in-Line-clause-goes g c = λ log st. c.after_line.ensures.goes log (gave_any _ log given.Line _ _ _ _ _ _ st c.in-Line.ensures.gives)
@@ -15,17 +9,11 @@ returns-in-Line-clause-goes g c = λ log st. c.after_line.ensures.goes log (gave
 pub returns-in-Line-clause-cause : goal.returns-in-Line-clause-cause
 returns-in-Line-clause-cause g c = λ x f r. c.after_line.ensures.cause x f (line_runs _ x _ _ f _ _ r c.in-Line.ensures.counts c.in-Line.ensures.cause)
 
-pub returns-in-Line-clause-stopped : goal.returns-in-Line-clause-stopped
-returns-in-Line-clause-stopped g c = λ is. absurd (c.after_line.ensures.stays is)
-
 pub returns-in-Rest-clause-goes : goal.returns-in-Rest-clause-goes
 returns-in-Rest-clause-goes g c = λ log st. c.listen.ensures.goes log (gave_any _ log (given.Rest c.in-Rest.due) _ _ _ _ _ _ st c.in-Rest.ensures.gives)
 
 pub returns-in-Rest-clause-cause : goal.returns-in-Rest-clause-cause
 returns-in-Rest-clause-cause g c = λ x f r. c.listen.ensures.cause x f (given_runs _ x _ _ f _ _ r c.in-Rest.ensures.counts c.in-Rest.ensures.cause)
-
-pub returns-in-Rest-clause-stopped : goal.returns-in-Rest-clause-stopped
-returns-in-Rest-clause-stopped g c = λ is. absurd (c.listen.ensures.stays is)
 
 pub returns-in-WriteFault-clause-goes : goal.returns-in-WriteFault-clause-goes
 returns-in-WriteFault-clause-goes g c = λ log st. gave_any _ log given.WriteFault _ _ _ _ _ _ st c.in-WriteFault.ensures.gives
