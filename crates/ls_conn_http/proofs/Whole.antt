@@ -1,21 +1,23 @@
 -- What came of a connection, whole.
-use Rattle.std.proofs.Common.{◌≡◌, ◌≤◌, ◌+◌, ℕ, List, [], inl, inr, length, take, drop, Bool, Option, refl, sym, ap, subst, ◌∙◌, arith}
+use Rattle.std.proofs.Common.{◌≡◌, ◌≤◌, ◌⊎◌, ◌+◌, ℕ, List, [], ◌++◌, inl, inr, length, take, drop, take-append-drop, Bool, Option, refl, sym, ap, subst, ◌∙◌, arith}
 use Rattle.std.proofs.lemmas.List.{length-drop, length-take-le}
 use Rattle.std.specs.Io.KnownBytes.{Appends, Consumes}
 use Rattle.std.proofs.KnownBytes.{Appends-nil}
 use Rattle.ls_outside.specs.Causes.{Rose, RoseBy}
-use Rattle.ls_outside.specs.Pipes.{Holding}
+use mathlib.Core.List.{IsPrefix}
+use Rattle.ls_outside.specs.Pipes.{Giving, Holding}
 use Rattle.ls_register.specs.Deeds.{Deed}
 use Rattle.ls_register.specs.declared.made.Made.{Made}
-use Rattle.ls_http.specs.Replies.{refusal_text}
+use Rattle.ls_http.specs.Replies.{refusal_text, upgrade_text}
 use Rattle.ls_http.specs.declared.head.Head.TheVariants as head
+use Rattle.ls_ws.specs.Accept.{accept_of}
 use Rattle.ls_conn.specs.Acting.{Known, known}
 use Rattle.ls_conn.specs.declared.ended.ConnEnd.{ConnEnd}
 use Rattle.ls_conn.specs.declared.ended.ConnEnd.TheVariants as end
 use Rattle.ls_conn_http.specs.Bodies.{IsReply}
-use Rattle.ls_conn_http.specs.Reading.{BeginsWith, HasHead, HasStatus, IsWhole, Unserved, WasUpgraded}
+use Rattle.ls_conn_http.specs.Reading.{BeginsWith, HasHead, HasStatus, IsWhole, ReadsHandshake, Unserved, WasUpgraded}
 use Rattle.ls_conn_http.specs.Replying.{RepliesBy, WritesRefusal}
-use Rattle.ls_conn_http.specs.Serving.{Outcome, Served}
+use Rattle.ls_conn_http.specs.Serving.{Outcome, Served, Switched, Unanswered}
 use Rattle.ls_conn.specs.declared.ended.TheConstants.{MOST_IDLES}
 use Rattle.ls_conn_http.specs.Taking.{Counts, Reads, StopsReading}
 
@@ -150,6 +152,20 @@ served_none deed e read k unread left held held2 reads same other u =
       outcome = by_none deed e read k other u;
     }
 
+-- memory was refused before anything was written
+pub served_starved : (deed : Deed) (e : ConnEnd) (read : List ℕ) (k : Known) (unread left held held2 : Option (List ℕ)) → e ≡ end.NoMemory → Reads unread left [] read → held2 ≡ held
+    → Served deed e unread held held2 k
+served_starved deed e read k unread left held held2 is reads same =
+    subst (λ (x : ConnEnd). Served deed x unread held held2 k) (sym is)
+    (record {
+      read = read;
+      left = left;
+      consumes = read_all unread left read reads;
+      written = [];
+      appends = subst (λ (h : Option (List ℕ)). Appends held h []) (sym same) (Appends-nil held);
+      outcome = inl refl;
+    })
+
 -- why no request came whole
 pub stops_as : (r e x : ConnEnd) (idles : ℕ) (left : Option (List ℕ)) (f g until tick : ℕ) → r ≡ e → r ≡ x → StopsReading e idles left f g until tick → StopsReading x idles left f g until tick
 stops_as r e x idles left f g until tick same is stops = subst (λ (y : ConnEnd). StopsReading y idles left f g until tick) (sym same ∙ is) stops
@@ -160,9 +176,49 @@ rose_none w = omega arith
 pub slow_is : (i j w v f g : ℕ) → Counts i j w v f g → i ≡ 0 → j ≡ MOST_IDLES → RoseBy MOST_IDLES w v
 slow_is i j w v f g c none all = subst (λ (n : ℕ). RoseBy n w v) all (c.counted w (subst (λ (n : ℕ). RoseBy n w w) (sym none) (rose_none w)))
 
--- a handshake that was read
-pub upgraded : (unread left : Option (List ℕ)) (read key : List ℕ) (start : ℕ) → Reads unread left [] read → BeginsWith read (head.Upgrade key) start → WasUpgraded unread
-upgraded unread left read key start reads has = (left, read, key, start, read_all unread left read reads, has)
+-- a handshake that was read, and the bytes past it
+pub reads_handshake : (unread left : Option (List ℕ)) (read key rest : List ℕ) (start : ℕ) → Reads unread left [] read → BeginsWith read (head.Upgrade key) start → start ≤ length read
+    → rest ≡ drop start read → ReadsHandshake unread left key rest
+reads_handshake unread left read key rest start reads has fits is =
+    let whole = ap (λ (x : List ℕ). take start read ++ x) is ∙ take-append-drop start read in
+    record {
+      first = take start read;
+      consumes = subst (Consumes unread left) (sym whole) (read_all unread left read reads);
+      begins = subst (λ (n : ℕ). BeginsWith (take start read ++ rest) (head.Upgrade key) n) (sym (length-take-le start read fits))
+          (subst (λ (xs : List ℕ). BeginsWith xs (head.Upgrade key) start) (sym whole) has);
+    }
+
+pub upgraded : (unread left : Option (List ℕ)) (key rest : List ℕ) → ReadsHandshake unread left key rest → WasUpgraded unread
+upgraded unread left key rest came = (left, came.first ++ rest, key, length came.first, came.consumes, came.begins)
+
+-- writes leave a pipe's unread bytes
+pub same_unread : (a b : Giving) (u u' : Option (List ℕ)) (f f' w w' : ℕ) → a ≡ record { unread = u; faults = f; waits = w } → b ≡ record { unread = u'; faults = f'; waits = w' } → b ≡ a → u' ≡ u
+same_unread a b u u' f f' w w' p q e = ap (λ (x : Giving). x.unread) (sym q ∙ e ∙ p)
+
+-- a handshake's reply, written whole or in part
+pub switched : (unread left left2 held mid held2 : Option (List ℕ)) (key key2 rest : List ℕ) → ReadsHandshake unread left key rest → left2 ≡ left → mid ≡ held → key2 ≡ key
+    → Appends mid held2 (upgrade_text (accept_of key2)) → Switched unread left2 held held2 rest
+switched unread left left2 held mid held2 key key2 rest came same mids keys wrote =
+    record {
+      key = key;
+      came = subst (λ (l : Option (List ℕ)). ReadsHandshake unread l key rest) (sym same) came;
+      appends = subst (λ (h : Option (List ℕ)). Appends h held2 (upgrade_text (accept_of key))) mids
+          (subst (λ (k : List ℕ). Appends mid held2 (upgrade_text (accept_of k))) keys wrote);
+    }
+
+pub unanswered : (r e : ConnEnd) (unread left left2 held mid held2 : Option (List ℕ)) (key key2 rest : List ℕ) → r ≡ e → ReadsHandshake unread left key rest → left2 ≡ left → mid ≡ held
+    → key2 ≡ key → (part : List ℕ) × IsPrefix part (upgrade_text (accept_of key2)) × Appends mid held2 part → (e ≡ end.WriteFault) ⊎ (e ≡ end.NoMemory)
+    → Unanswered r unread left2 held held2
+unanswered r e unread left left2 held mid held2 key key2 rest ends came same mids keys wrote why =
+    record {
+      key = key;
+      rest = rest;
+      came = subst (λ (l : Option (List ℕ)). ReadsHandshake unread l key rest) (sym same) came;
+      written = wrote.0;
+      appends = subst (λ (h : Option (List ℕ)). Appends h held2 wrote.0) mids wrote.2;
+      part = subst (λ (k : List ℕ). IsPrefix wrote.0 (upgrade_text (accept_of k))) keys wrote.1;
+      why = subst (λ (x : ConnEnd). (x ≡ end.WriteFault) ⊎ (x ≡ end.NoMemory)) (sym ends) why;
+    }
 
 -- a count that rose since a later moment
 pub rose_since : (n a b c : ℕ) → a ≤ b → RoseBy n b c → RoseBy n a c

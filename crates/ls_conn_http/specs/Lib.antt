@@ -5,3 +5,4 @@ pub mod Coming
 pub mod Replying
 pub mod Opening
 pub mod Serving
+pub mod Firsts

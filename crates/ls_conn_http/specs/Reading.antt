@@ -1,5 +1,5 @@
 -- How much of a request came (RFC 9112, sections 2 to 6; this project's profile).
-use Rattle.std.specs.Prelude.{◌≡◌, ◌⊎◌, ◌<◌, ◌≤◌, ◌+◌, ℕ, List, length, take, drop, Bool, Option, Some}
+use Rattle.std.specs.Prelude.{◌≡◌, ◌⊎◌, ◌<◌, ◌≤◌, ◌+◌, ℕ, List, ◌++◌, length, take, drop, Bool, Option, Some}
 use Rattle.std.specs.Io.KnownBytes.{Consumes}
 use mathlib.Core.List.{IsPrefix}
 use Rattle.ls_http.specs.declared.head.Head.{Head}
@@ -43,6 +43,13 @@ abbrev pub WasUpgraded : Option (List ℕ) → Type 0
 WasUpgraded unread =
     (left : Option (List ℕ)) × (read key : List ℕ) × (len : ℕ) × Consumes unread left read
     × BeginsWith read (head.Upgrade key) len
+
+-- a handshake with this key was read, and these bytes past it: together they are what was taken from those that a pipe
+-- had to give
+pub record ReadsHandshake (unread left : Option (List ℕ)) (key rest : List ℕ) : Type 0 where
+  pub first : List ℕ
+  pub consumes : Consumes unread left (first ++ rest)
+  pub begins : BeginsWith (first ++ rest) (head.Upgrade key) (length first)
 
 -- a handshake was read, and the connection ended as a WebSocket does: not with a request that was served, nor with a
 -- head that was refused

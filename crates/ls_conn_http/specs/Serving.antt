@@ -5,12 +5,13 @@ use Rattle.std.specs.Io.KnownBytes.{Consumes, Appends}
 use mathlib.Core.List.{IsPrefix}
 use Rattle.ls_register.specs.Deeds.{Deed}
 use Rattle.ls_register.specs.declared.made.Made.{Made}
-use Rattle.ls_http.specs.Replies.{refusal_text}
+use Rattle.ls_http.specs.Replies.{refusal_text, upgrade_text}
+use Rattle.ls_ws.specs.Accept.{accept_of}
 use Rattle.ls_conn.specs.Acting.{Known, known}
 use Rattle.ls_conn.specs.declared.ended.ConnEnd.{ConnEnd}
 use Rattle.ls_conn.specs.declared.ended.ConnEnd.TheVariants as end
 use Rattle.ls_conn_http.specs.Bodies.{IsReply}
-use Rattle.ls_conn_http.specs.Reading.{HasStatus, IsShort, IsWhole}
+use Rattle.ls_conn_http.specs.Reading.{HasStatus, IsShort, IsWhole, ReadsHandshake}
 
 -- a whole request was read, and this is its reply, that was written whole or not: no session was seen before, and what
 -- was seen is known then
@@ -60,3 +61,20 @@ pub record Served (deed : Deed) (ending : ConnEnd) (unread held held2 : Option (
   pub written : List ℕ
   pub appends : Appends held held2 written
   pub outcome : Outcome deed ending read written then_known
+
+-- a handshake was read, with these bytes past it, and its reply was written (RFC 6455, section 4.2.2)
+pub record Switched (unread left held held2 : Option (List ℕ)) (rest : List ℕ) : Type 0 where
+  pub key : List ℕ
+  pub came : ReadsHandshake unread left key rest
+  pub appends : Appends held held2 (upgrade_text (accept_of key))
+
+-- a handshake was read, and a write of its reply failed or memory was refused: a part of the reply was written, from the
+-- front
+pub record Unanswered (ending : ConnEnd) (unread left held held2 : Option (List ℕ)) : Type 0 where
+  pub key : List ℕ
+  pub rest : List ℕ
+  pub came : ReadsHandshake unread left key rest
+  pub written : List ℕ
+  pub appends : Appends held held2 written
+  pub part : IsPrefix written (upgrade_text (accept_of key))
+  pub why : (ending ≡ end.WriteFault) ⊎ (ending ≡ end.NoMemory)

@@ -1,5 +1,5 @@
 //! A connection from its first byte to its end.
-ghost use Rattle.std.specs.Prelude.{◌≡◌, ◌≤◌, ◌+◌, ◌⊎◌, [], ℕ, IfSome, List, None, length, take, drop};
+ghost use Rattle.std.specs.Prelude.{◌≡◌, ◌≤◌, ◌+◌, ◌⊎◌, [], ℕ, IfErr, IfOk, IfSome, List, None, OnOk, length, take, drop};
 ghost use Rattle.std.specs.Io.KnownBytes.{IsAtEnd};
 ghost use Rattle.ls_outside.specs.Causes.{Rose, RoseBy};
 ghost use Rattle.ls_record.specs.Acting.{is_opening};
@@ -7,9 +7,10 @@ ghost use Rattle.ls_register.specs.declared.made.Made.{Made};
 ghost use Rattle.ls_conn.specs.Acting.{known};
 ghost use Rattle.ls_conn.specs.declared.ended.ConnEnd.TheVariants as end_is;
 ghost use Rattle.ls_conn_http.specs.Bodies.{IsReply, ReplyBy};
-ghost use Rattle.ls_conn_http.specs.Reading.{Upgraded, WasUpgraded};
+ghost use Rattle.ls_conn_http.specs.Firsts.{IfEnded, IfSocket};
+ghost use Rattle.ls_conn_http.specs.Reading.{ReadsHandshake, Upgraded, WasUpgraded};
 ghost use Rattle.ls_conn_http.specs.Replying.{RepliesBy, WritesRefusal};
-ghost use Rattle.ls_conn_http.specs.Serving.{Served};
+ghost use Rattle.ls_conn_http.specs.Serving.{Served, Switched, Unanswered};
 
 use crate::bodies::without_end;
 use crate::intake::{Came, Intake, Post, body_of, read_first, rest_of};
@@ -18,8 +19,8 @@ use crate::replying::{refuse, reply_control, reply_version};
 use ls_conn::{ConnEnd, ConnReport, MOST_IDLES, Seen, Shared};
 use ls_outside::{Clock, Gate, Pipe, Sink};
 use ls_register::{House, View};
-use ls_upgrade::upgrade;
-use ls_value::{NoMemory, same_bytes};
+use ls_upgrade::{accept, upgrade};
+use ls_value::{Bytes, NoMemory, same_bytes};
 use ls_wake::Wakes;
 use std::alloc::Global;
 use std::sync::Wait;
@@ -183,10 +184,17 @@ fn ended<N: House, R: Wait>(
     }
 }
 
-/// Answers a handshake, and serves the WebSocket that follows. What was read is given back before. It isn't inlined, so
-/// that a WebSocket's stack isn't under that of a request over HTTP.
+/// A handshake that was read: its key, and the bytes that were read past it.
+#[derive(Drop)]
+struct Handshake {
+    key: Bytes,
+    rest: Vec<u8>,
+}
+
+/// Reads what comes first, and serves a request to its end: then the answer is its report. A handshake isn't answered
+/// yet. What was read is given back. It isn't inlined, so that its stack isn't under that of a WebSocket.
 #[inline(never)]
-fn serve_socket<N: House, R: Wait, C: Pipe + Wakes, K: Clock, G: Gate>(
+fn begin<N: House, R: Wait, C: Pipe, K: Clock, G: Gate>(
     rt: &R,
     alloc: Global,
     conn: &mut C,
@@ -194,21 +202,86 @@ fn serve_socket<N: House, R: Wait, C: Pipe + Wakes, K: Clock, G: Gate>(
     clock: &mut K,
     gate: &G,
     until: u64,
-    intake: Intake,
-    key: &[u8],
-    start: usize,
-) -> ConnReport<N>
-    requires fits { start ≤ length intake.bytes.items }
-    ensures not_served { result.end ≡ ConnEnd.Served → ⊥ }
-    ensures not_refused { (status : ℕ) → result.end ≡ end_is.Refused status → ⊥ }
-    ensures read_fault { result.end ≡ ConnEnd.ReadFault → Rose (C.Source.faults conn.old) (C.Source.faults conn.new) }
-    ensures write_fault { result.end ≡ ConnEnd.WriteFault → Rose (C.Sink.faults conn.old) (C.Sink.faults conn.new) }
-    ensures too_slow { result.end ≡ ConnEnd.TooSlow → RoseBy MOST_IDLES (C.waits conn.old) (C.waits conn.new) }
-    ensures stopped { result.end ≡ ConnEnd.Stopped → until ≤ K.told clock.new }
+) -> Result<Handshake, ConnReport<N>>
+    ensures came { IfOk result (λ shake. ReadsHandshake (C.unread conn.old) (C.unread conn.new) shake.key
+        shake.rest.items) }
+    ensures waits { OnOk result (C.waits conn.old ≤ C.waits conn.new) }
+    ensures faults { OnOk result (C.Source.faults conn.old ≤ C.Source.faults conn.new) }
+    ensures sink { OnOk result (C.holds conn.new ≡ C.holds conn.old) }
+    ensures served { IfErr result (λ report. Served N.deed report.end (C.unread conn.old) (C.held conn.old)
+        (C.held conn.new) (known report.view report.seen)) }
+    ensures read_fault { IfErr result (λ report. report.end ≡ ConnEnd.ReadFault
+        → Rose (C.Source.faults conn.old) (C.Source.faults conn.new)) }
+    ensures write_fault { IfErr result (λ report. report.end ≡ ConnEnd.WriteFault
+        → Rose (C.Sink.faults conn.old) (C.Sink.faults conn.new)) }
+    ensures too_slow { IfErr result (λ report. report.end ≡ ConnEnd.TooSlow
+        → RoseBy MOST_IDLES (C.waits conn.old) (C.waits conn.new)) }
+    ensures stopped { IfErr result (λ report. report.end ≡ ConnEnd.Stopped → until ≤ K.told clock.new) }
+    ensures left { IfErr result (λ report. report.end ≡ ConnEnd.PeerLeft → IsAtEnd (C.unread conn.new)) }
 {
-    match rest_of(alloc, intake, start) {
-        Ok(rest) => upgrade(rt, alloc, conn, key, rest, shared, clock, gate, until),
-        Err(NoMemory) => ended(rt, alloc, shared, ConnEnd::NoMemory),
+    let mut intake = Intake::new(alloc);
+    match read_first(rt, alloc, conn, clock, until, &mut intake) {
+        Ok(Came::Post(post)) => Err(serve_post(
+            rt, alloc, conn, shared, clock, gate, until, &intake, &post,
+        )),
+        Ok(Came::Upgrade { key, start }) => match rest_of(alloc, intake, start) {
+            Ok(rest) => Ok(Handshake { key, rest }),
+            Err(NoMemory) => Err(ended(rt, alloc, shared, ConnEnd::NoMemory)),
+        },
+        Err(end) => match status_of(end) {
+            Some(status) => Err(serve_refusal(rt, alloc, conn, shared, status)),
+            None => Err(ended(rt, alloc, shared, end)),
+        },
+    }
+}
+
+/// What came of a connection's first request.
+#[derive(Drop)]
+pub enum First<N: House> {
+    /// It was served to its end, or none was: the connection is over.
+    Ended(ConnReport<N>),
+
+    /// A handshake was read and answered: the connection is a WebSocket now. These bytes were read past the handshake.
+    Socket { rest: Vec<u8> },
+}
+
+/// Serves a connection's first request over HTTP to its end, as [`serve_one`] does, or answers its handshake, by
+/// [`accept`]: then the connection is a WebSocket, which is for the caller to serve (TLCP 2.1, HTTP and WebSocket
+/// transports; RFC 6455, section 4.2.2; this project's profile).
+///
+/// Over a pipe that tells, contracts say of each end what was read and what was written, as those of [`serve_one`] do.
+/// Where the connection is a WebSocket, what was read is its handshake and these bytes, and what was written is the reply
+/// to the handshake's key. Where a write of that reply failed, or memory was refused, a part of it was written, from its
+/// front.
+pub fn serve_first<N: House, R: Wait, C: Pipe, K: Clock, G: Gate>(
+    rt: &R,
+    alloc: Global,
+    conn: &mut C,
+    shared: &Shared<N>,
+    clock: &mut K,
+    gate: &G,
+    until: u64,
+) -> First<N>
+    ensures socket { IfSocket result (λ rest. Switched (C.unread conn.old) (C.unread conn.new) (C.held conn.old)
+        (C.held conn.new) rest) }
+    ensures served { IfEnded result (λ report. Served N.deed report.end (C.unread conn.old) (C.held conn.old)
+        (C.held conn.new) (known report.view report.seen)
+        ⊎ Unanswered report.end (C.unread conn.old) (C.unread conn.new) (C.held conn.old) (C.held conn.new)) }
+    ensures read_fault { IfEnded result (λ report. report.end ≡ ConnEnd.ReadFault
+        → Rose (C.Source.faults conn.old) (C.Source.faults conn.new)) }
+    ensures write_fault { IfEnded result (λ report. report.end ≡ ConnEnd.WriteFault
+        → Rose (C.Sink.faults conn.old) (C.Sink.faults conn.new)) }
+    ensures too_slow { IfEnded result (λ report. report.end ≡ ConnEnd.TooSlow
+        → RoseBy MOST_IDLES (C.waits conn.old) (C.waits conn.new)) }
+    ensures stopped { IfEnded result (λ report. report.end ≡ ConnEnd.Stopped → until ≤ K.told clock.new) }
+    ensures left { IfEnded result (λ report. report.end ≡ ConnEnd.PeerLeft → IsAtEnd (C.unread conn.new)) }
+{
+    match begin(rt, alloc, conn, shared, clock, gate, until) {
+        Ok(Handshake { key, rest }) => match accept(alloc, conn, key.as_slice()) {
+            Ok(()) => First::Socket { rest },
+            Err(end) => First::Ended(ended(rt, alloc, shared, end)),
+        },
+        Err(report) => First::Ended(report),
     }
 }
 
@@ -244,26 +317,18 @@ pub fn serve_one<N: House, R: Wait, C: Pipe + Wakes, K: Clock, G: Gate>(
     ensures stopped { result.end ≡ ConnEnd.Stopped → until ≤ K.told clock.new }
     ensures left { result.end ≡ ConnEnd.PeerLeft → IsAtEnd (C.unread conn.new) ⊎ WasUpgraded (C.unread conn.old) }
 {
-    let mut intake = Intake::new(alloc);
-    match read_first(rt, alloc, conn, clock, until, &mut intake) {
-        Ok(Came::Post(post)) => serve_post(
-            rt, alloc, conn, shared, clock, gate, until, &intake, &post,
-        ),
-        Ok(Came::Upgrade { key, start }) => serve_socket(
+    match begin(rt, alloc, conn, shared, clock, gate, until) {
+        Ok(Handshake { key, rest }) => upgrade(
             rt,
             alloc,
             conn,
+            key.as_slice(),
+            rest,
             shared,
             clock,
             gate,
             until,
-            intake,
-            key.as_slice(),
-            start,
         ),
-        Err(end) => match status_of(end) {
-            Some(status) => serve_refusal(rt, alloc, conn, shared, status),
-            None => ended(rt, alloc, shared, end),
-        },
+        Err(report) => report,
     }
 }

@@ -8,7 +8,8 @@ use std::sync::Wait;
 use std::test::Fail;
 
 /// Two control requests.
-const WHOLE: &[u8] = b"POST /lightstreamer/control.txt?LS_protocol=TLCP-2.1.0 HTTP/1.1\r\n\
+pub(crate) const WHOLE: &[u8] =
+    b"POST /lightstreamer/control.txt?LS_protocol=TLCP-2.1.0 HTTP/1.1\r\n\
 Content-Length: 76\r\n\r\n\
 LS_reqId=1&LS_op=destroy&LS_session=S1\r\nLS_reqId=2&LS_op=add&LS_session=S1\r\n";
 
@@ -21,14 +22,14 @@ Cache-Control: no-store\r\nContent-Length: 60\r\nConnection: close\r\n\r\n\
 REQERR,1,20,Unknown session\r\nREQERR,2,65,Malformed request\r\n";
 
 /// A browser's handshake.
-const HANDSHAKE: &[u8] = b"GET /lightstreamer HTTP/1.1\r\nHost: localhost:8080\r\n\
+pub(crate) const HANDSHAKE: &[u8] = b"GET /lightstreamer HTTP/1.1\r\nHost: localhost:8080\r\n\
 Origin: http://localhost:8080\r\nConnection: keep-alive, Upgrade\r\nUpgrade: websocket\r\n\
 Sec-WebSocket-Version: 13\r\nSec-WebSocket-Key: dGhlIHNhbXBsZSBub25jZQ==\r\n\
 Sec-WebSocket-Extensions: permessage-deflate\r\n\
 Sec-WebSocket-Protocol: TLCP-2.1.0.lightstreamer.com\r\n\r\n";
 
 /// How it is answered: the accept value is that of RFC 6455's example.
-const SWITCHED: &[u8] =
+pub(crate) const SWITCHED: &[u8] =
     b"HTTP/1.1 101 Switching Protocols\r\nUpgrade: websocket\r\nConnection: Upgrade\r\n\
 Sec-WebSocket-Accept: s3pPLMBiTxaQ9kYGzzhZRbK+xOo=\r\n\
 Sec-WebSocket-Protocol: TLCP-2.1.0.lightstreamer.com\r\n\r\n";

@@ -16,7 +16,12 @@ Cache-Control: no-store\r\nContent-Length: 42\r\nConnection: close\r\n\r\n\
 CONERR,60,Protocol version not supported\r\n";
 
 /// So many calls of a kind, and then one of another.
-fn calls(alloc: Global, times: u64, kind: Call, then: Call) -> Result<Vec<Call>, AllocError> {
+pub(crate) fn calls(
+    alloc: Global,
+    times: u64,
+    kind: Call,
+    then: Call,
+) -> Result<Vec<Call>, AllocError> {
     let mut calls = Vec::new(alloc);
     for _ in 0..times {
         calls.push(kind)?;

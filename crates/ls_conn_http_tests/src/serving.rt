@@ -3,7 +3,7 @@ ghost use Rattle.std.specs.Prelude.{◌≡◌, true};
 ghost use Rattle.ls_config.specs.Items.{are_items};
 
 use ls_config::{Config, read as read_config};
-use ls_conn_http::{ConnEnd, Shared, serve_one};
+use ls_conn_http::{ConnEnd, First, Shared, serve_first, serve_one};
 use ls_feed::serve_feed;
 use ls_outside::{Call, MemClock, MemPipe, MemSink, MemSource, OpenGate};
 use ls_register::{Blank, House};
@@ -25,6 +25,13 @@ const ITEMS: &[u8] = b"q MERGE x\n";
 pub(crate) struct Told {
     pub(crate) end: ConnEnd,
     pub(crate) pipe: MemPipe,
+}
+
+/// What came of a connection's first request: why it ended, or the bytes past its handshake.
+#[derive(Drop)]
+pub(crate) enum Came {
+    Ended(ConnEnd),
+    Socket(Vec<u8>),
 }
 
 /// A pipe to which these bytes come; no read passes one of the cuts, and reads and writes go by these calls.
@@ -99,6 +106,27 @@ fn serve_each<N: House, R: Wait>(
     Some(serve(rt, alloc, &shared, pipe, clock, false))
 }
 
+/// Serves the first request of a connection to a new server.
+fn serve_begun<N: House, R: Wait>(
+    rt: &R,
+    alloc: Global,
+    blank: Blank,
+    config: Config,
+    pipe: &mut MemPipe,
+    clock: &mut MemClock,
+) -> Option<Came>
+    requires register { blank.register ≡ N.deed.register }
+    requires set { config.set ≡ N.deed.set }
+    requires config { config.items ≡ N.deed.config }
+    requires items { are_items config.items ≡ true }
+{
+    let shared = Shared::<N>::new(alloc, blank, config).ok()?;
+    match serve_first(rt, alloc, pipe, &shared, clock, &OpenGate, NEVER) {
+        First::Ended(report) => Some(Came::Ended(report.end)),
+        First::Socket { rest } => Some(Came::Socket(rest)),
+    }
+}
+
 /// What comes of a connection over this pipe, after others on the same new server; `None` for want of memory.
 pub(crate) fn served<R: Wait>(
     rt: &R,
@@ -131,4 +159,19 @@ pub(crate) fn served_bytes<R: Wait>(
     )
     .ok()?;
     served(rt, alloc, before, pipe, long_clock(alloc).ok()?)
+}
+
+/// What comes of the first request over this pipe, on a new server, and the pipe; `None` for want of memory.
+pub(crate) fn begun<R: Wait>(
+    rt: &R,
+    alloc: Global,
+    pipe: MemPipe,
+    clock: MemClock,
+) -> Option<(Came, MemPipe)> {
+    let config = read_config(alloc, ITEMS).ok()?;
+    let blank = Blank::new(alloc).ok()?;
+    let mut pipe = pipe;
+    let mut clock = clock;
+    let came = serve_begun::<Brand, R>(rt, alloc, blank, config, &mut pipe, &mut clock)?;
+    Some((came, pipe))
 }

@@ -1,6 +1,7 @@
 //! The upgrade of a connection over HTTP to a WebSocket (RFC 6455, section 4.2.2).
 //!
-//! [`upgrade`] answers a handshake that was accepted, by its key, and serves the WebSocket to its end:
+//! [`accept`] answers a handshake that was accepted, by its key. [`upgrade`] does so, and serves the WebSocket to its
+//! end:
 //!
 //! ```text
 //! HTTP/1.1 101 Switching Protocols
@@ -14,4 +15,5 @@ mod lent;
 mod upgrading;
 
 pub use ls_conn_ws::serve_ws;
-pub use upgrading::upgrade;
+pub use ls_ws::WsWire;
+pub use upgrading::{accept, upgrade};

@@ -1,6 +1,7 @@
 //! A handshake's reply, and what follows it.
-ghost use Rattle.std.specs.Prelude.{◌≡◌, ◌≤◌, ◌⊎◌, ℕ, IfErr, IfOk, OnOk};
+ghost use Rattle.std.specs.Prelude.{◌≡◌, ◌≤◌, ◌⊎◌, ℕ, IfErr, IfOk, List, OnErr, OnOk};
 ghost use Rattle.std.specs.Io.KnownBytes.{Appends};
+ghost use mathlib.Core.List.{IsPrefix};
 ghost use Rattle.ls_outside.specs.Causes.{Rose, RoseBy};
 ghost use Rattle.ls_http.specs.Replies.{upgrade_text};
 ghost use Rattle.ls_ws.specs.Accept.{accept_of};
@@ -27,9 +28,13 @@ fn reply_text(alloc: Global, key: &[u8]) -> Result<Vec<u8>, NoMemory>
     Ok(text)
 }
 
-/// Writes the reply to a handshake. Where it can't, it answers the end.
-fn reply<C: Sink>(alloc: Global, conn: &mut C, key: &[u8]) -> Result<(), ConnEnd>
+/// Answers a handshake that was accepted, by its key (RFC 6455, section 4.2.2): then the connection is a WebSocket. At
+/// an error it isn't: `WriteFault` comes after the first write that failed, and `NoMemory` where memory was refused. A
+/// part of the reply, from its front, may be written then.
+pub fn accept<C: Sink>(alloc: Global, conn: &mut C, key: &[u8]) -> Result<(), ConnEnd>
     ensures replied { OnOk result (Appends (C.held conn.old) (C.held conn.new) (upgrade_text (accept_of key.now))) }
+    ensures part { OnErr result ((part : List ℕ) × IsPrefix part (upgrade_text (accept_of key.now))
+        × Appends (C.held conn.old) (C.held conn.new) part) }
     ensures ended { IfErr result (λ end. (end ≡ ConnEnd.WriteFault) ⊎ (end ≡ ConnEnd.NoMemory)) }
     ensures fault { IfErr result (λ end. end ≡ ConnEnd.WriteFault → Rose (C.faults conn.old) (C.faults conn.new)) }
     ensures faults { C.faults conn.old ≤ C.faults conn.new }
@@ -91,6 +96,9 @@ fn end_over<C: Pipe>(end: ConnEnd, conn: &C, before: Noted) -> ConnEnd
 /// Answers a handshake that was accepted, by its key, and serves the WebSocket to its end, where these bytes were read
 /// from the pipe past the handshake (RFC 6455, section 4.2.2; TLCP 2.1, WebSocket transport). See [`serve_ws`] for the
 /// rest. A fault is answered only where the pipe counted it; any other end of the socket is that the peer left.
+///
+/// It isn't inlined, so that a WebSocket's stack isn't under that of a request over HTTP.
+#[inline(never)]
 pub fn upgrade<N: House, R: Wait, C: Pipe + Wakes, K: Clock, G: Gate>(
     rt: &R,
     alloc: Global,
@@ -114,7 +122,7 @@ pub fn upgrade<N: House, R: Wait, C: Pipe + Wakes, K: Clock, G: Gate>(
         writes: conn.write_faults(),
         idles: conn.idles(),
     };
-    if let Err(end) = reply(alloc, conn, key) {
+    if let Err(end) = accept(alloc, conn, key) {
         return ConnReport {
             end,
             view: shared.view(rt),
