@@ -21,7 +21,7 @@ use std::test::Fail;
 use std::thread::{Threads, join};
 
 /// How many bytes wait in a duct at most, each way.
-const LIMIT: usize = 65_536;
+pub(crate) const LIMIT: usize = 65_536;
 
 /// How often a client looks whether something came, before it gives up. It waits 1 ms each time. So it gives up long
 /// before the session's keep-alive of 30,000 ms is due, by which a connection would wake without its bell.
@@ -34,10 +34,10 @@ const SILENCE: u64 = 600;
 const MOST_VAIN: u64 = 10;
 
 /// The tick, in ms, at which a connection ends at the latest.
-const LATEST: u64 = 60_000;
+pub(crate) const LATEST: u64 = 60_000;
 
 /// What a client says, each message in a masked frame, and what it is told before it goes on.
-const TALK: [(&[u8], &[u8]); 4] = [
+pub(crate) const TALK: [(&[u8], &[u8]); 4] = [
     (HEAD, REPLY),
     (WSOK, ANSWER),
     (
@@ -51,7 +51,7 @@ const TALK: [(&[u8], &[u8]); 4] = [
 ];
 
 /// Whether just these bytes come next.
-fn comes<S: Source, K: Clock>(source: &mut S, clock: &mut K, bytes: &[u8]) -> bool {
+pub(crate) fn comes<S: Source, K: Clock>(source: &mut S, clock: &mut K, bytes: &[u8]) -> bool {
     let mut at = 0;
     for _ in 0..MOST_LOOKS {
         if at >= bytes.len() {
@@ -94,7 +94,7 @@ fn sleeps<R: Wait + Copy + Drop, K: Clock>(near: &Rung<R, Duct<R>>, clock: &mut 
 
 /// Talks as a client, is silent for a while, and talks again. Answers whether it was told what it must be, and its
 /// connection slept.
-fn talks<R: Wait + HostClock + Copy + Drop>(rt: &R, near: Rung<R, Duct<R>>) -> bool {
+pub(crate) fn talks<R: Wait + HostClock + Copy + Drop>(rt: &R, near: Rung<R, Duct<R>>) -> bool {
     let mut near = near;
     let mut clock = SysClock::new(*rt);
     for (said, told) in TALK {

@@ -16,4 +16,8 @@ mod serving;
 #[cfg(test)]
 mod streams;
 #[cfg(test)]
+mod turns;
+#[cfg(test)]
 mod upgrades;
+#[cfg(test)]
+mod workers;

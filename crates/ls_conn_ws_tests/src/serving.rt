@@ -27,7 +27,7 @@ pub(crate) const FED: &[u8] =
 const KEY: &[u8] = b"dGhlIHNhbXBsZSBub25jZQ==";
 
 /// A tick that no clock of a test tells.
-const NEVER: u64 = 1_000_000;
+pub(crate) const NEVER: u64 = 1_000_000;
 
 /// A pipe that gives these bytes.
 pub(crate) fn pipe_of(alloc: Global, bytes: &[u8]) -> Result<MemPipe, AllocError> {

@@ -2,8 +2,7 @@
 ghost use Rattle.std.specs.Prelude.{◌≡◌};
 ghost use Rattle.ls_serve.specs.Serving.{StopsAt};
 
-use crate::visits::{admit_client, admit_feed};
-use ls_conn_http::Shared;
+use crate::visits::{Common, admit_client, admit_feed, drop_leavers, serve_leavers};
 use ls_door::{Bell, Door, Spawner, Visit};
 use ls_outside::Clock;
 use ls_register::House;
@@ -73,7 +72,7 @@ fn admit<
 >(
     rt: R,
     alloc: Global,
-    shared: &Arc<Shared<N>>,
+    common: &Arc<Common<N, D::Conn>>,
     clock: &mut C,
     until: u64,
     door: &mut D,
@@ -85,8 +84,8 @@ fn admit<
 {
     let rings = rings_of(bell);
     match door.accept() {
-        Visit::Client(conn) => admit_client(rt, alloc, shared, clock, until, spawner, conn),
-        Visit::Feed(conn) => admit_feed(rt, alloc, shared, clock, until, spawner, conn),
+        Visit::Client(conn) => admit_client(rt, alloc, common, clock, until, spawner, conn),
+        Visit::Feed(conn) => admit_feed(rt, alloc, common, clock, until, spawner, conn),
         Visit::Idle => return pass_time(&rt, clock, bell, rings, pause),
         Visit::Failed => {
             clock.wait(pause);
@@ -105,7 +104,7 @@ pub(crate) fn attend<
 >(
     rt: &R,
     alloc: Global,
-    shared: &Arc<Shared<N>>,
+    common: &Arc<Common<N, D::Conn>>,
     clock: &mut C,
     door: &mut D,
     spawner: &mut Spawner,
@@ -123,10 +122,12 @@ pub(crate) fn attend<
             break;
         }
         pause = admit(
-            *rt, alloc, shared, clock, until, door, spawner, &bell, pause,
+            *rt, alloc, common, clock, until, door, spawner, &bell, pause,
         );
+        serve_leavers(*rt, common, clock, until, spawner);
         // Where it finds no memory, the next one goes on.
-        let _ = shared.sweep(rt, now);
+        let _ = common.shared.sweep(rt, now);
     }
     spawner.settle(rt);
+    drop_leavers(rt, common, clock);
 }

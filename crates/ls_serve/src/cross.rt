@@ -1,7 +1,7 @@
 //! What may go to another thread.
 use crate::serving::{Order, ServeEnd};
-use crate::visits::Host;
-use ls_conn_http::Shared;
+use crate::visits::{Common, Host};
+use ls_outside::Pipe;
 use ls_register::House;
 use std::alloc::Global;
 use std::sync::Arc;
@@ -15,12 +15,12 @@ pub(crate) fn orders() {
     sends::<ServeEnd>();
 }
 
-/// The items and sessions that jobs share.
-pub(crate) fn a_hold_on_it<N: House + Send + Sync>() {
-    sends::<Arc<Shared<N>, Global>>();
+/// The items, sessions and workers that jobs share.
+pub(crate) fn a_hold_on_it<N: House + Send + Sync, P: Pipe + Send + Drop>() {
+    sends::<Arc<Common<N, P>, Global>>();
 }
 
 /// What serves a visitor.
-pub(crate) fn a_host<N: House + Send + Sync, C: Send>() {
-    sends::<Host<N, C>>();
+pub(crate) fn a_host<N: House + Send + Sync, P: Pipe + Send + Drop, C: Send>() {
+    sends::<Host<N, P, C>>();
 }

@@ -6,13 +6,16 @@ ghost use Rattle.ls_serve.specs.Serving.{Served, Told, RefusesConfig, StopsAt, P
 
 use crate::attending::attend;
 use crate::reading::read_config;
+use crate::visits::Common;
 use ls_config::Config;
 use ls_conn_http::Shared;
 use ls_door::{Door, Heard, Spawner};
-use ls_outside::{Clock, Put, Sink, Source, write_all};
+use ls_outside::{Clock, Pipe, Put, Sink, Source, write_all};
 use ls_register::{Blank, House};
 use ls_value::NoMemory;
+use ls_wake::Wakes;
 use ls_words::append_decimal;
+use ls_workers::Workers;
 use std::alloc::Global;
 use std::marker::{Brand, Send, Sync};
 use std::sync::{Arc, Wait};
@@ -104,7 +107,7 @@ fn listen<
 >(
     rt: &R,
     alloc: Global,
-    shared: &Arc<Shared<N>>,
+    common: &Arc<Common<N, D::Conn>>,
     order: Order,
     sink: &mut K,
     clock: &mut C,
@@ -124,11 +127,27 @@ fn listen<
     if let Err(end) = announce(alloc, port, feed, sink) {
         return end;
     }
-    attend(rt, alloc, shared, clock, door, spawner, order.end);
+    attend(rt, alloc, common, clock, door, spawner, order.end);
     match put(sink, b"stopped\n") {
         Ok(()) => ServeEnd::Stopped,
         Err(end) => end,
     }
+}
+
+/// The items of a config, without sessions, and the workers.
+fn common_of<N: House, P: Pipe + Wakes + Drop>(
+    alloc: Global,
+    blank: Blank,
+    config: Config,
+) -> Result<Arc<Common<N, P>>, NoMemory>
+    requires register { blank.register ≡ N.deed.register }
+    requires set { config.set ≡ N.deed.set }
+    requires config { config.items ≡ N.deed.config }
+    requires items { are_items config.items ≡ true }
+{
+    let shared = Shared::<N>::new(alloc, blank, config)?;
+    let workers = Workers::new(alloc)?;
+    Ok(Arc::new(alloc, Common { shared, workers })?)
 }
 
 /// Makes the items of a config, and serves them.
@@ -159,12 +178,9 @@ fn open<
     ensures stopped { result ≡ ServeEnd.Stopped → StopsAt order.end (C.told clock.new) }
     ensures well { result ≡ ServeEnd.Stopped → K.faults sink.new ≡ K.faults sink.old }
 {
-    let Ok(shared) = Shared::<N>::new(alloc, blank, config) else {
-        return ServeEnd::NoMemory;
-    };
-    match Arc::new(alloc, shared) {
-        Ok(shared) => listen(rt, alloc, &shared, order, sink, clock, door, spawner),
-        Err(_) => ServeEnd::NoMemory,
+    match common_of::<N, D::Conn>(alloc, blank, config) {
+        Ok(common) => listen(rt, alloc, &common, order, sink, clock, door, spawner),
+        Err(NoMemory) => ServeEnd::NoMemory,
     }
 }
 
@@ -202,9 +218,10 @@ fn serve_config<
 /// Runs a server: reads a config from the source to its end, listens, writes `listening <port> <feed>` and LF to the
 /// sink, and gives each visitor to a job of its own, until the order's end (this project's profile).
 ///
-/// A client is served by `serve_one`, a feed by `serve_feed`, each with a twin of the clock. Where the spawner refuses
-/// the job, a client is answered 503 and a feed closed; where memory is refused for it, the visitor is closed. After
-/// each visitor, and each look for one, the sessions end that were without a stream for too long. Where nobody came, or
+/// A client's first request is served by `serve_first`, a WebSocket by the workers, a feed by `serve_feed`, each with a
+/// twin of the clock. Where the spawner refuses the job, a client is answered 503 and a feed closed; where memory is
+/// refused for it, the visitor is closed. After each visitor, and each look for one, WebSockets that left their workers
+/// are given to jobs, and the sessions end that were without a stream for too long. Where nobody came, or
 /// a visitor couldn't be let in, the clock waits: 1 ms after a visitor, twice as long after each wait in vain, and 10 ms
 /// at most. At the order's end all jobs are waited for, and `stopped` and LF is written. The server begins with empty
 /// histories and no sessions.
