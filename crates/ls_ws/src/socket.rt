@@ -16,7 +16,7 @@ use ls_outside::Pipe;
 use ls_talk::{Incoming, LONGEST_MESSAGE};
 use ls_value::{Bytes, NoMemory};
 use std::alloc::Global;
-use tungstenite::{Error, Message, NoMask, WebSocket};
+use tungstenite::{Bytes as Payload, Error, Message, NoMask, Utf8Bytes, WebSocket};
 
 /// Why a socket refused a call.
 #[derive(Clone, Copy, Debug, PartialEq, Eq)]
@@ -49,12 +49,13 @@ pub(crate) fn message_of(alloc: Global, text: &[u8]) -> Result<Message, NoMemory
     requires { IsUtf8 text.now }
     ensures { IfOk result (λ m. content_of m ≡ text_content (line_bytes text.now)) }
 {
-    let Ok(words) = str::from_utf8(text) else {
-        unreachable!()
+    let mut line = Vec::with_capacity(alloc, text.len().saturating_add(2))?;
+    line.extend_from_slice(text)?;
+    line.extend_from_slice(b"\r\n")?;
+    let Ok(bytes) = Payload::from_vec(line) else {
+        return Err(NoMemory);
     };
-    let mut line = String::from_str(alloc, words)?;
-    line.push_str("\r\n")?;
-    Ok(Message::text(alloc, line.as_str())?)
+    Ok(Message::Text(Utf8Bytes::from_known_utf8(bytes)))
 }
 
 /// Puts one text message of a line into what goes out, or is held back.
