@@ -319,6 +319,20 @@ pub(crate) fn rings_of<N: House>(stream: &Option<Running<N>>) -> u64 {
     }
 }
 
+/// How often the bell of the stream's session was rung, where it is rung at a message, too.
+pub(crate) fn calls_of<N: House>(stream: &Option<Running<N>>) -> Option<u64> {
+    match stream {
+        Some(running) => {
+            if running.runs && running.wakes {
+                Some(running.told.bell().rings())
+            } else {
+                None
+            }
+        }
+        None => None,
+    }
+}
+
 /// How many ms a connection may sleep whose stream has nothing to give before a tick: until then, until its keep-alive is
 /// due, or until the connection is to end; and 10 ms at most, where nothing wakes it at a message.
 pub(crate) fn nap<N: House>(stream: &Option<Running<N>>, now: u64, due: u64, until: u64) -> u64 {

@@ -20,7 +20,7 @@ ghost use Rattle.ls_conn_ws.specs.Serving.{Served, Spoke};
 ghost use Rattle.ls_conn_ws.specs.Steps.{ended_by};
 
 use crate::answering::{Desk, Replied, answer_message, put_reply};
-use crate::running::{Given, PAUSE, Running, give_any, leave, nap, rings_of};
+use crate::running::{Given, PAUSE, Running, calls_of, give_any, leave, nap, rings_of};
 use crate::step::Step;
 use ls_conn::{ConnEnd, ConnReport, MOST_IDLES, Seen, Shared, Testimony};
 use ls_line::LineBuf;
@@ -209,6 +209,19 @@ fn rest<N: House, T: Talk>(
     }
 }
 
+/// Lets go what was held back, and rests so many ms.
+fn rest_on<T: Talk>(talk: &mut T, ms: u64) -> Step
+    ensures rests { RestsSo (ended_by result) 0 0 (T.log talk.old) (T.log talk.new)
+        (T.LineOut.faults talk.old) (T.LineOut.faults talk.new) }
+    ensures counts { T.counts talk.new ≡ T.counts talk.old }
+{
+    if talk.let_go() {
+        Step::Rests { ms }
+    } else {
+        Step::Ended(ConnEnd::WriteFault)
+    }
+}
+
 /// Looks for a message at a tick, and answers it; where there is none, rests.
 fn listen<N: House, R: Wait, T: Talk + Wakes>(
     rt: &R,
@@ -231,13 +244,16 @@ fn listen<N: House, R: Wait, T: Talk + Wakes>(
         → RunsOn (ended_by result) idles.new c (T.counts talk.new) f (T.LineOut.faults talk.new) }
     ensures stays { ¬ (ended_by result ≡ Some ConnEnd.Stopped) }
 {
+    let rings = calls_of(&desk.stream);
     match hear(rt, alloc, shared, talk, now, desk) {
         Heard::Message => {
             *idles = 0;
+            desk.rings = None;
             Step::Goes
         }
         Heard::Nothing => {
             desk.looked = Some(now);
+            desk.rings = rings;
             rest(talk, &desk.stream, ms, idles)
         }
         Heard::End(end) => Step::Ended(end),
@@ -272,6 +288,36 @@ fn after_line<N: House, R: Wait, T: Talk + Wakes>(
     listen(rt, alloc, shared, talk, now, desk, None, idles)
 }
 
+/// The same where the stream has nothing to give for so many ms. Where its bell is rung at a message, and wasn't rung since
+/// it was looked in vain, there is none, and it isn't looked again.
+fn after_nothing<N: House, R: Wait, T: Talk + Wakes>(
+    rt: &R,
+    alloc: Global,
+    shared: &Shared<N>,
+    talk: &mut T,
+    now: u64,
+    desk: &mut Desk<N>,
+    ms: u64,
+    idles: &mut u64,
+) -> Step
+    requires tick { now ≤ GREATEST_TICK }
+    requires few { idles.old < MOST_IDLES }
+    ensures goes { (log : Optional (List Happening))
+        → Served N.deed log (T.log talk.old) (known desk.old.view desk.old.seen) desk.old.stream idles.old
+        → GoesOn N.deed (ended_by result) log (T.log talk.new) (known desk.new.view desk.new.seen) desk.new.stream
+        idles.new }
+    ensures few { ended_by result ≡ None → idles.new < MOST_IDLES }
+    ensures cause { (c : Counts) (f : ℕ) → Runs idles.old c (T.counts talk.old) f (T.LineOut.faults talk.old)
+        → RunsOn (ended_by result) idles.new c (T.counts talk.new) f (T.LineOut.faults talk.new) }
+    ensures stays { ¬ (ended_by result ≡ Some ConnEnd.Stopped) }
+{
+    if desk.rings.is_some() && desk.rings == calls_of(&desk.stream) {
+        *idles = 0;
+        return rest_on(talk, ms);
+    }
+    listen(rt, alloc, shared, talk, now, desk, Some(ms), idles)
+}
+
 /// Has a turn of the stream at a tick before `until`, where one goes on, and looks for a message: so at most one message
 /// is answered between two lines, and a line, where there is one, is given between two messages. It never sleeps.
 pub(crate) fn round<N: House, R: Wait, T: Talk + Wakes, G: Gate>(
@@ -301,7 +347,7 @@ pub(crate) fn round<N: House, R: Wait, T: Talk + Wakes, G: Gate>(
         Given::Line => after_line(rt, alloc, shared, talk, now, desk, idles),
         Given::Rest { due } => {
             let ms = nap(&desk.stream, now, due, until);
-            listen(rt, alloc, shared, talk, now, desk, Some(ms), idles)
+            after_nothing(rt, alloc, shared, talk, now, desk, ms, idles)
         }
         Given::WriteFault => Step::Ended(ConnEnd::WriteFault),
         Given::NoMemory => Step::Ended(ConnEnd::NoMemory),
@@ -404,6 +450,7 @@ pub(crate) fn desk_of<N: House, R: Wait>(rt: &R, alloc: Global, shared: &Shared<
         seen: Seen::new(alloc),
         stream: None,
         looked: None,
+        rings: None,
     }
 }
 
@@ -443,8 +490,9 @@ pub(crate) fn report<N: House, R: Wait>(
 /// or a bind that is accepted begins the connection's stream, in place of the one before, which is lost. Neither side
 /// starves the other: between two lines at most one message is answered, and between two messages a line is given,
 /// where there is one. After a look that found no message, lines are given until the next ms before it looks again.
-/// Where there is nothing to do it lets go what was held back, and sleeps. While a stream goes on over a talk that can
-/// have the session's bell rung at messages, that is until the bell rings, a slot or the keep-alive is due, or `until`
+/// Where there is nothing to do it looks once more, lets go what was held back, and sleeps. Over a talk that can have the
+/// session's bell rung at messages it doesn't look where the bell wasn't rung since the last look; and while a stream goes
+/// on over such a talk, it sleeps until the bell rings, a slot or the keep-alive is due, or `until`
 /// comes; else it looks again every 10 ms. While no stream goes on, so many looks in a row that find no message as
 /// [`MOST_IDLES`] end the connection. It takes the memory of one line, once, and that of one message and its answers.
 ///

@@ -10,10 +10,10 @@ pub returns-in-Line-clause-cause : goal.returns-in-Line-clause-cause
 returns-in-Line-clause-cause g c = λ x f r. c.after_line.ensures.cause x f (line_runs _ x _ _ f _ _ r c.in-Line.ensures.counts c.in-Line.ensures.cause)
 
 pub returns-in-Rest-clause-goes : goal.returns-in-Rest-clause-goes
-returns-in-Rest-clause-goes g c = λ log st. c.listen.ensures.goes log (gave_any _ log (given.Rest c.in-Rest.due) _ _ _ _ _ _ st c.in-Rest.ensures.gives)
+returns-in-Rest-clause-goes g c = λ log st. c.after_nothing.ensures.goes log (gave_any _ log (given.Rest c.in-Rest.due) _ _ _ _ _ _ st c.in-Rest.ensures.gives)
 
 pub returns-in-Rest-clause-cause : goal.returns-in-Rest-clause-cause
-returns-in-Rest-clause-cause g c = λ x f r. c.listen.ensures.cause x f (given_runs _ x _ _ f _ _ r c.in-Rest.ensures.counts c.in-Rest.ensures.cause)
+returns-in-Rest-clause-cause g c = λ x f r. c.after_nothing.ensures.cause x f (given_runs _ x _ _ f _ _ r c.in-Rest.ensures.counts c.in-Rest.ensures.cause)
 
 pub returns-in-WriteFault-clause-goes : goal.returns-in-WriteFault-clause-goes
 returns-in-WriteFault-clause-goes g c = λ log st. gave_any _ log given.WriteFault _ _ _ _ _ _ st c.in-WriteFault.ensures.gives
