@@ -220,10 +220,11 @@ fn serve_config<
 ///
 /// A client's first request is served by `serve_first`, a WebSocket by the workers, a feed by `serve_feed`, each with a
 /// twin of the clock. Where the spawner refuses the job, a client is answered 503 and a feed closed; where memory is
-/// refused for it, the visitor is closed. After each visitor, and each look for one, WebSockets that left their workers
-/// are given to jobs, and the sessions end that were without a stream for too long. Where nobody came, or
-/// a visitor couldn't be let in, the clock waits: 1 ms after a visitor, twice as long after each wait in vain, and 10 ms
-/// at most. At the order's end all jobs are waited for, and `stopped` and LF is written. The server begins with empty
+/// refused for it, the visitor is closed. Before each look for a visitor WebSockets that left their workers are given to
+/// jobs, and after it the sessions end that were without a stream for too long. Where nobody came, the server waits for a
+/// bell, which visitors and leavers ring, and for 100 ms at most. Over a door that rings none, and where a visitor couldn't
+/// be let in, the clock waits: 1 ms after a visitor, twice as long after each wait in vain, and 10 ms at most. At the
+/// order's end all jobs are waited for, and `stopped` and LF is written. The server begins with empty
 /// histories and no sessions.
 ///
 /// Contracts say at each end what was read and written. `Stopped` comes only where the clock told the order's end or a

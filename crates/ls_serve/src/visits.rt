@@ -89,6 +89,10 @@ fn serve_leaver<N: House, R: Wait, P: Pipe + Wakes + Drop, C: Clock + Drop>(
     } = host;
     let shared = &common.shared;
     let workers = &common.workers;
+    // What its peer had no room for goes out when it is looked for a message, and a stream whose bell wasn't rung isn't.
+    if let Some(bell) = socket.bell() {
+        bell.ring();
+    }
     workers.serve(rt, shared, &mut clock, &OpenGate, until, socket);
 }
 
@@ -165,17 +169,17 @@ pub(crate) fn admit_feed<
     }
 }
 
-/// Gives each WebSocket that left its worker to a job of its own. Where none can be had, or memory is refused, it is given
-/// up.
+/// Gives each WebSocket that left its worker to a job of its own, up to 64 of them; answers whether there were no more.
+/// Where no job can be had, or memory is refused, it is given up.
 pub(crate) fn serve_leavers<
     N: House + Send + Sync + 'static,
     R: Threads + Wait + Copy + Send + Sync + 'static,
     P: Pipe + Wakes + Send + Drop + 'static,
     C: Clock + Send + Drop + 'static,
->(rt: R, common: &Arc<Common<N, P>>, clock: &mut C, until: u64, spawner: &mut Spawner) {
+>(rt: R, common: &Arc<Common<N, P>>, clock: &mut C, until: u64, spawner: &mut Spawner) -> bool {
     for _ in 0..MOST_LEAVERS {
         let Some(socket) = common.workers.next_leaver(&rt) else {
-            return;
+            return true;
         };
         let Ok(host) = host_of(common, clock, until) else {
             common.workers.give_up(&rt, &common.shared, clock, socket);
@@ -186,6 +190,7 @@ pub(crate) fn serve_leavers<
             common.workers.give_up(&rt, &common.shared, clock, socket);
         }
     }
+    false
 }
 
 /// Gives up all WebSockets that left their workers, by a twin of the clock; where there is no memory for one, they are

@@ -17,13 +17,17 @@ const MOST_SLEEP: u64 = 1_000;
 
 /// A connection at a worker.
 #[derive(Drop)]
-pub(crate) struct Seat<N: House, T: Talk> {
-    pub(crate) socket: Socket<N, T>,
+struct Seat<N: House, T: Talk> {
+    socket: Socket<N, T>,
 
     /// The session of its stream when it came.
     session: Option<u64>,
+}
 
-    /// The bell of that session.
+/// What calls a connection at a worker. A worker looks through these, and goes to those connections alone that are called.
+#[derive(Drop)]
+struct Call {
+    /// The bell of the session of its stream when it came.
     bell: Option<Arc<Bell, Global>>,
 
     /// How often that was rung before the last turn.
@@ -36,11 +40,8 @@ pub(crate) struct Seat<N: House, T: Talk> {
 /// What became of a connection by its turns.
 #[derive(Clone, Copy, Debug, PartialEq, Eq)]
 enum Visited {
-    /// It rests.
-    Rests,
-
-    /// It has more to do.
-    Goes,
+    /// It rests so many ms; none where it has more to do.
+    Rests { ms: u64 },
 
     /// It can't stay.
     Leaves,
@@ -54,31 +55,28 @@ fn rings_of(bell: &Option<Arc<Bell, Global>>) -> u64 {
     }
 }
 
-impl<N: House, T: Talk + Wakes + Drop> Seat<N, T> {
-    /// A seat for a connection, which has its first turn at once.
-    pub(crate) fn of(socket: Socket<N, T>) -> Result<Seat<N, T>, Socket<N, T>> {
-        let session = socket.session();
+impl Call {
+    /// What calls a connection that has its first turn at once. `None` where there is no further hold on its bell.
+    fn of<N: House, T: Talk + Wakes>(socket: &Socket<N, T>) -> Option<Call> {
         let bell = match socket.bell() {
-            Some(bell) => match Arc::try_clone(bell) {
-                Ok(bell) => Some(bell),
-                Err(_) => return Err(socket),
-            },
+            Some(bell) => Some(Arc::try_clone(bell).ok()?),
             None => None,
         };
-        Ok(Seat {
-            socket,
-            session,
+        Some(Call {
             bell,
             rings: 0,
             due: 0,
         })
     }
 
-    /// Whether there may be something to do: its bell was rung, or its tick has come.
-    fn is_called(&self, now: u64) -> bool {
-        now >= self.due || rings_of(&self.bell) != self.rings
+    /// Whether there may be something to do: its tick has come, or its bell was rung, which counts only where some bell of
+    /// the worker was.
+    fn comes(&self, now: u64, is_rung: bool) -> bool {
+        now >= self.due || is_rung && rings_of(&self.bell) != self.rings
     }
+}
 
+impl<N: House, T: Talk + Wakes + Drop> Seat<N, T> {
     /// Whether it can stay: it hasn't ended, it isn't behind, and its stream is of no other session.
     fn stays(&self) -> bool {
         let is_same = match self.socket.session() {
@@ -88,7 +86,7 @@ impl<N: House, T: Talk + Wakes + Drop> Seat<N, T> {
         is_same && !self.socket.talk().is_behind()
     }
 
-    /// Has turns at a tick, until it rests.
+    /// Has turns, until it rests; for how many ms.
     fn visit<R: Wait, K: Clock, G: Gate>(
         &mut self,
         rt: &R,
@@ -96,12 +94,9 @@ impl<N: House, T: Talk + Wakes + Drop> Seat<N, T> {
         shared: &Shared<N>,
         clock: &mut K,
         gate: &G,
-        now: u64,
         until: u64,
         into: &mut LineBuf,
     ) -> Visited {
-        self.rings = rings_of(&self.bell);
-        self.due = 0;
         for _ in 0..MOST_TURNS {
             match self
                 .socket
@@ -109,9 +104,8 @@ impl<N: House, T: Talk + Wakes + Drop> Seat<N, T> {
             {
                 Step::Goes => {}
                 Step::Rests { ms } => {
-                    self.due = now.saturating_add(ms);
                     return if self.stays() {
-                        Visited::Rests
+                        Visited::Rests { ms }
                     } else {
                         Visited::Leaves
                     };
@@ -120,17 +114,18 @@ impl<N: House, T: Talk + Wakes + Drop> Seat<N, T> {
             }
         }
         if self.stays() {
-            Visited::Goes
+            Visited::Rests { ms: 0 }
         } else {
             Visited::Leaves
         }
     }
 }
 
-/// The connections of a worker.
+/// The connections of a worker, and what calls each of them.
 #[derive(Drop)]
 pub(crate) struct Seats<N: House, T: Talk> {
     seats: Vec<Seat<N, T>>,
+    calls: Vec<Call>,
 }
 
 impl<N: House, T: Talk + Wakes + Drop> Seats<N, T> {
@@ -138,6 +133,7 @@ impl<N: House, T: Talk + Wakes + Drop> Seats<N, T> {
     pub(crate) fn new(alloc: Global) -> Seats<N, T> {
         Seats {
             seats: Vec::new(alloc),
+            calls: Vec::new(alloc),
         }
     }
 
@@ -148,16 +144,20 @@ impl<N: House, T: Talk + Wakes + Drop> Seats<N, T> {
 
     /// Has a connection sit down. After a refusal it is handed back.
     pub(crate) fn add(&mut self, socket: Socket<N, T>) -> Result<(), Socket<N, T>> {
-        if self.seats.reserve(1).is_err() {
+        if self.seats.reserve(1).is_err() || self.calls.reserve(1).is_err() {
             return Err(socket);
         }
-        let seat = Seat::of(socket)?;
-        self.seats.push_reserved(seat);
+        let Some(call) = Call::of(&socket) else {
+            return Err(socket);
+        };
+        let session = socket.session();
+        self.seats.push_reserved(Seat { socket, session });
+        self.calls.push_reserved(call);
         Ok(())
     }
 
     /// Has all connections that are called have their turns at a tick, and answers how many ms the worker may sleep. Those
-    /// that can't stay are put to `leavers`.
+    /// that can't stay are put to `leavers`. Where no bell was rung since the last round, `is_rung` is false.
     pub(crate) fn round<R: Wait, K: Clock, G: Gate>(
         &mut self,
         rt: &R,
@@ -166,30 +166,36 @@ impl<N: House, T: Talk + Wakes + Drop> Seats<N, T> {
         clock: &mut K,
         gate: &G,
         until: u64,
+        is_rung: bool,
         into: &mut LineBuf,
         leavers: &mut Vec<Socket<N, T>>,
     ) -> u64 {
         let now = clock.now();
-        let mut ms = MOST_SLEEP;
+        let mut soonest = now.saturating_add(MOST_SLEEP);
         let mut at = 0;
-        for _ in 0..self.seats.len() {
+        for _ in 0..self.calls.len() {
+            let Some(call) = self.calls.get_mut(at) else {
+                break;
+            };
+            if !call.comes(now, is_rung) {
+                soonest = soonest.min(call.due);
+                at += 1;
+                continue;
+            }
+            call.rings = rings_of(&call.bell);
+            call.due = now;
             let Some(seat) = self.seats.get_mut(at) else {
                 break;
             };
-            let mut visited = Visited::Rests;
-            if seat.is_called(now) {
-                visited = seat.visit(rt, alloc, shared, clock, gate, now, until, into);
-            }
-            match visited {
-                Visited::Rests => ms = ms.min(seat.due.saturating_sub(now)),
-                Visited::Goes => ms = 0,
-                Visited::Leaves => {}
-            }
-            if visited != Visited::Leaves || !self.let_leave(alloc, at, leavers) {
+            if let Visited::Rests { ms } = seat.visit(rt, alloc, shared, clock, gate, until, into) {
+                call.due = now.saturating_add(ms);
+                soonest = soonest.min(call.due);
+                at += 1;
+            } else if !self.let_leave(alloc, at, leavers) {
                 at += 1;
             }
         }
-        ms
+        soonest.saturating_sub(now)
     }
 
     /// Has a connection leave. Where there is no memory for that it stays; should it be behind, its writes wait from now on.
@@ -197,11 +203,12 @@ impl<N: House, T: Talk + Wakes + Drop> Seats<N, T> {
         let Some(seat) = self.seats.get(at) else {
             return false;
         };
-        if leavers.reserve(1).is_err() {
+        if leavers.reserve(1).is_err() || at >= self.calls.len() {
             seat.socket.talk().wait_for_room(alloc, true);
             return false;
         }
         let Seat { socket, .. } = self.seats.swap_remove(at);
+        drop(self.calls.swap_remove(at));
         leavers.push_reserved(socket);
         true
     }

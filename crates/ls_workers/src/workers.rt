@@ -12,7 +12,7 @@ use std::alloc::Global;
 use std::sync::{Arc, Mutex, Wait};
 
 /// How many workers there are.
-pub const WORKERS: u64 = 4;
+pub const WORKERS: u64 = 8;
 
 /// How many ms at most a clock is let wait that doesn't run by itself.
 const PAUSE: u64 = 10;
@@ -49,6 +49,7 @@ pub struct Workers<N: House, T: Talk> {
     alloc: Global,
     workers: Vec<Worker<N, T>>,
     leavers: Mutex<Vec<Socket<N, T>>>,
+    bell: Arc<Bell, Global>,
 }
 
 /// The workers, at which nobody is.
@@ -114,7 +115,13 @@ impl<N: House, T: Talk + Wakes + Drop> Workers<N, T> {
             alloc,
             workers: idle_workers(alloc)?,
             leavers: Mutex::new(Vec::new(alloc)),
+            bell: Arc::new(alloc, Bell::new())?,
         })
+    }
+
+    /// A bell that is rung when a connection left its worker.
+    pub fn bell(&self) -> &Arc<Bell, Global> {
+        &self.bell
     }
 
     /// Serves a connection, in the thread of the caller until it has a stream, and then by the worker of its session, whose
@@ -257,8 +264,11 @@ impl<N: House, T: Talk + Wakes + Drop> Workers<N, T> {
         };
         let mut seats = Seats::new(self.alloc);
         let mut leavers = Vec::new(self.alloc);
+        let mut before = worker.bell.rings();
         for _ in rt.forever() {
             let rings = worker.bell.rings();
+            let is_rung = rings != before;
+            before = rings;
             if !take_in(rt, worker, &mut seats, leavers.is_empty()) {
                 break;
             }
@@ -269,6 +279,7 @@ impl<N: House, T: Talk + Wakes + Drop> Workers<N, T> {
                 clock,
                 gate,
                 until,
+                is_rung,
                 into,
                 &mut leavers,
             );
@@ -303,6 +314,8 @@ impl<N: House, T: Talk + Wakes + Drop> Workers<N, T> {
                 return false;
             }
             leaving.push_reserved(socket);
+            drop(leaving);
+            self.bell.ring();
         }
         true
     }
