@@ -1,6 +1,6 @@
 -- An item goes on standing for its history and the records of its slots.
 use Rattle.std.proofs.Common.{◌≡◌, ◌==◌, ℕ, ◌+◌, ◌-◌, ◌<◌, ◌≤◌, List, [], ◌∷◌, ◌++◌, length, refl, sym, ◌∙◌, ap, arith}
-use Rattle.std.proofs.Common.{Bool, true, false, Option, Some, None, cond, subst, get_or, set}
+use Rattle.std.proofs.Common.{Bool, true, false, Option, Some, None, IsSome, cond, subst, get_or, set, take, drop}
 use Rattle.std.proofs.lemmas.List.{length-append, get_or-set_same, get_or-set_other}
 use Rattle.std.proofs.lemmas.Bool.{eqb-true, eqb-false}
 use Rattle.ls_event.specs.declared.event.Entry.{Entry}
@@ -17,11 +17,12 @@ use Rattle.ls_item.proofs.Grown.{state_grown}
 use Rattle.ls_cell.specs.declared.any.AnyBuffer.{AnyBuffer}
 use Rattle.ls_cell.specs.Any.{any_last}
 use Rattle.ls_cell.specs.Numbered.{slot_at, set_slot, first_lagging, StandsAll}
-use Rattle.ls_cell.specs.Standing.{StandsSlot}
+use Rattle.ls_merge.specs.Runs.{IsRun}
+use Rattle.ls_cell.specs.Standing.{StandsSlot, last_at}
 use Rattle.ls_cell.specs.Cell.{Held, IsSound, StandsCell, HasSlot, published, stored_next, refusal_of, least_lagging}
-use Rattle.ls_cell.specs.Cell.{last_in, next_last, enqueued_at}
+use Rattle.ls_cell.specs.Cell.{last_in, next_last, enqueued_at, Going}
 use Rattle.ls_cell.proofs.Changes.{set_same, set_own, set_at, set_twice}
-use Rattle.ls_cell.proofs.Tails.{stored, tail_published, next_in_tail}
+use Rattle.ls_cell.proofs.Tails.{stored, tail_published, next_in_tail, run_in_tail, run_take}
 use Rattle.ls_cell.proofs.Grown.{stands_grown}
 use Rattle.ls_cell.proofs.Refusals.{IsAdmitted, admitted_of, refusal_is}
 use Rattle.ls_cell.proofs.Recorded.{IsRecorded, recorded}
@@ -109,14 +110,6 @@ stands_same c ss h s n st is full =
 pub moved_last : (number last new : ℕ) → last < number → new ≡ last + 1 → new ≡ next_last number last
 moved_last number last new more is = is ∙ sym (ap (λ v. cond v (last + 1) last) (below last number more))
 
--- after i enqueues into a slot
-pub record Going (c d : Held) (n i : ℕ) : Type 0 where
-  pub live : HasSlot d n
-  pub last : last_in d n ≡ last_in c n + i
-  pub rest : d ≡ record c { slots = set_slot c.slots n (slot_at d.slots n) }
-  pub stands : (ss : List (Option Slot)) (h : List Entry) (s : Slot) → StandsCell c ss h → slot_at ss n ≡ Some s
-      → StandsCell d (set_slot ss n (Some (record s { last = last_in d n }))) h
-
 pub going_first : (c : Held) (n : ℕ) → HasSlot c n → Going c c n 0
 going_first c n live =
     record {
@@ -150,4 +143,44 @@ going_next c d e n i g more live rest last stands =
           ∙ ap (λ l. record s { last = l }) (sym moved) in
           subst (λ rs. StandsCell e rs h) (set_twice ss n (Some r) (Some (enqueued_at h r))
           ∙ ap (λ x. set_slot ss n (Some x)) one) new;
+    }
+
+-- and after more of them
+pub going_on : (c d e : Held) (n i j : ℕ) → Going c d n i → Going d e n j → Going c e n (i + j)
+going_on c d e n i j g k =
+    record {
+      live = k.live;
+      last = omega (arith, g.last, k.last);
+      rest = k.rest ∙ ap (λ (v : Held). record v { slots = set_slot v.slots n (slot_at e.slots n) }) g.rest
+          ∙ ap (λ bs. record c { slots = bs }) (set_twice c.slots n (slot_at d.slots n) (slot_at e.slots n));
+      stands = λ ss h s st is.
+          let r : Slot = record s { last = last_in d n } in
+          let new : StandsCell e (set_slot (set_slot ss n (Some r)) n (Some (record r { last = last_in e n }))) h =
+          k.stands (set_slot ss n (Some r)) h r (g.stands ss h s st is) (set_at ss n (Some r) s is) in
+          subst (λ rs. StandsCell e rs h) (set_twice ss n (Some r) (Some (record s { last = last_in e n }))) new;
+    }
+
+-- a slot took the next events
+pub going_ran : (c : Held) (bs : List (Option AnyBuffer)) (n i k : ℕ) → HasSlot c n → IsSome (slot_at bs n)
+    → bs ≡ set_slot c.slots n (slot_at bs n) → last_at (slot_at bs n) ≡ last_in c n + k
+    → i ≡ last_in c n - (c.number - length c.tail)
+    → ((p : Shape) (ss : List (Option Slot)) (h : List Entry) (s : Slot) → StandsAll (StandsSlot p) c.slots ss h
+    → slot_at ss n ≡ Some s → IsRun s h (take k (drop i c.tail))
+    → StandsAll (StandsSlot p) bs (set_slot ss n (Some (record s { last = s.last + k }))) h)
+    → Going c (record c { slots = bs }) n k
+going_ran c bs n i k live new one last index step =
+    record {
+      live = new;
+      last = last;
+      rest = ap (λ xs. record c { slots = xs }) one;
+      stands = λ ss h s st is.
+          let t : IsRecorded c n s h = recorded c ss h n s st is in
+          let at : i ≡ s.last - (length h - length c.tail) = index ∙ ap (λ l. l - (c.number - length c.tail)) t.last
+          ∙ ap (λ m. s.last - (m - length c.tail)) st.number in
+          let run : IsRun s h (take k (drop i c.tail)) = run_take s h k (drop i c.tail)
+          (run_in_tail (length h - s.last) c.item.shape c.tail s h i (drop i c.tail) st.tail t.shape t.within t.near at refl refl) in
+          let moved : s.last + k ≡ last_at (slot_at bs n) = omega (arith, last, t.last) in
+          stands_slots c bs ss (set_slot ss n (Some (record s { last = last_at (slot_at bs n) }))) h st
+          (subst (λ l. StandsAll (StandsSlot c.item.shape) bs (set_slot ss n (Some (record s { last = l }))) h) moved
+          (step c.item.shape ss h s st.slots is run));
     }

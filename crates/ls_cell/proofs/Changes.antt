@@ -53,6 +53,21 @@ read_live bs n b live value = subst (λ o. IsSome o) (sym (slot_read bs n b live
 pub live_at : {B : Type 0} (bs : List (Option B)) (n : ℕ) → IsSome (slot_at bs n) → IsSome (get_or bs (n - 1) None)
 live_at bs n live = subst (λ o. IsSome o) (sym ((within bs n live).value None)) live
 
+-- what stands at the number, in a table that is the same
+pub here : {B : Type 0} (items now : List (Option B)) (n : ℕ) (b : Option B) → items ≡ now → IsSome (slot_at now n)
+    → b ≡ get_or items (n - 1) b → b ≡ slot_at now n
+here items now n b same live value =
+    slot_read items n b (subst (λ t. IsSome (slot_at t n)) (sym same) live) value ∙ ap (λ t. slot_at t n) same
+
+-- and what is put there
+pub put_there : {B : Type 0} (items now : List (Option B)) (n : ℕ) (b : Option B) → items ≡ now → IsSome (slot_at now n)
+    → slot_at (set_slot items n b) n ≡ b
+put_there items now zero b same live = cc
+put_there items now (suc i) b same live =
+    let low = (within items (suc i) (subst (λ t. IsSome (slot_at t (suc i))) (sym same) live)).low in
+    ap (λ k. get_or (set items k b) i None) {x = suc i - 1} {y = i} (omega arith)
+    ∙ get_or-set_same items i b None (omega (arith, low))
+
 slot_low : {B : Type 0} (bs : List (Option B)) (n : ℕ) → 0 < n → get_or bs (n - 1) None ≡ slot_at bs n
 slot_low bs zero some = absurd (omega (arith, some))
 slot_low bs (suc i) some = ap (λ k. get_or bs k None) {x = suc i - 1} {y = i} (omega arith)

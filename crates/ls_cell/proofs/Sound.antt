@@ -1,8 +1,9 @@
 -- Each call keeps an item sound.
 use Rattle.std.proofs.Common.{◌≡◌, ℕ, zero, suc, ◌+◌, ◌-◌, ◌<◌, ◌≤◌, List, [], ◌∷◌, ◌++◌, length, drop, get_or, refl}
-use Rattle.std.proofs.Common.{sym, ◌∙◌, ap, subst, arith, Option, Some, None}
-use Rattle.std.specs.Option.{option_or}
+use Rattle.std.proofs.Common.{sym, ◌∙◌, ap, subst, arith, All, Option, Some, None}
+use Rattle.std.specs.Option.{option_or, ForSome}
 use Rattle.std.proofs.Math.ListN.{length-set}
+use Rattle.std.proofs.lemmas.List.Elements.{All-nil, All-cons, All-drop, All-weaker}
 use Rattle.std.proofs.lemmas.List.{length-append}
 use Rattle.ls_value.specs.declared.row.Cell.{Cell}
 use Rattle.ls_value.specs.declared.row.Cell.TheVariants as cell
@@ -197,6 +198,20 @@ taken_next c n i x ok live more index value =
       after = kept.after;
       admits = λ b is. near.admits b is x.event kept.event;
     }
+
+-- a slot takes each event that is kept
+kept_events : (p : Shape) (n : ℕ) (xs : List Stored) → AreKept p n xs → All (λ x. IsEventOf p x.event) xs
+kept_events p n [] kept = All-nil (λ x. IsEventOf p x.event)
+kept_events p n (x ∷ xs) kept =
+    All-cons (λ x. IsEventOf p x.event) x xs kept.0.event (kept_events p (n + 1) xs kept.1)
+
+pub run_admits : (c : Held) (n from : ℕ) → IsSound c → HasSlot c n
+    → ForSome (slot_at c.slots n) (λ b. All (λ x. AnyAdmits b x.event) (drop from c.tail))
+run_admits c n from ok live = λ b is.
+    All-drop (λ x. AnyAdmits b x.event) from c.tail
+    (All-weaker (λ (x : Stored). IsEventOf c.item.shape x.event) (λ x. AnyAdmits b x.event)
+    (λ x of. (near_at c n ok live).admits b is x.event of) c.tail
+    (kept_events c.item.shape (c.number - length c.tail) c.tail ok.kept))
 
 -- an item without events and without slots
 kind_first : (k : Kind) (p : Shape) → IsOfKind k (state_in k p [] 0)

@@ -14,7 +14,8 @@ use Rattle.ls_event.specs.Keyed.{keyed_after_all}
 use Rattle.ls_event.specs.States.{state_in, state_at, key_row}
 use Rattle.ls_event.specs.declared.snapshot.Snapshot.TheVariants as state
 use Rattle.ls_event.specs.Publishes.{stored_from}
-use Rattle.ls_event.specs.Slots.{Slot, IsNext}
+use Rattle.ls_event.specs.Slots.{Slot, IsNext, enqueued}
+use Rattle.ls_merge.specs.Runs.{IsRun}
 use Rattle.ls_cell.specs.Cell.{tail_after}
 
 -- an event with its number in a history
@@ -150,3 +151,38 @@ next_in_tail p t s h i x is shape more near index value =
           event = at.1.1.event;
           after = at.1.1.after ∙ ap (λ q. key_row q (state_at q h (s.last + 1)) x.event) (sym shape);
         }
+
+tail_long : (p : Shape) (t : List Stored) (h : List Entry)
+    → t ≡ stored_from p h (length h - MOST_LAG) (drop (length h - MOST_LAG) h) → length t ≡ length h - (length h - MOST_LAG)
+tail_long p t h is = ap length is ∙ stored_from_length p h (length h - MOST_LAG) (drop (length h - MOST_LAG) h)
+    ∙ length-drop (length h - MOST_LAG) h
+
+-- and all those after it
+pub run_in_tail : (k : ℕ) (p : Shape) (t : List Stored) (s : Slot) (h : List Entry) (i : ℕ) (xs : List Stored)
+    → t ≡ stored_from p h (length h - MOST_LAG) (drop (length h - MOST_LAG) h) → s.plan.shape ≡ p → s.last ≤ length h
+    → length h ≤ s.last + MOST_LAG → i ≡ s.last - (length h - length t) → k ≡ length h - s.last → drop i t ≡ xs
+    → IsRun s h xs
+run_in_tail k p t s h i [] is shape within near index left at = tt
+run_in_tail zero p t s h i (x ∷ xs) is shape within near index left at =
+    absurd (omega (arith, ap length at, length-drop i t, index, tail_long p t h is, within, near, left))
+run_in_tail (suc k) p t s h i (x ∷ xs) is shape within near index left at =
+    let more : s.last < length h = omega (arith, left) in
+    let value : x ≡ get_or t i x = sym (ap (λ ys. get_or ys 0 x) at) ∙ get_or-drop i t 0 x
+    ∙ ap (λ j. get_or t j x) {x = i + 0} {y = i} (omega arith) in
+    let rest : drop (i + 1) t ≡ xs = sym (drop-drop 1 i t) ∙ ap (drop 1) at in (
+      next_in_tail p t s h i x is shape more near index value,
+      run_in_tail k p t (enqueued s) h (i + 1) xs is shape (omega (arith, more)) (omega (arith, near))
+          (omega (arith, index, tail_long p t h is, near, within)) (omega (arith, left)) rest,
+    )
+
+-- and the first of these
+pub run_take : (s : Slot) (h : List Entry) (n : ℕ) (xs : List Stored) → IsRun s h xs → IsRun s h (take n xs)
+run_take s h zero xs run = tt
+run_take s h (suc n) [] run = tt
+run_take s h (suc n) (x ∷ xs) run = (run.0, run_take (enqueued s) h n xs run.1)
+
+-- a slot has no event that the history doesn't
+pub run_within : (s : Slot) (h : List Entry) (xs : List Stored) → s.last ≤ length h → IsRun s h xs
+    → s.last + length xs ≤ length h
+run_within s h [] within run = omega (arith, within)
+run_within s h (x ∷ xs) within run = omega (arith, run_within (enqueued s) h xs (omega (arith, run.0.more)) run.1)

@@ -24,7 +24,7 @@ use Rattle.ls_value.specs.declared.limits.TheConstants.{GREATEST_NUMBER}
 use Rattle.ls_cell.specs.declared.any.AnyBuffer.{AnyBuffer}
 use Rattle.ls_cell.specs.declared.cell.Enqueued.{Enqueued}
 use Rattle.ls_cell.specs.declared.cell.Enqueued.TheVariants as answer
-use Rattle.ls_cell.specs.Numbered.{slot_at, EachSlot, first_lagging, StandsAll}
+use Rattle.ls_cell.specs.Numbered.{slot_at, set_slot, EachSlot, first_lagging, StandsAll}
 use Rattle.ls_cell.specs.Any.{any_last, any_cut, any_pending}
 use Rattle.ls_cell.specs.Standing.{IsEventOf, IsSlotOf, StandsSlot, last_at}
 
@@ -149,3 +149,11 @@ pub record StandsCell (c : Held) (ss : List (Option Slot)) (h : List Entry) : Ty
   pub seqs : (adapter : ℕ) → adapter ≤ MOST_ADAPTERS → slice_index c.seqs adapter ≡ last_seq adapter h
   pub slots : StandsAll (StandsSlot c.item.shape) c.slots ss h
   pub history : IsHistory c.item.shape h
+
+-- what is held after so many enqueues into a slot
+pub record Going (c d : Held) (n i : ℕ) : Type 0 where
+  pub live : HasSlot d n
+  pub last : last_in d n ≡ last_in c n + i
+  pub rest : d ≡ record c { slots = set_slot c.slots n (slot_at d.slots n) }
+  pub stands : (ss : List (Option Slot)) (h : List Entry) (s : Slot) → StandsCell c ss h → slot_at ss n ≡ Some s
+      → StandsCell d (set_slot ss n (Some (record s { last = last_in d n }))) h

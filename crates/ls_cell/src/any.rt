@@ -1,6 +1,11 @@
 //! The buffer of a slot in any mode.
-ghost use Rattle.std.specs.Prelude.{◌≡◌};
-ghost use Rattle.ls_cell.specs.Any.{any_last};
+ghost use Rattle.std.specs.Prelude.{◌≡◌, ◌≤◌, ◌+◌, ◌-◌, ℕ, List, IfOk, OnOk, OnErr, All, length, take, drop};
+ghost use Rattle.ls_value.specs.declared.limits.TheConstants.{GREATEST_NUMBER};
+ghost use Rattle.ls_event.specs.declared.event.Entry.{Entry};
+ghost use Rattle.ls_event.specs.declared.event.Event.{Event};
+ghost use Rattle.ls_event.specs.Slots.{Slot};
+ghost use Rattle.ls_merge.specs.Runs.{IsRun};
+ghost use Rattle.ls_cell.specs.Any.{any_last, AnyAdmits, HasAnyFields, StandsAny};
 
 use ls_command::CommandBuffer;
 use ls_distinct::DistinctBuffer;
@@ -8,6 +13,7 @@ use ls_event::{Buffer, Stored, Taken};
 use ls_merge::MergeBuffer;
 use ls_raw::RawBuffer;
 use ls_value::NoMemory;
+use std::collections::VecDeque;
 
 /// The buffer of a slot, by its mode.
 #[derive(Drop)]
@@ -28,6 +34,29 @@ impl AnyBuffer {
             AnyBuffer::Merge(buffer) => buffer.last(),
             AnyBuffer::Distinct(buffer) => buffer.last(),
             AnyBuffer::Command(buffer) => buffer.last(),
+        }
+    }
+
+    /// Takes the events from an index on, which are those of the next numbers, all at once, where it can. Answers how many
+    /// it took. After `NoMemory` it is as before.
+    pub fn enqueue_run(&mut self, events: &VecDeque<Stored>, from: usize) -> Result<usize, NoMemory>
+        requires few { any_last self.old + (length events.now.items - from) ≤ GREATEST_NUMBER }
+        requires admits { All (λ x. AnyAdmits self.old x.event) (drop from events.now.items) }
+        ensures most { IfOk result (λ n. n ≤ length events.now.items - from) }
+        ensures last { IfOk result (λ n. any_last self.new ≡ any_last self.old + n) }
+        ensures fields { OnOk result ((m : ℕ) → HasAnyFields self.old m → HasAnyFields self.new m) }
+        ensures admits { OnOk result ((e : Event) → AnyAdmits self.old e → AnyAdmits self.new e) }
+        ensures stands { IfOk result (λ n. (s : Slot) (h : List Entry) → StandsAny self.old s h
+            → IsRun s h (take n (drop from events.now.items))
+            → StandsAny self.new (record s { last = s.last + n }) h) }
+        ensures err { OnErr result (self.new ≡ self.old) }
+    {
+        match self {
+            AnyBuffer::Merge(buffer) => {
+                let taken = buffer.enqueue_run(events, from)?;
+                Ok(taken)
+            }
+            AnyBuffer::Raw(_) | AnyBuffer::Distinct(_) | AnyBuffer::Command(_) => Ok(0),
         }
     }
 }

@@ -16,7 +16,7 @@ ghost use Rattle.ls_cell.specs.Any.{any_pending};
 ghost use Rattle.ls_cell.specs.Numbered.{slot_at, set_slot, put_slot, free_number, live_slots};
 ghost use Rattle.ls_cell.specs.Cell.{StandsCell, HasSlot, AnswersFirst, refusal_of, least_lagging, published};
 ghost use Rattle.ls_cell.specs.Cell.{tail_after, stored_next, cut_at, pending_at, last_in, next_last, enqueue_answer};
-ghost use Rattle.ls_cell.specs.Cell.{enqueued_at};
+ghost use Rattle.ls_cell.specs.Cell.{enqueued_at, Going};
 
 use crate::joining::buffer_of;
 use crate::slots::Slots;
@@ -316,9 +316,8 @@ impl ItemCell {
             → slot_at ss slot ≡ Some s
             → StandsCell self.new (set_slot ss slot (Some (record s { last = last_in self.new slot }))) h }
     {
-        for _ in 0..self.lag(slot) {
-            self.enqueue(slot)?;
-        }
+        self.enqueue_run(slot)?;
+        self.enqueue_each(slot)?;
         Ok(())
     }
 
@@ -368,6 +367,37 @@ impl ItemCell {
     {
         let last = self.slots.last(slot);
         self.number - last
+    }
+
+    /// Has a live slot take all events of the item that it doesn't have yet at once, where they are several and its buffer
+    /// can. After `NoMemory` all is as before.
+    fn enqueue_run(&mut self, slot: u32) -> Result<(), NoMemory>
+        requires { HasSlot self.old slot }
+        ensures going { Going self.old self.new slot (last_in self.new slot - last_in self.old slot) }
+        ensures most { last_in self.new slot ≤ self.old.number }
+        ensures behind { OnErr result (last_in self.new slot < self.old.number) }
+    {
+        let lag = self.lag(slot);
+        if lag < 2 {
+            return Ok(());
+        }
+        let from = self.tail.len() as u64 - lag;
+        self.slots.enqueue_run(slot, &self.tail, from as usize)?;
+        Ok(())
+    }
+
+    /// Enqueues into a live slot one event after another, until it has every event of the item.
+    fn enqueue_each(&mut self, slot: u32) -> Result<(), NoMemory>
+        requires { HasSlot self.old slot }
+        ensures going { Going self.old self.new slot (last_in self.new slot - last_in self.old slot) }
+        ensures last { OnOk result (last_in self.new slot ≡ self.old.number) }
+        ensures behind { OnErr result (last_in self.new slot < self.old.number) }
+        ensures no_memory { last_in self.old slot ≡ self.old.number → IsOk result }
+    {
+        for _ in 0..self.lag(slot) {
+            self.enqueue(slot)?;
+        }
+        Ok(())
     }
 
     /// Adds an event, or answers the first cause that stands against it.

@@ -1,6 +1,6 @@
 //! Slots by number.
 ghost use Rattle.std.specs.Prelude.{◌≡◌, ◌+◌, ◌-◌, ◌<◌, ◌≤◌, ◌^◌, ℕ, List, [], Option, None, Some, IfOk, OnOk, OnErr};
-ghost use Rattle.std.specs.Prelude.{IsSome, IsTrue, length, option_and_then, is_some, false};
+ghost use Rattle.std.specs.Prelude.{IsSome, IsTrue, All, take, drop, length, option_and_then, is_some, false};
 ghost use Rattle.std.specs.Option.{ForSome, option_map_or};
 ghost use Rattle.ls_event.specs.declared.event.Entry.{Entry};
 ghost use Rattle.ls_event.specs.declared.event.Taken.{Taken as ATaken};
@@ -10,6 +10,7 @@ ghost use Rattle.ls_event.specs.Shapes.{Shape};
 ghost use Rattle.ls_value.specs.declared.limits.TheConstants.{GREATEST_NUMBER};
 ghost use Rattle.ls_event.specs.Slots.{Slot, IsNext, enqueued, passed};
 ghost use Rattle.ls_event.specs.Cuts.{cut, Fits};
+ghost use Rattle.ls_merge.specs.Runs.{IsRun};
 ghost use Rattle.ls_cell.specs.Any.{any_last, any_cut, any_pending, AnyAdmits};
 ghost use Rattle.ls_cell.specs.Numbered.{slot_at, set_slot, free_number, put_slot, live_slots, IsAt, EachSlot, lags};
 ghost use Rattle.ls_cell.specs.Numbered.{first_lagging, StandsAt, StandsAll};
@@ -19,6 +20,7 @@ use crate::any::AnyBuffer;
 use ls_event::{Buffer, MOST_LAG, Stored, Taken};
 use ls_value::NoMemory;
 use std::alloc::Global;
+use std::collections::VecDeque;
 use std::marker::Model;
 
 /// The slots of an item by number, from 1 on: each one that is live has its buffer.
@@ -126,6 +128,34 @@ impl Slots {
     {
         enqueue_at(&mut self.slots[slot as usize - 1], event)?;
         Ok(())
+    }
+
+    /// Has a live slot take the events from an index on, which are those of the next numbers, all at once, where it can.
+    /// Answers how many it took. After `NoMemory` all is as before.
+    pub fn enqueue_run(
+        &mut self,
+        slot: u32,
+        events: &VecDeque<Stored>,
+        from: usize,
+    ) -> Result<usize, NoMemory>
+        requires live { IsSome (slot_at self.old slot) }
+        requires few { last_at (slot_at self.old slot) + (length events.now.items - from) ≤ GREATEST_NUMBER }
+        requires admits { ForSome (slot_at self.old slot)
+            (λ b. All (λ x. AnyAdmits b x.event) (drop from events.now.items)) }
+        ensures one { OnOk result (self.new ≡ set_slot self.old slot (slot_at self.new slot)) }
+        ensures live { OnOk result (IsSome (slot_at self.new slot)) }
+        ensures most { IfOk result (λ n. n ≤ length events.now.items - from) }
+        ensures last { IfOk result (λ n. last_at (slot_at self.new slot) ≡ last_at (slot_at self.old slot) + n) }
+        ensures sound { IfOk result (λ n. (p : Shape) (number kept : ℕ) → last_at (slot_at self.old slot) + n ≤ number
+            → EachSlot (IsSlotOf p number kept) self.old → EachSlot (IsSlotOf p number kept) self.new) }
+        ensures stands { IfOk result (λ n. (p : Shape) (ss : List (Option Slot)) (h : List Entry) (s : Slot)
+            → StandsAll (StandsSlot p) self.old ss h → slot_at ss slot ≡ Some s
+            → IsRun s h (take n (drop from events.now.items)) → StandsAll (StandsSlot p) self.new
+            (set_slot ss slot (Some (record s { last = s.last + n }))) h) }
+        ensures err { OnErr result (self.new ≡ self.old) }
+    {
+        let taken = enqueue_run_at(&mut self.slots[slot as usize - 1], events, from)?;
+        Ok(taken)
     }
 
     /// Moves a live slot past its next cut, of which there is one. It takes no memory.
@@ -260,6 +290,34 @@ fn enqueue_at(slot: &mut Option<AnyBuffer>, event: &Stored) -> Result<(), NoMemo
         Some(buffer) => {
             Buffer::enqueue(buffer, event)?;
             Ok(())
+        }
+    }
+}
+
+/// Has a live slot take the events from an index on all at once, where it can; how many it took.
+fn enqueue_run_at(
+    slot: &mut Option<AnyBuffer>,
+    events: &VecDeque<Stored>,
+    from: usize,
+) -> Result<usize, NoMemory>
+    requires live { IsSome slot.old }
+    requires few { last_at slot.old + (length events.now.items - from) ≤ GREATEST_NUMBER }
+    requires admits { ForSome slot.old (λ b. All (λ x. AnyAdmits b x.event) (drop from events.now.items)) }
+    ensures live { OnOk result (IsSome slot.new) }
+    ensures most { IfOk result (λ n. n ≤ length events.now.items - from) }
+    ensures last { IfOk result (λ n. last_at slot.new ≡ last_at slot.old + n) }
+    ensures sound { IfOk result (λ n. (p : Shape) (number kept : ℕ) → last_at slot.old + n ≤ number
+        → IsAt (IsSlotOf p number kept) slot.old → IsAt (IsSlotOf p number kept) slot.new) }
+    ensures stands { IfOk result (λ n. (p : Shape) (s : Slot) (h : List Entry)
+        → StandsAt (StandsSlot p) slot.old (Some s) h → IsRun s h (take n (drop from events.now.items))
+        → StandsAt (StandsSlot p) slot.new (Some (record s { last = s.last + n })) h) }
+    ensures err { OnErr result (slot.new ≡ slot.old) }
+{
+    match slot {
+        None => unreachable!(),
+        Some(buffer) => {
+            let taken = buffer.enqueue_run(events, from)?;
+            Ok(taken)
         }
     }
 }

@@ -5,7 +5,7 @@ use Rattle.ls_value.specs.declared.row.Cell.{Cell}
 use Rattle.ls_value.specs.declared.row.Value.{Value}
 use Rattle.ls_value.proofs.Rows.{applied_length}
 use Rattle.ls_event.specs.declared.event.Event.{Event}
-use Rattle.ls_merge.specs.Merge.{Merge, stepped, due, merge_passed, is_over, with_event, merge_after}
+use Rattle.ls_merge.specs.Merge.{Merge, stepped, due, merge_passed, is_over, within_size, with_event, merge_after}
 
 due_row_length : (b : Merge) → length (due b).row ≡ length b.row
 due_row_length b = by_owed b.owed (slice_get b.later 0)
@@ -18,12 +18,15 @@ due_row_length b = by_owed b.owed (slice_get b.later 0)
 pub passed_row_length : (b : Merge) → length (merge_passed b).row ≡ length b.row
 passed_row_length b = due_row_length b
 
-pub after_row_length : (b : Merge) (event : Event) → length (merge_after b event).row ≡ length b.row
-after_row_length b event = by_size (is_over (with_event b event))
+pub within_row_length : (b : Merge) → length (within_size b).row ≡ length b.row
+within_row_length b = by_size (is_over b)
   where
-    by_size : (v : Bool) → length (cond v (due (with_event b event)) (with_event b event)).row ≡ length b.row
-    by_size true = due_row_length (with_event b event)
+    by_size : (v : Bool) → length (cond v (due b) b).row ≡ length b.row
+    by_size true = due_row_length b
     by_size false = refl
+
+pub after_row_length : (b : Merge) (event : Event) → length (merge_after b event).row ≡ length b.row
+after_row_length b event = within_row_length (with_event b event)
 
 -- what is said later has as many cells as a row of the same length
 pub rest_fits : (row made : List Value) (later : List (List Cell)) → All (λ cells. length cells ≡ length row) later → length made ≡ length row

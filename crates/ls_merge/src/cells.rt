@@ -70,7 +70,7 @@ pub fn said_cells(alloc: Global, event: &Event, fields: usize) -> Result<Cells, 
 }
 
 /// So many nulls.
-fn null_cells(alloc: Global, n: usize) -> Result<Vec<Cell>, NoMemory>
+pub fn null_cells(alloc: Global, n: usize) -> Result<Vec<Cell>, NoMemory>
     ensures { IfOk result (λ cells. cells.items ≡ replicate n Cell.Null) }
 {
     let mut cells = Vec::with_capacity(alloc, n)?;

@@ -11,5 +11,6 @@
 mod as_buffer;
 mod cells;
 mod merge;
+mod runs;
 
 pub use merge::MergeBuffer;

@@ -1,6 +1,6 @@
 //! The buffer of a slot in mode MERGE of every size.
 ghost use Rattle.std.specs.Prelude.{◌≡◌, ◌+◌, ◌-◌, ◌<◌, ◌≤◌, ◌&&◌, ℕ, List, [], true, false, Option, None, Some};
-ghost use Rattle.std.specs.Prelude.{IfOk, OnOk, OnErr, IsSome, length, replicate, nat_lt, if◌then◌else◌};
+ghost use Rattle.std.specs.Prelude.{IfOk, OnOk, OnErr, IsSome, IsTrue, All, take, drop, length, replicate, nat_lt, if◌then◌else◌};
 ghost use Rattle.ls_value.specs.declared.limits.TheConstants.{GREATEST_NUMBER};
 ghost use Rattle.ls_event.specs.declared.limits.TheConstants.{MOST_BUFFER_SIZE};
 ghost use Rattle.ls_event.specs.History.{HasFields};
@@ -9,9 +9,11 @@ ghost use Rattle.ls_event.specs.Cuts.{Fits, flagged_cells};
 ghost use Rattle.ls_event.specs.declared.event.Entry.{Entry};
 ghost use Rattle.ls_merge.specs.Merge.{StandsMerge, IsJoining, due, is_over, merge_is_pending, merge_change};
 ghost use Rattle.ls_merge.specs.Merge.{merge_head, merge_passed, merge_after, within_size};
+ghost use Rattle.ls_merge.specs.Runs.{merge_run};
 
 use crate::cells::{cells_at, cells_with, clear_flags, flags, merge, said_cells};
-use ls_event::{Event, Taken};
+use crate::runs::said_but_last;
+use ls_event::{Event, Stored, Taken};
 use ls_value::{Cells, NoMemory, Row};
 use std::alloc::Global;
 use std::collections::VecDeque;
@@ -133,6 +135,37 @@ impl MergeBuffer {
         self.last += 1;
         self.merge_first();
         Ok(())
+    }
+
+    /// Takes the events from an index on, which are those of the next numbers and have a cell for each field, as `enqueue`
+    /// does one after another, but copies a field's text once. Answers how many it took: all of them where the size is 1,
+    /// and else none. After `NoMemory` it is as before.
+    pub fn enqueue_run(&mut self, events: &VecDeque<Stored>, from: usize) -> Result<usize, NoMemory>
+        requires few { self.old.last + (length events.now.items - from) ≤ GREATEST_NUMBER }
+        requires fields { All (λ x. HasFields (length self.old.row) x.event) (drop from events.now.items) }
+        ensures took { IfOk result (λ n. self.new ≡ merge_run self.old (take n (drop from events.now.items))) }
+        ensures most { IfOk result (λ n. n ≤ length events.now.items - from) }
+        ensures err { OnErr result (self.new ≡ self.old) }
+    {
+        let count = events.len();
+        if from >= count || !self.is_single() {
+            return Ok(0);
+        }
+        let fields = self.row.len();
+        let last = said_cells(self.alloc, &events[count - 1].event, fields)?;
+        let others = said_but_last(self.alloc, events, from, fields)?;
+        self.later.push_back(last)?;
+        self.last += (count - from) as u64;
+        self.merge_first();
+        merge(&mut self.row, &mut self.touched, others);
+        Ok(count - from)
+    }
+
+    /// Whether its size is 1, and it holds no more.
+    fn is_single(&self) -> bool
+        ensures { IsTrue result → (self.now.size ≡ 1) × (is_over self.now ≡ false) }
+    {
+        self.size == 1 && !self.is_over()
     }
 
     /// Merges the first event into the state, where there are more than the size.

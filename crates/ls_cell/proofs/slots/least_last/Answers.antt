@@ -1,4 +1,4 @@
-use Rattle.std.proofs.Common.{◌+◌, ◌≤◌, arith, drop, get_or, subst, sym}
+use Rattle.std.proofs.Common.{◌≤◌, arith, subst, sym}
 use Rattle.std.proofs.lemmas.List.{drop_more}
 use Rattle.ls_cell.specs.Any.{any_last}
 use Rattle.ls_cell.specs.Numbered.{IsAt, EachSlot}

@@ -1,27 +1,12 @@
-use Rattle.std.proofs.Common.{subst, sym, ap, ◌∙◌, ◌≡◌, ◌+◌, ◌-◌, ◌≤◌, ℕ, zero, suc, List, Option, None, IsSome, get_or, set, arith}
-use Rattle.std.proofs.lemmas.List.{length-set, get_or-set_same}
+use Rattle.std.proofs.Common.{subst, sym, ap, ◌∙◌, ◌≡◌, ◌+◌, ◌-◌, ◌≤◌, None, IsSome, get_or, arith}
+use Rattle.std.proofs.lemmas.List.{length-set}
 use Rattle.std.specs.Option.{ForSome}
 use Rattle.ls_cell.specs.Any.{AnyAdmits, any_last}
 use Rattle.ls_cell.specs.Numbered.{slot_at, set_slot, IsAt, EachSlot, StandsAll}
 use Rattle.ls_cell.specs.Standing.{IsSlotOf, StandsSlot, last_at}
-use Rattle.ls_cell.proofs.Changes.{slot_read, within, each_set, slot_each, stands_set, slot_stands, live_at, live_kept, free_kept, read_live}
+use Rattle.ls_cell.proofs.Changes.{here, put_there, each_set, slot_each, stands_set, slot_stands, live_at, live_kept, free_kept, read_live}
 use Rattle.ls_cell.proofs.Least.{least_kept}
 use Rattle.ls_cell.proofs.slots.Slots.enqueue.Goals as goal
-
--- what stands at the number
-here : {B : Type 0} (items now : List (Option B)) (n : ℕ) (b : Option B) → items ≡ now → IsSome (slot_at now n)
-    → b ≡ get_or items (n - 1) b → b ≡ slot_at now n
-here items now n b same live value =
-    slot_read items n b (subst (λ t. IsSome (slot_at t n)) (sym same) live) value ∙ ap (λ t. slot_at t n) same
-
--- and what is put there
-put_there : {B : Type 0} (items now : List (Option B)) (n : ℕ) (b : Option B) → items ≡ now → IsSome (slot_at now n)
-    → slot_at (set_slot items n b) n ≡ b
-put_there items now zero b same live = cc
-put_there items now (suc i) b same live =
-    let low = (within items (suc i) (subst (λ t. IsSome (slot_at t (suc i))) (sym same) live)).low in
-    ap (λ k. get_or (set items k b) i None) {x = suc i - 1} {y = i} (omega arith)
-    ∙ get_or-set_same items i b None (omega (arith, low))
 
 pub enqueue_at-requires-clause-live : goal.enqueue_at-requires-clause-live
 enqueue_at-requires-clause-live c = subst (λ o. IsSome o) (sym (here c.self.inside.slots.items c.args.self.now c.args.slot c.index_mut.result.now

@@ -1,5 +1,5 @@
-use Rattle.ls_cell.proofs.CellStands.{Going}
-use Rattle.ls_cell.proofs.cell.ItemCell.catch_up.Given as goal
+use Rattle.ls_cell.specs.Cell.{Going}
+use Rattle.ls_cell.proofs.cell.ItemCell.enqueue_each.Given as goal
 
 abbrev pub invariant-loop : goal.invariant-loop
 invariant-loop l = Going l.initial.self l.self l.slot l.counter
