@@ -373,6 +373,10 @@ fn merge_slots_tell_changes(rt: HostRuntime) -> Result<(), Fail> {
             "1@0 2@0 3@0 1 2 1 1 2 0 #|#|1@1 #|#|1@1 #|#|2@2 #|#|1@1 =|=|2@2",
         ),
         (
+            "jM1- a=1 key=x a=2 key=y c1 t1 command=z key=w ! a=3 c1 t1 t1",
+            "1@0 1 2 3 4 0 y|#|2@4 5 6 7 8 0 #|#|3@8 none",
+        ),
+        (
             "key=1 command=GO key=# a=$ jM1a t1 a=~4094 a=~4095",
             "1 2 3 4 1@4 #|GO|@4 5 toolong4097",
         ),
@@ -382,6 +386,58 @@ fn merge_slots_tell_changes(rt: HostRuntime) -> Result<(), Fail> {
             holds(rt.alloc(), Kind::Merge, script, answers)?,
             "{script}"
         );
+    }
+    Ok(())
+}
+
+/// Whether the next cuts of slots 1 and 2 are the same, to the last one.
+fn agree(alloc: Global, cell: &mut ItemCell) -> Result<bool, Fail> {
+    for _ in 0..64 {
+        let one = taken(alloc, cell, 1)?;
+        let other = taken(alloc, cell, 2)?;
+        if one.as_str() != other.as_str() {
+            return Ok(false);
+        }
+        if one.as_str() == "none" {
+            return Ok(true);
+        }
+    }
+    Ok(false)
+}
+
+/// Whether slots 1 and 2 of a new item tell the same: at each `.` slot 1 catches up, and slot 2 enqueues each event.
+fn tell_the_same(alloc: Global, script: &str) -> Result<bool, Fail> {
+    let mut cell = item(alloc, Kind::Merge)?;
+    for word in script.split(' ') {
+        if word != "." {
+            let _answer = answer(alloc, &mut cell, word)?;
+            continue;
+        }
+        let _caught_up = caught_up(alloc, &mut cell, 1)?;
+        let _enqueued = answer(alloc, &mut cell, "64*e2")?;
+        if !agree(alloc, &mut cell)? {
+            return Ok(false);
+        }
+    }
+    Ok(true)
+}
+
+#[test]
+fn to_catch_up_is_to_enqueue_each_event(rt: HostRuntime) -> Result<(), Fail> {
+    let scripts = [
+        "jM1- jM1- a=1 a=2 key=x . a=3 a=4 . key=1 a=5 key=2 command=y . a=6 .",
+        "jM1- jM1- a=1 ! . ! a=2 . ! ! . key=1 ! command=2 ! a=3 . a=# key=# .",
+        "a=1 key=2 jM1a jM1a a=3 key=4 . a=5 .",
+        "a=1 key=2 jM1a jM1a . a=3 key=4 a=5 .",
+        "jM1- jM1- a=1 e1 e2 key=2 a=3 a=4 . key=5 e1 a=6 e2 key=7 .",
+        "jM1- jM1- 64*a=@ . key=1 63*a=@ . ! 30*a=@,key=@ .",
+        "jM1- jM1- a=~300 key=~300 a=~200 command=~400 . key=~20 key=~15 key=~16 .",
+        "jM2- jM2- a=1 a=2 key=3 . a=4 ! a=5 .",
+        "jM9a jM9a a=1 a=2 key=3 . 20*a=@ .",
+        "jR1- jR1- a=1 a=2 key=3 . 20*a=@ .",
+    ];
+    for script in scripts {
+        assert!(rt; tell_the_same(rt.alloc(), script)?, "{script}");
     }
     Ok(())
 }
