@@ -26,9 +26,13 @@ impl Signal {
         self.rings.load(Ordering::SeqCst)
     }
 
-    /// Rings it.
-    fn ring(&self) {
+    /// Counts a ring, and wakes nobody yet.
+    fn note(&self) {
         self.rings.fetch_add(1, Ordering::SeqCst);
+    }
+
+    /// Wakes who waits.
+    fn wake(&self) {
         if self.is_awaited.load(Ordering::SeqCst) != 0
             && self.is_awaited.swap(0, Ordering::SeqCst) != 0
         {
@@ -75,7 +79,8 @@ impl CommonBell {
 
     /// Rings it: every thread that waits for it goes on.
     pub fn ring(&self) {
-        self.signal.ring();
+        self.signal.note();
+        self.signal.wake();
     }
 
     /// Waits as for a [`Bell`].
@@ -90,9 +95,12 @@ impl CommonBell {
 /// contract speaks of time, nor of who wakes.
 ///
 /// Once it is tied to a [`CommonBell`], it passes its rings on to that, for a thread that waits for many bells.
+///
+/// A ring may be a call: then it says that a peer has sent something, or has left. Calls are counted apart, too.
 #[derive(Drop)]
 pub struct Bell {
     signal: Signal,
+    calls: AtomicU64,
     common: OnceLock<Arc<CommonBell, Global>>,
 }
 
@@ -101,6 +109,7 @@ impl Bell {
     pub fn new() -> Bell {
         Bell {
             signal: Signal::new(),
+            calls: AtomicU64::new(0),
             common: OnceLock::new(),
         }
     }
@@ -110,11 +119,39 @@ impl Bell {
         self.signal.rings()
     }
 
-    /// Rings it: every thread that waits goes on.
+    /// How many of these rings were calls, modulo 2^64.
+    pub fn calls(&self) -> u64 {
+        self.calls.load(Ordering::SeqCst)
+    }
+
+    /// Rings it: every thread that waits goes on. It is a [`note`](Bell::note) and a [`wake`](Bell::wake).
     pub fn ring(&self) {
-        self.signal.ring();
+        self.note();
+        self.wake();
+    }
+
+    /// Counts a call, and rings it.
+    pub fn call(&self) {
+        self.calls.fetch_add(1, Ordering::SeqCst);
+        self.ring();
+    }
+
+    /// Counts a ring, here and at the common bell, and wakes nobody yet: a thread that sleeps may sleep on until
+    /// [`wake`](Bell::wake) is called. Who rings many bells at once notes each of them before any is woken. Then a thread
+    /// that waits for many of them finds them all rung when it wakes.
+    pub fn note(&self) {
+        self.signal.note();
         if let Some(common) = self.common.get() {
-            common.ring();
+            common.signal.note();
+        }
+    }
+
+    /// Wakes every thread that waits for it, or for its common bell. Without a note before it, a thread that wakes finds
+    /// that nothing was rung.
+    pub fn wake(&self) {
+        self.signal.wake();
+        if let Some(common) = self.common.get() {
+            common.signal.wake();
         }
     }
 

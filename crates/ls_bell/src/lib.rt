@@ -17,6 +17,22 @@
 //! common.wait(rt, seen, 10);
 //! ```
 //!
+//! Who rings many bells at once may note each of them first, and wake the threads after that:
+//!
+//! ```text
+//! one.note();
+//! other.note();
+//! one.wake();                     // who waits for the common bell of both finds both rung
+//! other.wake();
+//! ```
+//!
+//! Who has a bell rung when a peer sends something calls it, so that a thread which wakes can tell such a ring from others:
+//!
+//! ```text
+//! bell.call();
+//! let heard = bell.calls();
+//! ```
+//!
 //! It is shared by reference or in an `Arc`. It takes no memory, and no contract speaks of time.
 #![tactic(auto)]
 

@@ -50,15 +50,15 @@ pub(crate) enum Replied {
 }
 
 /// What a connection has: its view of the register, what was seen of sessions by its last message, its stream, and the
-/// tick, in ms, at which it was last looked for a message in vain; and how often the bell of its stream had been rung
-/// before that look, where that is rung at a message.
+/// tick, in ms, at which it was last looked for a message in vain; and how often the bell of its stream had been called
+/// before that look, where that is called at a message.
 #[derive(Drop)]
 pub(crate) struct Desk<N: House> {
     pub(crate) view: View<N>,
     pub(crate) seen: Seen<N>,
     pub(crate) stream: Option<Running<N>>,
     pub(crate) looked: Option<u64>,
-    pub(crate) rings: Option<u64>,
+    pub(crate) calls: Option<u64>,
 }
 
 /// Puts a line as an answer.

@@ -10,7 +10,7 @@
 //! ```
 //!
 //! Requests and lines take turns: while both wait, one message is read, and one line given. Where neither waits, the
-//! session's bell wakes the connection, which is rung at messages too where the talk can have that.
+//! session's bell wakes the connection, which is called at messages where the talk can have that.
 //!
 //! [`serve_ws`] sleeps in a thread of its own. A [`Socket`] is the same connection between two turns, none of which
 //! sleeps, so one thread can give turns to many:

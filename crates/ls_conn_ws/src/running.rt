@@ -37,7 +37,7 @@ pub(crate) struct Running<N: House> {
     /// Whether it goes on.
     pub(crate) runs: bool,
 
-    /// Whether the session's bell is rung where a message comes, too.
+    /// Whether the session's bell is called where a message comes.
     pub(crate) wakes: bool,
 
     /// The tick of its last line, or at which it began.
@@ -277,8 +277,8 @@ pub(crate) fn leave<N: House, R: Wait>(
     }
 }
 
-/// A stream begins, in place of the one before, which is left. From now on its session's bell is rung where a message
-/// comes, too, if the talk can have that.
+/// A stream begins, in place of the one before, which is left. From now on its session's bell is called where a message
+/// comes, if the talk can have that.
 pub(crate) fn begin<N: House, R: Wait, T: Wakes>(
     rt: &R,
     shared: &Shared<N>,
@@ -319,12 +319,12 @@ pub(crate) fn rings_of<N: House>(stream: &Option<Running<N>>) -> u64 {
     }
 }
 
-/// How often the bell of the stream's session was rung, where it is rung at a message, too.
+/// How often the bell of the stream's session was called, where it is called at a message.
 pub(crate) fn calls_of<N: House>(stream: &Option<Running<N>>) -> Option<u64> {
     match stream {
         Some(running) => {
             if running.runs && running.wakes {
-                Some(running.told.bell().rings())
+                Some(running.told.bell().calls())
             } else {
                 None
             }

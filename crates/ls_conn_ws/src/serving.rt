@@ -222,6 +222,12 @@ fn rest_on<T: Talk>(talk: &mut T, ms: u64) -> Step
     }
 }
 
+/// Whether a look for a message can be left out: the bell of the stream is called at messages, and wasn't since a look in
+/// vain. A talk that is behind is looked at, since a read also writes what its peer had no room for.
+fn was_not_called<N: House, T: Wakes>(talk: &T, desk: &Desk<N>) -> bool {
+    !talk.is_behind() && desk.calls.is_some() && desk.calls == calls_of(&desk.stream)
+}
+
 /// Looks for a message at a tick, and answers it; where there is none, rests.
 fn listen<N: House, R: Wait, T: Talk + Wakes>(
     rt: &R,
@@ -244,24 +250,24 @@ fn listen<N: House, R: Wait, T: Talk + Wakes>(
         → RunsOn (ended_by result) idles.new c (T.counts talk.new) f (T.LineOut.faults talk.new) }
     ensures stays { ¬ (ended_by result ≡ Some ConnEnd.Stopped) }
 {
-    let rings = calls_of(&desk.stream);
+    let calls = calls_of(&desk.stream);
     match hear(rt, alloc, shared, talk, now, desk) {
         Heard::Message => {
             *idles = 0;
-            desk.rings = None;
+            desk.calls = None;
             Step::Goes
         }
         Heard::Nothing => {
             desk.looked = Some(now);
-            desk.rings = rings;
+            desk.calls = calls;
             rest(talk, &desk.stream, ms, idles)
         }
         Heard::End(end) => Step::Ended(end),
     }
 }
 
-/// The same after a line of the stream, after which nothing rests. At a tick at which it was looked in vain, it isn't
-/// looked again: each look costs a call of the system.
+/// The same after a line of the stream, after which nothing rests. Each look costs a call of the system: so it isn't looked
+/// where the bell wasn't called, nor again at a tick at which it was looked in vain.
 fn after_line<N: House, R: Wait, T: Talk + Wakes>(
     rt: &R,
     alloc: Global,
@@ -282,14 +288,13 @@ fn after_line<N: House, R: Wait, T: Talk + Wakes>(
     ensures stays { ¬ (ended_by result ≡ Some ConnEnd.Stopped) }
 {
     *idles = 0;
-    if desk.looked == Some(now) {
+    if desk.looked == Some(now) || was_not_called(talk, desk) {
         return Step::Goes;
     }
     listen(rt, alloc, shared, talk, now, desk, None, idles)
 }
 
-/// The same where the stream has nothing to give for so many ms. Where its bell is rung at a message, and wasn't rung since
-/// it was looked in vain, there is none, and it isn't looked again.
+/// The same where the stream has nothing to give for so many ms. It isn't looked where the bell wasn't called.
 fn after_nothing<N: House, R: Wait, T: Talk + Wakes>(
     rt: &R,
     alloc: Global,
@@ -311,7 +316,7 @@ fn after_nothing<N: House, R: Wait, T: Talk + Wakes>(
         → RunsOn (ended_by result) idles.new c (T.counts talk.new) f (T.LineOut.faults talk.new) }
     ensures stays { ¬ (ended_by result ≡ Some ConnEnd.Stopped) }
 {
-    if desk.rings.is_some() && desk.rings == calls_of(&desk.stream) {
+    if was_not_called(talk, desk) {
         *idles = 0;
         return rest_on(talk, ms);
     }
@@ -450,7 +455,7 @@ pub(crate) fn desk_of<N: House, R: Wait>(rt: &R, alloc: Global, shared: &Shared<
         seen: Seen::new(alloc),
         stream: None,
         looked: None,
-        rings: None,
+        calls: None,
     }
 }
 
@@ -491,8 +496,8 @@ pub(crate) fn report<N: House, R: Wait>(
 /// starves the other: between two lines at most one message is answered, and between two messages a line is given,
 /// where there is one. After a look that found no message, lines are given until the next ms before it looks again.
 /// Where there is nothing to do it looks once more, lets go what was held back, and sleeps. Over a talk that can have the
-/// session's bell rung at messages it doesn't look where the bell wasn't rung since the last look; and while a stream goes
-/// on over such a talk, it sleeps until the bell rings, a slot or the keep-alive is due, or `until`
+/// session's bell called at messages it looks only where the bell was called since the last look, or the talk is behind;
+/// and while a stream goes on over such a talk, it sleeps until the bell rings, a slot or the keep-alive is due, or `until`
 /// comes; else it looks again every 10 ms. While no stream goes on, so many looks in a row that find no message as
 /// [`MOST_IDLES`] end the connection. It takes the memory of one line, once, and that of one message and its answers.
 ///

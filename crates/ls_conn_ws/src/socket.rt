@@ -162,7 +162,7 @@ impl<N: House, T: Talk + Wakes> Socket<N, T> {
         }
     }
 
-    /// The bell of that session: it rings where there may be a line, and where a message comes, too, if `is_woken`.
+    /// The bell of that session: it rings where there may be a line, and is called where a message comes, if `is_woken`.
     pub fn bell(&self) -> Option<&Arc<Bell, Global>> {
         match self.running() {
             Some(running) => Some(running.told.bell()),
@@ -170,7 +170,7 @@ impl<N: House, T: Talk + Wakes> Socket<N, T> {
         }
     }
 
-    /// Whether that bell rings where a message comes, too.
+    /// Whether that bell is called where a message comes.
     pub fn is_woken(&self) -> bool {
         match self.running() {
             Some(running) => running.wakes,

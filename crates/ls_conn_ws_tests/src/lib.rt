@@ -8,6 +8,8 @@ mod frames;
 #[cfg(test)]
 mod heads;
 #[cfg(test)]
+mod looks;
+#[cfg(test)]
 mod messages;
 #[cfg(test)]
 mod rung;

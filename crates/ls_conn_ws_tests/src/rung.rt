@@ -1,4 +1,4 @@
-//! A pipe of two ends, each of which rings a bell of the other one.
+//! A pipe of two ends, each of which calls a bell of the other one.
 use ls_bell::Bell;
 use ls_door::Duct;
 use ls_outside::{Got, Pipe, Put, Sink, Source};
@@ -11,7 +11,7 @@ use std::sync::{Arc, Mutex, Wait};
 /// The bell that an end has named, if it has named one.
 type Hook = Arc<Mutex<Option<Arc<Bell, Global>>>, Global>;
 
-/// An end of a pipe. Where it writes, the other end's bell is rung.
+/// An end of a pipe. Where it writes, the other end's bell is called.
 #[derive(Drop)]
 pub(crate) struct Rung<R, C> {
     rt: R,
@@ -26,10 +26,10 @@ pub(crate) struct Rung<R, C> {
     is_counted: bool,
 }
 
-/// Rings a bell, if there is one.
-fn ring<R: Wait>(rt: &R, hook: &Hook) {
+/// Calls a bell, if there is one.
+fn call<R: Wait>(rt: &R, hook: &Hook) {
     if let Some(bell) = &*hook.lock(rt) {
-        bell.ring();
+        bell.call();
     }
 }
 
@@ -84,7 +84,7 @@ impl<R: Wait + Drop, C: Drop> Rung<R, C> {
             ..
         } = self;
         drop(pipe);
-        ring(&rt, &theirs);
+        call(&rt, &theirs);
     }
 }
 
@@ -127,7 +127,7 @@ impl<R: Wait, C: Pipe> Sink for Rung<R, C> {
 
     fn write(&mut self, piece: &[u8]) -> Put {
         let put = self.pipe.write(piece);
-        ring(&self.rt, &self.theirs);
+        call(&self.rt, &self.theirs);
         put
     }
 }
@@ -139,13 +139,13 @@ impl<R: Wait, C: Pipe> Pipe for Rung<R, C> {
 }
 
 impl<R: Wait, C> Wakes for Rung<R, C> {
-    /// The bell is rung once at once: bytes may be there already.
+    /// The bell is called once at once: bytes may be there already.
     fn wake_with(&self, bell: &Arc<Bell, Global>) -> bool {
         let Ok(other) = Arc::try_clone(bell) else {
             return false;
         };
         *self.mine.lock(&self.rt) = Some(other);
-        bell.ring();
+        bell.call();
         true
     }
 }

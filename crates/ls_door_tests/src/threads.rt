@@ -1,4 +1,5 @@
 //! Spawners, bells and ducts.
+use ls_bell::CommonBell;
 use ls_door::{Bell, Duct, STACK_BYTES, Spawner};
 use ls_outside::{Got, Put, Sink, Source};
 use std::marker::Send;
@@ -103,6 +104,22 @@ fn a_thread_that_cannot_be_made_is_a_refusal(rt: HostRuntime) -> Result<(), Fail
     Ok(())
 }
 
+/// How many ms a thread lets go by, so that another one sleeps meanwhile.
+const LATER_MS: u64 = 20;
+
+/// How many ms a thread sleeps at most that is to be woken. It is more than a test may take.
+const LONG_MS: u64 = 100_000;
+
+/// Waits until a bell is rung beyond this count.
+fn wait_for_ring<R: Wait>(rt: &R, bell: &Bell, seen: u64) {
+    for _ in 0..MOST_LOOKS {
+        if bell.rings() != seen {
+            break;
+        }
+        bell.wait(rt, seen, LONG_MS);
+    }
+}
+
 /// Rings a bell, once its thread waits or before.
 fn rings(bell: Arc<Bell>) {
     bell.ring();
@@ -119,14 +136,54 @@ fn a_ring_is_not_lost(rt: HostRuntime) -> Result<(), Fail> {
             .start(rt, Arc::try_clone(&bell)?, |bell| rings(bell))
             .is_ok()
     );
-    for _ in 0..MOST_LOOKS {
-        if bell.rings() != seen {
-            break;
-        }
-        bell.wait(&rt, seen, 100_000);
-    }
-    assert!(rt; bell.rings() == 1);
+    wait_for_ring(&rt, &bell, seen);
+    assert!(rt; bell.rings() == 1 && bell.calls() == 0);
     spawner.settle(&rt);
+    Ok(())
+}
+
+/// Lets some ms go by.
+fn let_pass<R: Wait>(rt: &R) {
+    Bell::new().wait(rt, 0, LATER_MS);
+}
+
+/// Notes a bell once a thread sleeps on it, and wakes the thread later. Then it does so again, by a call.
+fn wakes_twice<R: Wait>(rt: &R, bell: Arc<Bell>) {
+    let_pass(rt);
+    bell.note();
+    let_pass(rt);
+    bell.wake();
+    let_pass(rt);
+    bell.call();
+}
+
+#[test]
+fn a_note_and_a_wake_are_a_ring_and_so_is_a_call(rt: HostRuntime) -> Result<(), Fail> {
+    let bell = Arc::new(rt.alloc(), Bell::new())?;
+    let mut spawner = Spawner::threads(rt.alloc(), STACK_BYTES);
+    let work = move |bell| wakes_twice(&rt, bell);
+    assert!(rt; spawner.start(rt, Arc::try_clone(&bell)?, work).is_ok());
+    wait_for_ring(&rt, &bell, 0);
+    wait_for_ring(&rt, &bell, 1);
+    assert!(rt; bell.rings() == 2 && bell.calls() == 1);
+    spawner.settle(&rt);
+    Ok(())
+}
+
+#[test]
+fn a_common_bell_is_noted_with_each_bell(rt: HostRuntime) -> Result<(), Fail> {
+    let common = Arc::new(rt.alloc(), CommonBell::new(7))?;
+    let one = Bell::new();
+    let other = Bell::new();
+    assert!(rt; one.tie(&rt, &common) == Some(7) && other.tie(&rt, &common) == Some(7));
+    one.note();
+    other.note();
+    assert!(rt; common.rings() == 2);
+    one.wake();
+    other.wake();
+    assert!(rt; common.rings() == 2);
+    one.call();
+    assert!(rt; common.rings() == 3 && one.calls() == 1 && other.calls() == 0);
     Ok(())
 }
 

@@ -1,4 +1,4 @@
-//! Bells that a watcher rings when a socket has bytes, over loopback.
+//! Bells that a watcher calls when a socket has bytes, over loopback.
 use ls_door::{Bell, Door, Heard, Visit};
 use ls_net::{TcpDoor, TcpPipe, Watcher};
 use ls_outside::{Got, Source};
@@ -12,16 +12,17 @@ use std::thread;
 /// How often a test looks for a visitor or for bytes, before it is marked as failed.
 const MOST_LOOKS: u64 = 10_000_000;
 
-/// How often a test waits for a ring, 10 ms at most, before it is marked as failed.
+/// How often a test waits for a call, 10 ms at most, before it is marked as failed.
 const MOST_WAITS: u32 = 1_000;
 
-/// How many ms a test waits for a ring that isn't to come.
+/// How many ms a test waits for a call that isn't to come.
 const QUIET_MS: u64 = 20;
 
-/// Whether a bell is rung beyond this count.
-fn is_rung<R: Wait>(rt: &R, bell: &Bell, seen: u64) -> bool {
+/// Whether a bell is called beyond this count.
+fn is_called<R: Wait>(rt: &R, bell: &Bell, heard: u64) -> bool {
     for _ in 0..MOST_WAITS {
-        if bell.rings() != seen {
+        let seen = bell.rings();
+        if bell.calls() != heard {
             return true;
         }
         bell.wait(rt, seen, 10);
@@ -66,7 +67,7 @@ fn connected<R: Net<Listener = TcpListener, Stream = TcpStream> + Drop>(
 }
 
 #[test]
-fn bytes_and_a_close_ring_the_bell(rt: HostRuntime) -> Result<(), Fail> {
+fn bytes_and_a_close_call_the_bell(rt: HostRuntime) -> Result<(), Fail> {
     let watcher = Watcher::start(&rt, rt.alloc()).expect(&rt, "a watcher starts");
     let sockets = watcher.sockets().expect(&rt, "there is a hold on it");
     let mut door = TcpDoor::new(rt, watcher.sockets());
@@ -76,16 +77,16 @@ fn bytes_and_a_close_ring_the_bell(rt: HostRuntime) -> Result<(), Fail> {
     let mut piece = [0u8; 1];
     assert!(rt; pipe.wake_with(&bell) && sockets.watched() == 1);
     assert!(rt; pipe.read(&mut piece) == Got::NotYet);
-    let seen = bell.rings();
-    bell.wait(&rt, seen, QUIET_MS);
-    assert!(rt; bell.rings() == seen);
+    let heard = bell.calls();
+    bell.wait(&rt, bell.rings(), QUIET_MS);
+    assert!(rt; bell.calls() == heard);
     client.write_all(b"a").expect(&rt, "the client writes");
-    assert!(rt; is_rung(&rt, &bell, seen));
+    assert!(rt; is_called(&rt, &bell, heard));
     assert!(rt; next_read(&mut pipe, &mut piece) == Got::Bytes(1) && piece == *b"a");
     assert!(rt; pipe.read(&mut piece) == Got::NotYet);
-    let seen = bell.rings();
+    let heard = bell.calls();
     drop(client);
-    assert!(rt; is_rung(&rt, &bell, seen));
+    assert!(rt; is_called(&rt, &bell, heard));
     assert!(rt; next_read(&mut pipe, &mut piece) == Got::End);
     drop(pipe);
     assert!(rt; sockets.watched() == 0);
@@ -94,7 +95,7 @@ fn bytes_and_a_close_ring_the_bell(rt: HostRuntime) -> Result<(), Fail> {
 }
 
 #[test]
-fn bytes_that_are_there_already_ring_the_bell(rt: HostRuntime) -> Result<(), Fail> {
+fn bytes_that_are_there_already_call_the_bell(rt: HostRuntime) -> Result<(), Fail> {
     let watcher = Watcher::start(&rt, rt.alloc()).expect(&rt, "a watcher starts");
     let sockets = watcher.sockets().expect(&rt, "there is a hold on it");
     let mut door = TcpDoor::new(rt, watcher.sockets());
@@ -104,14 +105,14 @@ fn bytes_that_are_there_already_ring_the_bell(rt: HostRuntime) -> Result<(), Fai
     client.write_all(b"abc").expect(&rt, "the client writes");
     assert!(rt; next_read(&mut pipe, &mut piece) == Got::Bytes(1) && piece == *b"a");
     let first = Arc::new(rt.alloc(), Bell::new())?;
-    assert!(rt; pipe.wake_with(&first) && is_rung(&rt, &first, 0));
+    assert!(rt; pipe.wake_with(&first) && is_called(&rt, &first, 0));
     let second = Arc::new(rt.alloc(), Bell::new())?;
-    assert!(rt; pipe.wake_with(&second) && is_rung(&rt, &second, 0));
+    assert!(rt; pipe.wake_with(&second) && is_called(&rt, &second, 0));
     assert!(rt; sockets.watched() == 1);
-    let seen = first.rings();
-    let second_seen = second.rings();
+    let heard = first.calls();
+    let second_heard = second.calls();
     client.write_all(b"d").expect(&rt, "the client writes");
-    assert!(rt; is_rung(&rt, &second, second_seen) && first.rings() == seen);
+    assert!(rt; is_called(&rt, &second, second_heard) && first.calls() == heard);
     drop(pipe);
     assert!(rt; sockets.watched() == 0);
     watcher.settle(&rt);
@@ -119,7 +120,7 @@ fn bytes_that_are_there_already_ring_the_bell(rt: HostRuntime) -> Result<(), Fai
 }
 
 #[test]
-fn without_a_watcher_no_bell_is_rung(rt: HostRuntime) -> Result<(), Fail> {
+fn without_a_watcher_no_bell_is_called(rt: HostRuntime) -> Result<(), Fail> {
     let bell = Arc::new(rt.alloc(), Bell::new())?;
     let mut unwatched = TcpDoor::new(rt, None);
     assert!(rt; matches!(unwatched.listen(0, 0), Heard::Ready { .. }));
@@ -138,7 +139,7 @@ fn without_a_watcher_no_bell_is_rung(rt: HostRuntime) -> Result<(), Fail> {
 }
 
 #[test]
-fn a_visitor_rings_the_doors_bell(rt: HostRuntime) -> Result<(), Fail> {
+fn a_visitor_calls_the_doors_bell(rt: HostRuntime) -> Result<(), Fail> {
     let watcher = Watcher::start(&rt, rt.alloc()).expect(&rt, "a watcher starts");
     let sockets = watcher.sockets().expect(&rt, "there is a hold on it");
     let mut door = TcpDoor::new(rt, watcher.sockets());
@@ -147,13 +148,13 @@ fn a_visitor_rings_the_doors_bell(rt: HostRuntime) -> Result<(), Fail> {
     assert!(rt; matches!(door.listen(0, 0), Heard::Ready { .. }));
     assert!(rt; door.wake_with(&bell) && sockets.watched() == 2);
     let (port, feed) = door.ports();
-    let seen = bell.rings();
+    let heard = bell.calls();
     let client = TcpStream::connect(&rt, ("127.0.0.1", port)).expect(&rt, "a client comes");
-    assert!(rt; is_rung(&rt, &bell, seen));
+    assert!(rt; is_called(&rt, &bell, heard));
     let pipe = next_client(&mut door).expect(&rt, "the client is let in");
-    let seen = bell.rings();
+    let heard = bell.calls();
     let publisher = TcpStream::connect(&rt, ("127.0.0.1", feed)).expect(&rt, "a feed comes");
-    assert!(rt; is_rung(&rt, &bell, seen));
+    assert!(rt; is_called(&rt, &bell, heard));
     drop(pipe);
     drop(client);
     drop(publisher);

@@ -136,7 +136,7 @@ impl Listeners {
         feed_at(&self.feeds)
     }
 
-    /// Has a bell rung whenever someone comes to either port. Answers whether it will be.
+    /// Has a bell called whenever someone comes to either port. Answers whether it will be.
     fn wake_with(&self, bell: &Arc<Bell, Global>) -> bool {
         self.clients_seat.take(self.clients.as_raw_fd(), bell)
             && self.feeds_seat.take(self.feeds.as_raw_fd(), bell)

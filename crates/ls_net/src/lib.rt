@@ -4,7 +4,7 @@
 //! of ls_outside, ls_wake or ls_door, in a few lines over the kit's sockets and clock. What the system does is trusted: a
 //! socket tells nothing of its bytes, and no contract speaks of time.
 //!
-//! A `Watcher` is one thread that waits for the bytes of all clients at once, and rings the bell that a connection named,
+//! A `Watcher` is one thread that waits for the bytes of all clients at once, and calls the bell that a connection named,
 //! so that a thread which waits for both a bell and bytes need not look at its socket again and again.
 //!
 //! ```text

@@ -40,7 +40,7 @@ pub(crate) fn is_later(error: &Error) -> bool
 /// Bytes are sent at once (`set_nodelay`). The connection is closed when the pipe is dropped, in stages (RFC 9112, 9.6), so
 /// that a peer which still sends gets what was written.
 ///
-/// A client's pipe that a watcher watches can have a bell rung when bytes are there (`Wakes`). Where its writes aren't to
+/// A client's pipe that a watcher watches can have a bell called when bytes are there (`Wakes`). Where its writes aren't to
 /// wait, it keeps what there is no room for, and waits only for want of memory. A read or a write before which it can't
 /// write what it keeps fails; that is so after `ROOM_MS` without room, once writes are to wait again.
 pub struct TcpPipe {
@@ -253,7 +253,7 @@ impl Pipe for TcpPipe {
 }
 
 impl Wakes for TcpPipe {
-    /// A feed's pipe, and a client's that no watcher watches, rings no bell.
+    /// A feed's pipe, and a client's that no watcher watches, calls no bell.
     fn wake_with(&self, bell: &Arc<Bell, Global>) -> bool
         ensures unwatched { self.now.seat.sockets ≡ None → result ≡ false }
     {

@@ -1,4 +1,4 @@
-//! Who rings a bell when a socket has bytes.
+//! Who calls a bell when a socket has bytes.
 ghost use Rattle.std.specs.Prelude.{◌≡◌, None, false};
 
 use ls_bell::Bell;
@@ -60,7 +60,7 @@ impl WatchedSockets {
         self.watched.load(Ordering::SeqCst)
     }
 
-    /// Whether nobody rings the bells any more.
+    /// Whether nobody calls the bells any more.
     pub fn is_over(&self) -> bool {
         self.over.load(Ordering::SeqCst) != 0
     }
@@ -97,11 +97,11 @@ impl WatchedSockets {
         reported.is_ok()
     }
 
-    /// Rings the bells of the sockets that the system reported.
-    fn ring(&self, events: &Events) {
+    /// Calls the bells of the sockets that the system reported.
+    fn call(&self, events: &Events) {
         for event in events.iter() {
             if let Some(bell) = self.bells.get(event.token().0) {
-                bell.value().ring();
+                bell.value().call();
             }
         }
     }
@@ -140,7 +140,7 @@ impl Seat {
         }
     }
 
-    /// Has the bell rung whenever this socket, which is the connection's one and only, has bytes or its end. Answers
+    /// Has the bell called whenever this socket, which is the connection's one and only, has bytes or its end. Answers
     /// whether it will be; if not, what was before stays. Where there is no watcher it never is.
     pub(crate) fn take(&self, socket: RawFd, bell: &Arc<Bell, Global>) -> bool
         ensures { self.now.sockets ≡ None → result ≡ false }
@@ -177,11 +177,11 @@ impl Seat {
     }
 }
 
-/// Rings bells until it is to end, or the system's wait fails.
+/// Calls bells until it is to end, or the system's wait fails.
 fn keep_watch<R: Wait>(rt: &R, mut poll: Poll, mut events: Events, sockets: &WatchedSockets) {
     for _ in rt.forever() {
         let waited = poll.poll(&mut events, Some(Duration::from_millis(LOOK_MS)));
-        sockets.ring(&events);
+        sockets.call(&events);
         if waited.is_err() || sockets.is_over() {
             break;
         }
@@ -189,7 +189,7 @@ fn keep_watch<R: Wait>(rt: &R, mut poll: Poll, mut events: Events, sockets: &Wat
     sockets.over.store(1, Ordering::SeqCst);
 }
 
-/// A thread that rings the bells of connections whose sockets have bytes. It sleeps in one call of the system for all of
+/// A thread that calls the bells of connections whose sockets have bytes. It sleeps in one call of the system for all of
 /// them, and does as much work as there are events.
 #[derive(Drop)]
 pub struct Watcher {
@@ -199,7 +199,7 @@ pub struct Watcher {
 
 impl Watcher {
     /// Starts a watcher. `None` where the system gives no thread, or no set of sockets to wait for, and for want of
-    /// memory: then nobody rings, and who waits for bytes has to look again and again.
+    /// memory: then nobody calls, and who waits for bytes has to look again and again.
     pub fn start<R: Threads + Wait + Net + Copy + Send + 'static>(
         rt: &R,
         alloc: Global,
@@ -219,7 +219,7 @@ impl Watcher {
         Arc::try_clone(&self.sockets).ok()
     }
 
-    /// Ends it: no bell is rung from now on, and its thread is joined.
+    /// Ends it: no bell is called from now on, and its thread is joined.
     pub fn settle<R: Threads>(self, rt: &R) {
         let Watcher { sockets, thread } = self;
         sockets.end();

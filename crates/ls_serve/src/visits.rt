@@ -89,10 +89,6 @@ fn serve_leaver<N: House, R: Wait, P: Pipe + Wakes + Drop, C: Clock + Drop>(
     } = host;
     let shared = &common.shared;
     let workers = &common.workers;
-    // What its peer had no room for goes out when it is looked for a message, and a stream whose bell wasn't rung isn't.
-    if let Some(bell) = socket.bell() {
-        bell.ring();
-    }
     workers.serve(rt, shared, &mut clock, &OpenGate, until, socket);
 }
 

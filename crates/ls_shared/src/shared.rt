@@ -304,9 +304,12 @@ fn offer_to<N: House, R: Wait>(
     live.publish_copied(pass, seq, event, copied)
 }
 
-/// Rings each bell.
+/// Rings each bell. No thread is woken before all of them are noted: so one that waits for many finds all of them rung.
 fn ring(bells: &Vec<Arc<Bell, Global>, Global>) {
     for bell in bells.iter() {
-        bell.ring();
+        bell.note();
+    }
+    for bell in bells.iter() {
+        bell.wake();
     }
 }

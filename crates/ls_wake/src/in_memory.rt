@@ -1,4 +1,4 @@
-//! Connections in memory, which ring no bell.
+//! Connections in memory, which call no bell.
 ghost use Rattle.std.specs.Prelude.{◌≡◌, false};
 
 use crate::wakes::Wakes;

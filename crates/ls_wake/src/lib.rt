@@ -20,8 +20,8 @@
 //! if conn.is_behind() { /* gives it to a thread of its own */ }
 //! ```
 //!
-//! Pipes and talks in memory never ring a bell, and keep nothing: their calls go by lists. No contract speaks of time, nor
-//! of whether a bell rings.
+//! Pipes and talks in memory never call a bell, and keep nothing: their own calls go by lists. No contract speaks of time,
+//! nor of whether a bell rings.
 #![tactic(auto)]
 
 mod in_memory;

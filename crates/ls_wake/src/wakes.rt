@@ -1,14 +1,14 @@
-//! Who rings a bell at the peer's bytes, and for whom no write waits.
+//! Who calls a bell at the peer's bytes, and for whom no write waits.
 
 use ls_bell::Bell;
 use std::alloc::Global;
 use std::sync::Arc;
 
-/// A connection that may ring a bell when there is something to read, and may keep what its peer has no room for.
+/// A connection that may call a bell when there is something to read, and may keep what its peer has no room for.
 pub trait Wakes {
-    /// Has this bell rung from now on whenever bytes of the peer come, or the peer leaves; at once where some are there
-    /// already. It takes the place of the bell that an earlier call named. One ring may stand for many bytes, so who
-    /// was woken reads until nothing is there, and a bell may ring although there is nothing.
+    /// Has this bell called ([`Bell::call`]) from now on whenever bytes of the peer come, or the peer leaves; at once where
+    /// some are there already. It takes the place of the bell that an earlier `wake_with` named. One call may stand for many
+    /// bytes, so who was woken reads until nothing is there, and a bell may be called although there is nothing.
     ///
     /// Answers whether it will: if not, who waits for bytes has to look again and again. Nothing else of the connection
     /// changes.

@@ -232,7 +232,7 @@ impl<C: Pipe + Drop> Talk for WsWire<C> {
 }
 
 impl<C: Pipe + Wakes + Drop> Wakes for WsWire<C> {
-    /// The pipe rings the bell.
+    /// The pipe calls the bell.
     fn wake_with(&self, bell: &Arc<Bell, Global>) -> bool {
         self.pipe().wake_with(bell)
     }
