@@ -10,6 +10,9 @@ use std::time::Duration;
 struct Signal {
     rings: AtomicU64,
     is_awaited: AtomicU64,
+
+    /// How often the mark was taken away that a thread waits. A thread that waits sleeps only while this stays.
+    wakes: AtomicU64,
 }
 
 impl Signal {
@@ -18,6 +21,7 @@ impl Signal {
         Signal {
             rings: AtomicU64::new(0),
             is_awaited: AtomicU64::new(0),
+            wakes: AtomicU64::new(0),
         }
     }
 
@@ -36,16 +40,18 @@ impl Signal {
         if self.is_awaited.load(Ordering::SeqCst) != 0
             && self.is_awaited.swap(0, Ordering::SeqCst) != 0
         {
-            self.rings.wake_all();
+            self.wakes.fetch_add(1, Ordering::SeqCst);
+            self.wakes.wake_all();
         }
     }
 
     /// Waits until it is rung, but no longer than so many ms.
     fn wait<R: Wait>(&self, rt: &R, seen: u64, ms: u64) {
+        // Asked before the mark is set: so a thread whose mark was taken away doesn't fall asleep without one.
+        let wakes = self.wakes.load(Ordering::SeqCst);
         self.is_awaited.store(1, Ordering::SeqCst);
         if self.rings() == seen {
-            self.rings
-                .park_timeout(rt, (seen & 0xffff_ffff) as u32, Duration::from_millis(ms));
+            self.wakes.park_timeout(rt, (wakes & 0xffff_ffff) as u32, Duration::from_millis(ms));
         }
     }
 }
