@@ -1,13 +1,13 @@
 /* Loads a server over loopback: clients' streams, and a feed. bench/serve compiles and runs it.
  *
- * usage: load PORT FEED http|ws MERGE|RAW STREAMS ITEMS RATE SECONDS UNREAD ok|read
+ * usage: load PORT FEED http|ws MERGE|RAW STREAMS ITEMS RATE SECONDS UNREAD SLOW ok|read
  *
  * Each stream is a session of its own, which subscribes to one item in that mode: stream i to item i modulo ITEMS.
  * The items are named i0, i1 and so on and have the fields seq, stamp, price and size. RATE is how many updates a
  * second the feed publishes, over all items by turns; 0 is as fast as it can, with at most WINDOW lines that have no
  * reply, and with `read` at most WINDOW updates ahead of what the last stream of each item has read, or was told that
  * it lost; -1 is no feed. UNREAD more streams, of the same items, have small buffers and aren't read, so they may be
- * lost.
+ * lost. SLOW more have small buffers, too, and are read SLOW_BYTES a second each.
  *
  * It prints `ready` when all streams are subscribed, and waits for a line. Then the feed publishes for so many seconds,
  * and all streams must come to the last update of their items. It prints what was counted, a name and a number on each
@@ -18,9 +18,12 @@
  * time from just before the feed's write to just after the client's read. */
 #include "load.h"
 
-enum { UNREAD_ROOM = 4096 /* of the socket of a stream that isn't read */ };
+enum {
+    UNREAD_ROOM = 4096, /* of the socket of a stream that isn't read, or slowly */
+    SLOW_BYTES = 1024   /* that a stream which is read slowly is read in a second */
+};
 
-static int port, feed_port, unread;
+static int port, feed_port, unread, slow;
 static bool ws, held_by_reads;
 
 /* Lines of a stream */
@@ -213,9 +216,23 @@ static void *feed_for_seconds(void *unused) {
     return NULL;
 }
 
+/* Reads the last streams slowly, each once a second. What they are told isn't looked at. */
+static void *read_slowly(void *unused) {
+    char bytes[SLOW_BYTES];
+    uint64_t began = now();
+    (void)unused;
+    for (uint64_t turn = 1;; turn++) {
+        for (int i = 0; i < slow; i++) {
+            recv(all[streams + unread + i]->fd, bytes, sizeof bytes, MSG_DONTWAIT);
+            sleep_until(began + (turn * (uint64_t)slow + (uint64_t)i) * SECOND / (uint64_t)slow);
+        }
+    }
+    return NULL;
+}
+
 int main(int count, char **words) {
-    if (count != 11)
-        fail("usage: load PORT FEED http|ws MERGE|RAW STREAMS ITEMS RATE SECONDS UNREAD ok|read");
+    if (count != 12)
+        fail("usage: load PORT FEED http|ws MERGE|RAW STREAMS ITEMS RATE SECONDS UNREAD SLOW ok|read");
     port = atoi(words[1]);
     feed_port = atoi(words[2]);
     ws = strcmp(words[3], "ws") == 0;
@@ -225,11 +242,13 @@ int main(int count, char **words) {
     rate = atoi(words[7]);
     seconds = atof(words[8]);
     unread = atoi(words[9]);
-    held_by_reads = strcmp(words[10], "read") == 0;
+    slow = atoi(words[10]);
+    held_by_reads = strcmp(words[11], "read") == 0;
     head_wanted = ws ? "HTTP/1.1 101 " : "HTTP/1.1 200 ";
-    make_streams(unread);
-    for (int i = 0; i < streams + unread; i += BATCH)
-        open_batch(i, i + BATCH < streams + unread ? i + BATCH : streams + unread);
-    run(feed_for_seconds, NULL);
+    int many = streams + unread + slow;
+    make_streams(unread + slow);
+    for (int i = 0; i < many; i += BATCH)
+        open_batch(i, i + BATCH < many ? i + BATCH : many);
+    run(feed_for_seconds, slow > 0 ? read_slowly : NULL);
     return 0;
 }
