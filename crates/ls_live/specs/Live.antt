@@ -1,5 +1,5 @@
 -- An item with its history, and what an adapter has seen of it (this project's profile).
-use Rattle.std.specs.Prelude.{◌≡◌, ℕ, ◌≤◌, ◌==◌, Bool, false, List, Option, None, Some, Result, Ok, Err, slice_get}
+use Rattle.std.specs.Prelude.{◌≡◌, ℕ, ◌+◌, ◌≤◌, ◌==◌, Bool, false, cond, List, [], ◌∷◌, Option, None, Some, Result, Ok, Err, slice_get}
 use Rattle.atomic_table.specs.Seated.{TableId}
 use Rattle.ls_event.specs.declared.event.Event.{Event}
 use Rattle.ls_event.specs.declared.event.Entry.{Entry}
@@ -11,7 +11,7 @@ use Rattle.ls_event.specs.Publishes.{refusal, IsHistory}
 use Rattle.ls_event.specs.Slots.{Slot}
 use Rattle.ls_event.specs.Textual.{Textual}
 use Rattle.ls_cell.specs.Cell.{Held, StandsCell}
-use Rattle.ls_cell.specs.Numbered.{slot_at}
+use Rattle.ls_cell.specs.Numbered.{slot_at, lags}
 use Rattle.ls_register.specs.Items.{ShowsItem}
 use Rattle.ls_register.specs.Places.{Placed}
 use Rattle.ls_register.specs.Watches.{Watched}
@@ -115,6 +115,12 @@ lagging_in (Err refused.TooManyKeys) = None
 lagging_in (Err (refused.Backlog slot)) = Some slot
 lagging_in (Err refused.Spent) = None
 lagging_in (Err refused.NoMemory) = None
+
+-- how many slots lag by as much as they may
+abbrev pub lagging_count : {B : Type 0} → (B → ℕ) → ℕ → List (Option B) → ℕ
+lagging_count last number [] = 0
+lagging_count last number (b ∷ bs) =
+    cond (lags last number b) (lagging_count last number bs + 1) (lagging_count last number bs)
 
 -- what is kept of an item stands for a history, and for the records of its slots, whichever they are
 abbrev pub StandsFor : Held → List Entry → Type 0

@@ -4,15 +4,20 @@ ghost use Rattle.ls_event.specs.declared.event.Entry.{Entry};
 ghost use Rattle.ls_event.specs.declared.limits.TheConstants.{MOST_ADAPTERS as MOST};
 ghost use Rattle.ls_event.specs.History.{HasFields};
 ghost use Rattle.ls_cell.specs.Cell.{refusal_of};
-ghost use Rattle.ls_live.specs.Live.{StandsFor, KeepsSlots, IsCause, cause_in, entry_of, lagging_in};
+ghost use Rattle.ls_cell.specs.Any.{any_last};
+ghost use Rattle.ls_live.specs.Live.{StandsFor, KeepsSlots, IsCause, cause_in, entry_of, lagging_in, lagging_count};
 
 use ls_cell::ItemCell;
-use ls_event::{Event, PublishRefused};
+use ls_event::{Event, MOST_LAG, MOST_SLOTS, PublishRefused};
 use ls_value::GREATEST_NUMBER;
+
+/// By how many events a slot lags that is caught up together with one that lags by [`MOST_LAG`].
+const MUCH: u64 = MOST_LAG / 2;
 
 /// The first cause that stands against an event of an adapter with this seq, in the order of
 /// [`publish_into`](crate::publish_into) (this project's profile). A slot that lags by [`MOST_LAG`](ls_event::MOST_LAG)
-/// events is caught up, and is no cause: `Backlog` is never answered. Nothing else becomes of a slot.
+/// events is caught up, and so are then those that lag by half as many; it is no cause: `Backlog` is never answered. Nothing
+/// else becomes of a slot.
 ///
 /// # Errors
 ///
@@ -44,8 +49,35 @@ pub fn weigh(
         let Ok(()) = cell.catch_up(slot) else {
             return Err(PublishRefused::NoMemory);
         };
+        catch_up_others(cell);
     }
     cell.check(adapter, seq, event)
+}
+
+/// Catches up each slot that lags by half of what it may: so the next slots that lag so far are found together, and not each
+/// by a look at all. It stops early for want of memory.
+fn catch_up_others(cell: &mut ItemCell)
+    ensures shape { cell.new.item.shape ≡ cell.old.item.shape }
+    ensures number { cell.new.number ≡ cell.old.number }
+    ensures fewer { lagging_count any_last cell.new.number cell.new.slots
+        ≤ lagging_count any_last cell.old.number cell.old.slots }
+    ensures slots { (h : List Entry) → KeepsSlots cell.old h cell.new h }
+{
+    let live = cell.slots();
+    let mut seen: u32 = 0;
+    for index in 0..MOST_SLOTS as u32 {
+        if seen >= live {
+            return;
+        }
+        let slot = index + 1;
+        if !cell.has(slot) {
+            continue;
+        }
+        seen = seen.saturating_add(1);
+        if cell.lag(slot) >= MUCH && cell.catch_up(slot).is_err() {
+            return;
+        }
+    }
 }
 
 /// The slot that an answer names as one that lags.

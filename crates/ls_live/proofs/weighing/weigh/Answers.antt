@@ -4,7 +4,7 @@ use Rattle.ls_cell.specs.Cell.{refusal_of}
 use Rattle.ls_live.specs.Live.{entry_of, lagging_in}
 use Rattle.ls_live.proofs.Causes.{lagging_is}
 use Rattle.ls_live.proofs.Keeping.{keeps_on, keeps_caught}
-use Rattle.ls_live.proofs.Lagging.{goes_first, goes_next, goes_last, far_live, none_lagging}
+use Rattle.ls_live.proofs.Lagging.{goes_first, goes_next, goes_others, goes_last, far_live, none_lagging}
 use Rattle.ls_live.proofs.Lagging.{refused_all, admitted_all, far_all, spent_all, few_all}
 use Rattle.ls_live.proofs.weighing.weigh.Goals as goal
 
@@ -38,8 +38,10 @@ pub loop-preserved : goal.loop-preserved
 loop-preserved c =
     let far : refusal_of c.loop.cell (entry_of c.args.adapter c.args.seq c.args.event.now) ≡ Some (refused.Backlog c.in-Some.slot) =
     lagging_is c.check-found.result _ c.in-Some.slot c.check-found.ensures.err (sym c.lagging.ensures ∙ c.in-Some.is) in
-    goes_next _ c.loop.cell c.catch_up.new.self _ _ _ c.in-Some.slot _ c.loop.invariant far c.catch_up.ensures.rest
-    c.in-Ok.ensures.last c.catch_up.ensures.some c.catch_up.ensures.stands
+    let one = goes_next _ c.loop.cell c.catch_up.new.self _ _ _ c.in-Some.slot _ c.loop.invariant far c.catch_up.ensures.rest
+    c.in-Ok.ensures.last c.catch_up.ensures.some c.catch_up.ensures.stands in
+    goes_others _ c.catch_up.new.self c.catch_up_others.new.cell _ one c.catch_up_others.ensures.shape
+    c.catch_up_others.ensures.fewer c.catch_up_others.ensures.slots
 
 pub returns-clause-admitted : goal.returns-clause-admitted
 returns-clause-admitted c =
