@@ -11,7 +11,7 @@ use ls_conn_http::{ConnEnd, First, Shared, WsWire, serve_first};
 use ls_door::Duct;
 use ls_feed::serve_feed;
 use ls_net::SysClock;
-use ls_outside::{Clock, Got, MemPipe, OpenGate, Pipe, Put, Sink, Source, write_all};
+use ls_outside::{Clock, Got, MemClock, MemPipe, OpenGate, Pipe, Put, Sink, Source, write_all};
 use ls_register::{Blank, House};
 use ls_wake::Wakes;
 use ls_workers::{Socket, Workers};
@@ -91,45 +91,68 @@ fn a_client_at_a_worker_is_told_its_lines_and_lets_it_sleep(rt: HostRuntime) -> 
     Ok(())
 }
 
-/// A pipe whose peer has no room for what is written while writes aren't to wait. It keeps that, and writes it with the
-/// next read or write once they are to wait.
+/// A pipe and what is kept of what was written to it.
+#[derive(Drop)]
+struct Full<C> {
+    pipe: C,
+    kept: Vec<u8>,
+}
+
+/// A pipe whose peer has no room for what is written while writes aren't to wait. It keeps that, and writes all of it once
+/// so many tries were in vain.
 #[derive(Drop)]
 struct Behind<C> {
-    pipe: C,
+    full: Cell<Option<Full<C>>>,
     waits: Cell<bool>,
-    kept: Vec<u8>,
+    is_behind: Cell<bool>,
+    tries: Cell<u64>,
+    vain: u64,
     read_faults: u64,
     idles: u64,
     write_faults: u64,
 }
 
 /// A pipe that has kept nothing, and whose writes wait.
-fn behind_of<C>(alloc: Global, pipe: C) -> Behind<C> {
+fn behind_of<C>(alloc: Global, pipe: C, vain: u64) -> Behind<C> {
+    let kept = Vec::new(alloc);
     Behind {
-        pipe,
+        full: Cell::new(Some(Full { pipe, kept })),
         waits: Cell::new(true),
-        kept: Vec::new(alloc),
+        is_behind: Cell::new(false),
+        tries: Cell::new(0),
+        vain,
         read_faults: 0,
         idles: 0,
         write_faults: 0,
     }
 }
 
-/// Writes what is kept, where writes are to wait. Answers whether that went well.
-fn catch_up<C: Sink>(pipe: &mut C, waits: bool, kept: &mut Vec<u8>) -> bool {
-    if !waits || kept.is_empty() {
-        return true;
-    }
-    match write_all(pipe, kept.as_slice()) {
-        Put::Taken(_) => {
-            kept.clear();
-            true
+impl<C: Sink + Drop> Behind<C> {
+    /// Tries to write what is kept. Answers how many bytes were written; `None` where that failed.
+    fn attempt(&self) -> Option<usize> {
+        if !self.is_behind.get() {
+            return Some(0);
         }
-        Put::Failed => false,
+        let tries = self.tries.get();
+        if !self.waits.get() && tries < self.vain {
+            self.tries.set(tries.saturating_add(1));
+            return Some(0);
+        }
+        let Full { mut pipe, mut kept } = self.full.replace(None)?;
+        let count = kept.len();
+        let put = write_all(&mut pipe, kept.as_slice());
+        kept.clear();
+        self.full.set(Some(Full { pipe, kept }));
+        self.is_behind.set(false);
+        self.tries.set(0);
+        match put {
+            Put::Taken(_) => Some(count),
+            Put::Failed => None,
+        }
     }
 }
 
-impl<C: Pipe> Source for Behind<C> {
+impl<C: Pipe + Drop> Source for Behind<C> {
     ghost unread = { λ _. None };
 
     ghost faults = { λ b. b.read_faults };
@@ -147,11 +170,10 @@ impl<C: Pipe> Source for Behind<C> {
     }
 
     fn read(&mut self, piece: &mut [u8]) -> Got {
-        let waits = self.waits.get();
-        let got = if catch_up(&mut self.pipe, waits, &mut self.kept) {
-            self.pipe.read(piece)
-        } else {
-            Got::Failed
+        let written = self.attempt();
+        let got = match self.full.get_mut() {
+            Some(full) if written.is_some() => full.pipe.read(piece),
+            _ => Got::Failed,
         };
         match got {
             Got::NotYet => self.idles = self.idles.saturating_add(1),
@@ -162,7 +184,7 @@ impl<C: Pipe> Source for Behind<C> {
     }
 }
 
-impl<C: Pipe> Sink for Behind<C> {
+impl<C: Pipe + Drop> Sink for Behind<C> {
     ghost held = { λ _. None };
 
     ghost faults = { λ b. b.write_faults };
@@ -175,14 +197,19 @@ impl<C: Pipe> Sink for Behind<C> {
 
     fn write(&mut self, piece: &[u8]) -> Put {
         let waits = self.waits.get();
-        if !waits && self.kept.extend_from_slice(piece).is_ok() {
+        if self.attempt().is_none() {
+            self.write_faults = self.write_faults.saturating_add(1);
+            return Put::Failed;
+        }
+        let Some(full) = self.full.get_mut() else {
+            self.write_faults = self.write_faults.saturating_add(1);
+            return Put::Failed;
+        };
+        if !waits && full.kept.extend_from_slice(piece).is_ok() {
+            self.is_behind.set(true);
             return Put::Taken(piece.len());
         }
-        let put = if catch_up(&mut self.pipe, waits, &mut self.kept) {
-            self.pipe.write(piece)
-        } else {
-            Put::Failed
-        };
+        let put = full.pipe.write(piece);
         if put == Put::Failed {
             self.write_faults = self.write_faults.saturating_add(1);
         }
@@ -190,15 +217,20 @@ impl<C: Pipe> Sink for Behind<C> {
     }
 }
 
-impl<C: Pipe> Pipe for Behind<C> {
+impl<C: Pipe + Drop> Pipe for Behind<C> {
     ghost sink_is_left = { λ _. refl };
 
     ghost source_is_left = { λ _. refl };
 }
 
-impl<C: Wakes> Wakes for Behind<C> {
+impl<C: Pipe + Wakes + Drop> Wakes for Behind<C> {
     fn wake_with(&self, bell: &Arc<Bell, Global>) -> bool {
-        self.pipe.wake_with(bell)
+        let Some(full) = self.full.replace(None) else {
+            return false;
+        };
+        let wakes = full.pipe.wake_with(bell);
+        self.full.set(Some(full));
+        wakes
     }
 
     fn wait_for_room(&self, _: Global, waits: bool) {
@@ -206,13 +238,19 @@ impl<C: Wakes> Wakes for Behind<C> {
     }
 
     fn is_behind(&self) -> bool {
-        !self.kept.is_empty()
+        self.is_behind.get()
+    }
+
+    fn catch_up(&self) -> Option<usize> {
+        self.attempt()
     }
 }
 
-/// Has a client that is behind come to a worker, which it leaves with its stream going on, and then be served to its end.
-/// Answers whether it was so.
-fn serves_leaver<N: House, R: Wait + HostClock + Copy + Drop>(
+/// How many tries to write are in vain before there is room.
+const VAIN: u64 = 5;
+
+/// Serves a client that is behind, at a worker, until it leaves. Answers whether it left the worker since it had ended.
+fn serves_behind<N: House, R: Wait + HostClock + Copy + Drop>(
     rt: &R,
     alloc: Global,
     shared: &Shared<N>,
@@ -220,13 +258,11 @@ fn serves_leaver<N: House, R: Wait + HostClock + Copy + Drop>(
 ) -> Option<bool> {
     let mut clock = SysClock::new(*rt);
     let workers = Workers::new(alloc).ok()?;
-    let wire = WsWire::over(alloc, behind_of(alloc, far));
+    let wire = WsWire::over(alloc, behind_of(alloc, far, VAIN));
     let socket = Socket::new(rt, alloc, shared, wire);
     workers.serve(rt, shared, &mut clock, &OpenGate, LATEST, socket);
     let leaver = workers.next_leaver(rt)?;
-    let goes_on = leaver.end().is_none() && leaver.session() == Some(1);
-    workers.serve(rt, shared, &mut clock, &OpenGate, LATEST, leaver);
-    Some(goes_on && workers.next_leaver(rt).is_none())
+    Some(leaver.end() == Some(ConnEnd::PeerLeft) && workers.next_leaver(rt).is_none())
 }
 
 /// Opens a stream as a client, and is silent from then on. Answers whether it was told soon what it must be.
@@ -243,7 +279,7 @@ fn is_told_soon<R: Wait + HostClock + Copy + Drop>(rt: &R, near: Rung<R, Duct<R>
 }
 
 /// Serves a client that is behind. Answers whether both saw what they must.
-fn leaves<N: House + Send + Sync, R: Threads + Wait + HostClock + Copy + Drop + Send + Sync>(
+fn stays<N: House + Send + Sync, R: Threads + Wait + HostClock + Copy + Drop + Send + Sync>(
     rt: &R,
     alloc: Global,
     blank: Blank,
@@ -258,24 +294,74 @@ fn leaves<N: House + Send + Sync, R: Threads + Wait + HostClock + Copy + Drop + 
     let (near, far) = two_ends(*rt, alloc, LIMIT).ok()?;
     let (served, told) = join(
         rt,
-        || serves_leaver(rt, alloc, &shared, far),
+        || serves_behind(rt, alloc, &shared, far),
         || is_told_soon(rt, near),
     );
     Some(served? && told)
 }
 
 /// The same over the items of tests.
-fn left<R: Threads + Wait + HostClock + Copy + Drop + Send + Sync>(
+fn stayed<R: Threads + Wait + HostClock + Copy + Drop + Send + Sync>(
     rt: &R,
     alloc: Global,
 ) -> Option<bool> {
     let config = read(alloc, ITEMS).ok()?;
     let blank = Blank::new(alloc).ok()?;
-    leaves::<Brand, R>(rt, alloc, blank, config)
+    stays::<Brand, R>(rt, alloc, blank, config)
 }
 
 #[test]
-fn a_client_that_is_behind_leaves_its_worker_and_is_told_all(rt: HostRuntime) -> Result<(), Fail> {
-    assert!(rt; left(&rt, rt.alloc()) == Some(true));
+fn a_client_that_is_behind_stays_at_its_worker_and_is_told_all(
+    rt: HostRuntime,
+) -> Result<(), Fail> {
+    assert!(rt; stayed(&rt, rt.alloc()) == Some(true));
+    Ok(())
+}
+
+/// A clock that goes on by 20 ms each time that it is asked, to `LATEST` and further.
+fn swift_clock(alloc: Global) -> Option<MemClock> {
+    let mut ticks = Vec::new(alloc);
+    for number in 0..4_000 {
+        ticks.push(number * 20).ok()?;
+    }
+    Some(MemClock::new(alloc, ticks))
+}
+
+/// Serves a client whose peer never has room. Answers whether it was given up after 30 s, without a word to it.
+fn gives_up<N: House, R: Wait + Copy + Drop>(
+    rt: &R,
+    alloc: Global,
+    blank: Blank,
+    config: Config,
+) -> Option<bool>
+    requires register { blank.register ≡ N.deed.register }
+    requires set { config.set ≡ N.deed.set }
+    requires config { config.items ≡ N.deed.config }
+    requires items { are_items config.items ≡ true }
+{
+    let shared = Shared::<N>::new(alloc, blank, config).ok()?;
+    let (mut near, far) = two_ends(*rt, alloc, LIMIT).ok()?;
+    write_all(&mut near, TALK[1].0);
+    write_all(&mut near, TALK[2].0);
+    let mut clock = swift_clock(alloc)?;
+    let workers = Workers::new(alloc).ok()?;
+    let wire = WsWire::over(alloc, behind_of(alloc, far, u64::MAX));
+    let socket = Socket::new(rt, alloc, &shared, wire);
+    workers.serve(rt, &shared, &mut clock, &OpenGate, LATEST, socket);
+    let now = clock.now();
+    let is_alone = workers.next_leaver(rt).is_none() && near.read(&mut [0u8; 1]) == Got::End;
+    Some(is_alone && now >= 30_000 && now < LATEST)
+}
+
+/// The same over the items of tests.
+fn gave_up<R: Wait + Copy + Drop>(rt: &R, alloc: Global) -> Option<bool> {
+    let config = read(alloc, ITEMS).ok()?;
+    let blank = Blank::new(alloc).ok()?;
+    gives_up::<Brand, R>(rt, alloc, blank, config)
+}
+
+#[test]
+fn a_client_that_takes_nothing_is_given_up(rt: HostRuntime) -> Result<(), Fail> {
+    assert!(rt; gave_up(&rt, rt.alloc()) == Some(true));
     Ok(())
 }

@@ -133,6 +133,9 @@ fn a_client_that_does_not_read_is_given_up(rt: HostRuntime) -> Result<(), Fail> 
 /// How many bytes a piece has.
 const PIECE: usize = 65_536;
 
+/// More pieces than the system and a pipe keep for a peer that reads nothing, two more among them.
+const MOST_PIECES: u8 = 16;
+
 /// A piece whose bytes are all its number.
 fn piece_of(alloc: Global, number: u8) -> Result<Vec<u8>, AllocError> {
     let mut piece = Vec::with_capacity(alloc, PIECE)?;
@@ -195,11 +198,58 @@ fn a_write_that_is_not_to_wait_is_kept_and_written_later(rt: HostRuntime) -> Res
     assert!(rt; !pipe.is_behind());
     pipe.wait_for_room(rt.alloc(), false);
     let pieces = pieces_until_behind(rt.alloc(), &mut pipe)?;
-    assert!(rt; pipe.is_behind() && pieces < 250);
+    assert!(rt; pipe.is_behind() && pieces < MOST_PIECES);
     pipe.wait_for_room(rt.alloc(), true);
     pipe.wait_for_room(rt.alloc(), false);
     assert!(rt; are_read(&mut pipe, &mut client, pieces));
     assert!(rt; !pipe.is_behind() && pipe.write_faults() == 0 && pipe.read_faults() == 0);
+    Ok(())
+}
+
+/// Whether a pipe that is behind writes all that it keeps in the end, while a client reads these pieces, and nothing while
+/// the client doesn't.
+fn catches_up(pipe: &mut TcpPipe, client: &mut TcpStream, pieces: u8) -> bool {
+    let mut part = [0u8; 4096];
+    let mut left = pieces as usize * PIECE;
+    let mut written: usize = 0;
+    if pipe.catch_up() != Some(0) {
+        return false;
+    }
+    for _ in 0..MOST_LOOKS {
+        if left == 0 {
+            return !pipe.is_behind() && written > 0 && pipe.catch_up() == Some(0);
+        }
+        let Some(count) = pipe.catch_up() else {
+            return false;
+        };
+        written = written.saturating_add(count);
+        let Ok(count) = client.read(&mut part) else {
+            return false;
+        };
+        left = left.saturating_sub(count);
+    }
+    false
+}
+
+#[test]
+fn what_is_kept_is_written_as_soon_as_there_is_room(rt: HostRuntime) -> Result<(), Fail> {
+    let mut door = TcpDoor::new(rt, None);
+    let Heard::Ready { port, .. } = door.listen(0, 0) else {
+        panic!(rt; "it doesn't listen")
+    };
+    let mut client = TcpStream::connect(&rt, ("127.0.0.1", port)).expect(&rt, "a client connects");
+    let Some(mut pipe) = next_client(&mut door) else {
+        panic!(rt; "no client came")
+    };
+    pipe.wait_for_room(rt.alloc(), false);
+    let pieces = pieces_until_behind(rt.alloc(), &mut pipe)?;
+    assert!(rt; pipe.is_behind());
+    assert!(rt; catches_up(&mut pipe, &mut client, pieces));
+    let pieces = pieces_until_behind(rt.alloc(), &mut pipe)?;
+    assert!(rt; pipe.is_behind() && pieces < MOST_PIECES);
+    drop(client);
+    assert!(rt; pipe.catch_up() == None && pipe.read(&mut [0u8; 1]) == Got::Failed);
+    assert!(rt; pipe.read_faults() == 1 && pipe.write_faults() == 0);
     Ok(())
 }
 

@@ -1,9 +1,9 @@
 //! What a peer had no room for.
 
-use crate::pipe::is_later;
+use crate::pipe::write_now;
 use std::alloc::{AllocError, Global};
 use std::cell::Cell;
-use std::io::{self, ErrorKind, Write};
+use std::io::{self, ErrorKind};
 use std::net::TcpStream;
 
 /// Bytes of writes for which the peer had no room yet, in order.
@@ -19,29 +19,25 @@ impl Backlog {
         self.bytes.extend_from_slice(piece)
     }
 
-    /// Writes them from the front, as far as there is room. Answers whether all of them are written.
-    fn write_to(&mut self, stream: &mut TcpStream) -> io::Result<bool> {
+    /// Whether none are kept.
+    fn is_empty(&self) -> bool {
+        self.bytes.is_empty()
+    }
+
+    /// Writes them from the front, as far as there is room, and answers how many were written.
+    fn write_to(&mut self, stream: &TcpStream) -> io::Result<usize> {
         let Some(rest) = self.bytes.get(self.sent..) else {
-            return Ok(true);
+            return Ok(0);
         };
         let left = rest.len();
-        match stream.write(rest) {
-            Ok(count) => {
-                if count < left {
-                    self.sent = self.sent.saturating_add(count);
-                    return Ok(false);
-                }
-            }
-            Err(error) => {
-                if is_later(&error) {
-                    return Ok(false);
-                }
-                return Err(error);
-            }
+        let count = write_now(stream, rest)?.unwrap_or(0);
+        if count < left {
+            self.sent = self.sent.saturating_add(count);
+        } else {
+            self.bytes.clear();
+            self.sent = 0;
         }
-        self.bytes.clear();
-        self.sent = 0;
-        Ok(true)
+        Ok(count)
     }
 }
 
@@ -99,32 +95,39 @@ impl Room {
     }
 
     /// Writes what is kept: all of it where writes wait, else as much as there is room for.
-    pub(crate) fn catch_up(&mut self, stream: &mut TcpStream) -> io::Result<()> {
-        if !self.is_behind() {
-            return Ok(());
-        }
+    pub(crate) fn catch_up(&self, stream: &TcpStream) -> io::Result<()> {
         if self.waits() {
-            self.write_rest(stream)
-        } else {
-            self.write_some(stream)
+            return self.write_rest(stream);
         }
-    }
-
-    /// Writes what is kept, as far as there is room at once.
-    fn write_some(&mut self, stream: &mut TcpStream) -> io::Result<()> {
-        if let Some(backlog) = self.backlog.get_mut() {
-            let is_done = backlog.write_to(stream)?;
-            self.is_behind.set(!is_done);
-        }
+        self.write_some(stream)?;
         Ok(())
     }
 
-    /// Writes all that is kept to a stream that doesn't block, and waits for room.
-    pub(crate) fn write_rest(&mut self, stream: &mut TcpStream) -> io::Result<()> {
+    /// Writes what is kept, as far as there is room at once, and answers how many bytes were written.
+    pub(crate) fn write_some(&self, stream: &TcpStream) -> io::Result<usize> {
+        if !self.is_behind() {
+            return Ok(0);
+        }
+        let Some(mut backlog) = self.backlog.replace(None) else {
+            return Ok(0);
+        };
+        let written = backlog.write_to(stream);
+        self.is_behind.set(!backlog.is_empty());
+        self.backlog.set(Some(backlog));
+        written
+    }
+
+    /// Writes all that is kept to a stream that doesn't block, and waits for room. Room that was too little to end the wait
+    /// is used too.
+    pub(crate) fn write_rest(&self, stream: &TcpStream) -> io::Result<()> {
+        if !self.is_behind() {
+            return Ok(());
+        }
         stream.set_nonblocking(false)?;
         let written = self.write_some(stream);
         stream.set_nonblocking(true)?;
         written?;
+        self.write_some(stream)?;
         if self.is_behind() {
             return Err(io::Error::from(ErrorKind::TimedOut));
         }

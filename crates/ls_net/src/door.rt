@@ -3,6 +3,7 @@ ghost use Rattle.std.specs.Prelude.{◌≡◌};
 
 use crate::pipe::{TcpPipe, is_later};
 use crate::watcher::{Seat, WatchedSockets};
+use libc::net;
 use ls_bell::Bell;
 use ls_door::{Door, Heard, Visit};
 use std::alloc::Global;
@@ -17,6 +18,11 @@ const EVERYWHERE: &str = "0.0.0.0";
 /// The addresses from which feeds are heard: those of this machine alone, since a feed isn't asked who it is.
 const HERE: &str = "127.0.0.1";
 
+/// How many bytes of a client's connection the system is asked to keep until the client has taken them; it keeps up to twice
+/// as many. What is beyond that waits in the server, where it is merged, queued or counted as lost, as its mode says. Without
+/// this a slow client would be told states that are as old as some megabytes.
+const SEND_BYTES: i32 = 32_768;
+
 /// Two sockets that listen, and the place of each with a watcher.
 #[derive(Drop)]
 struct Listeners {
@@ -27,8 +33,8 @@ struct Listeners {
 }
 
 /// A door over TCP: clients from everywhere, feeds from 127.0.0.1 alone. `accept` doesn't wait. It looks for clients
-/// and for feeds in turn, so neither keeps the other out. Both ports and clients'
-/// connections may be watched; feeds' reads wait anyway.
+/// and for feeds in turn, so neither keeps the other out. Both ports and clients' connections may be watched; feeds' reads
+/// wait anyway. The system is asked to keep at most 32,768 bytes for a client that doesn't take them (`SO_SNDBUF`).
 #[derive(Drop)]
 pub struct TcpDoor<R: Net<Listener = TcpListener, Stream = TcpStream>> {
     rt: R,
@@ -71,6 +77,16 @@ fn listener_at<R: Net<Listener = TcpListener, Stream = TcpStream>>(
     listener.set_nonblocking(true)?;
     let port = listener.local_addr()?.port();
     Ok((listener, port))
+}
+
+/// Has the system keep little of each connection that comes to a listener. Where it doesn't let itself be asked, it keeps as
+/// much as it does by default.
+fn keep_little(listener: &TcpListener) {
+    let mut value = [0u8; 16];
+    value[..4].copy_from_slice(&SEND_BYTES.to_ne_bytes());
+    let fd = listener.as_raw_fd();
+    // SAFETY: the socket is open as long as its listener, and the option's value is an int of four bytes.
+    let _asked = unsafe { net::setsockopt(fd, net::SOL_SOCKET, net::SO_SNDBUF, &value, 4) };
 }
 
 /// The connection of who is there, if anyone.
@@ -151,6 +167,7 @@ fn listeners_at<R: Net<Listener = TcpListener, Stream = TcpStream>>(
     sockets: &Option<Arc<WatchedSockets, Global>>,
 ) -> Result<(Listeners, u16, u16)> {
     let (clients, port) = listener_at(rt, EVERYWHERE, port)?;
+    keep_little(&clients);
     let (feeds, feed) = listener_at(rt, HERE, feed)?;
     let listeners = Listeners {
         clients,

@@ -1,5 +1,5 @@
 //! A connection.
-ghost use Rattle.std.specs.Prelude.{◌≡◌, ◌≤◌, ◌↔◌, IsTrue, IfOk, None, false, length, refl};
+ghost use Rattle.std.specs.Prelude.{◌≡◌, ◌≤◌, ◌↔◌, IsTrue, IfOk, IfSome, None, false, length, refl};
 ghost use Rattle.std.specs.IoError.{error_kind};
 ghost use Rattle.ls_net.specs.Sockets.{IsLater};
 
@@ -38,11 +38,12 @@ pub(crate) fn is_later(error: &Error) -> bool
 /// A client's read doesn't wait, and a feed's read waits for a byte, at most `BYTE_MS`: where none is there it is
 /// `NotYet`. A write waits for room, at most `ROOM_MS`; after that it is `Failed`, as it is after every other error.
 /// Bytes are sent at once (`set_nodelay`). The connection is closed when the pipe is dropped, in stages (RFC 9112, 9.6), so
-/// that a peer which still sends gets what was written.
+/// that a peer which still sends gets what was written. What is kept is written first: all of it where writes are to wait,
+/// else as much as there is room for.
 ///
 /// A client's pipe that a watcher watches can have a bell called when bytes are there (`Wakes`). Where its writes aren't to
 /// wait, it keeps what there is no room for, and waits only for want of memory. A read or a write before which it can't
-/// write what it keeps fails; that is so after `ROOM_MS` without room, once writes are to wait again.
+/// write what it keeps fails; that is so after `ROOM_MS` without enough room, once writes are to wait again.
 pub struct TcpPipe {
     stream: TcpStream,
     seat: Seat,
@@ -58,13 +59,13 @@ impl Drop for TcpPipe {
         let TcpPipe {
             mut stream,
             seat: _,
-            mut room,
+            room,
             waits_for_bytes: _,
             read_faults: _,
             idles: _,
             write_faults: _,
         } = self;
-        if !room.is_behind() || room.write_rest(&mut stream).is_ok() {
+        if room.catch_up(&stream).is_ok() && !room.is_behind() {
             close_in_stages(&mut stream);
         }
     }
@@ -152,7 +153,7 @@ impl Source for TcpPipe {
     }
 
     fn read(&mut self, piece: &mut [u8]) -> Got {
-        if self.room.catch_up(&mut self.stream).is_err() {
+        if self.room.catch_up(&self.stream).is_err() {
             self.read_faults = self.read_faults.saturating_add(1);
             return Got::Failed;
         }
@@ -171,31 +172,45 @@ impl Source for TcpPipe {
     }
 }
 
-/// Writes what there is room for. Where there is none it waits, at most `ROOM_MS`. Whether the stream blocks anyway is
-/// said, and stays so.
-fn write_waiting(stream: &mut TcpStream, blocks: bool, piece: &[u8]) -> Result<usize>
+/// Writes from the front of a piece. `None` where there is no room: now, or within the stream's time where it blocks.
+pub(crate) fn write_now(mut stream: &TcpStream, piece: &[u8]) -> Result<Option<usize>>
+    ensures { IfOk result (λ taken. IfSome taken (λ count. count ≤ length piece.now)) }
+{
+    match stream.write(piece) {
+        Ok(count) => Ok(Some(count)),
+        Err(error) => {
+            if is_later(&error) {
+                Ok(None)
+            } else {
+                Err(error)
+            }
+        }
+    }
+}
+
+/// Writes what there is room for. Where there is none it waits, at most `ROOM_MS`, and then takes what room there is: the
+/// system ends the wait only once a third of its buffer is free. Whether the stream blocks anyway is said, and stays so.
+fn write_waiting(mut stream: &TcpStream, blocks: bool, piece: &[u8]) -> Result<usize>
     ensures { IfOk result (λ count. count ≤ length piece.now) }
 {
     if blocks {
         return stream.write(piece);
     }
-    match stream.write(piece) {
-        Err(error) => {
-            if !is_later(&error) {
-                return Err(error);
-            }
-        }
-        Ok(count) => return Ok(count),
+    if let Some(count) = write_now(stream, piece)? {
+        return Ok(count);
     }
     stream.set_nonblocking(false)?;
-    let taken = stream.write(piece);
+    let taken = write_now(stream, piece);
     stream.set_nonblocking(true)?;
-    taken
+    match taken? {
+        Some(count) => Ok(count),
+        None => stream.write(piece),
+    }
 }
 
 /// Writes from the front of a piece, after what is kept. Where there is no room it waits, or keeps the piece; for want of
 /// memory it waits anyway.
-fn write_on(stream: &mut TcpStream, room: &mut Room, blocks: bool, piece: &[u8]) -> Result<usize>
+fn write_on(stream: &TcpStream, room: &mut Room, blocks: bool, piece: &[u8]) -> Result<usize>
     ensures { IfOk result (λ count. count ≤ length piece.now) }
 {
     room.catch_up(stream)?;
@@ -203,13 +218,8 @@ fn write_on(stream: &mut TcpStream, room: &mut Room, blocks: bool, piece: &[u8])
         return write_waiting(stream, blocks, piece);
     }
     if !room.is_behind() {
-        match stream.write(piece) {
-            Ok(count) => return Ok(count),
-            Err(error) => {
-                if !is_later(&error) {
-                    return Err(error);
-                }
-            }
+        if let Some(count) = write_now(stream, piece)? {
+            return Ok(count);
         }
     }
     if room.keep(piece) {
@@ -231,12 +241,7 @@ impl Sink for TcpPipe {
     }
 
     fn write(&mut self, piece: &[u8]) -> Put {
-        match write_on(
-            &mut self.stream,
-            &mut self.room,
-            self.waits_for_bytes,
-            piece,
-        ) {
+        match write_on(&self.stream, &mut self.room, self.waits_for_bytes, piece) {
             Ok(count) if count > 0 || piece.is_empty() => Put::Taken(count),
             _ => {
                 self.write_faults = self.write_faults.saturating_add(1);
@@ -267,5 +272,9 @@ impl Wakes for TcpPipe {
 
     fn is_behind(&self) -> bool {
         self.room.is_behind()
+    }
+
+    fn catch_up(&self) -> Option<usize> {
+        self.room.write_some(&self.stream).ok()
     }
 }

@@ -69,4 +69,8 @@ impl<'a, C: Wakes> Wakes for Lent<'a, C> {
     fn is_behind(&self) -> bool {
         self.pipe.is_behind()
     }
+
+    fn catch_up(&self) -> Option<usize> {
+        self.pipe.catch_up()
+    }
 }

@@ -17,7 +17,7 @@
 //! ```text
 //! conn.wait_for_room(alloc, false);
 //! // .. writes ..
-//! if conn.is_behind() { /* gives it to a thread of its own */ }
+//! if conn.is_behind() { /* serves others, and tries conn.catch_up() after a while */ }
 //! ```
 //!
 //! Pipes and talks in memory never call a bell, and keep nothing: their own calls go by lists. No contract speaks of time,

@@ -24,4 +24,10 @@ pub trait Wakes {
     fn is_behind(&self) -> bool {
         false
     }
+
+    /// Writes what it keeps, as far as there is room at once, and answers how many bytes that was. `None` where the write
+    /// failed, as the next read or write then does too. Nothing that the connection tells changes.
+    fn catch_up(&self) -> Option<usize> {
+        Some(0)
+    }
 }

@@ -10,10 +10,12 @@
 //! The first thread that comes to a worker with nobody at it stays, until its connections are gone. The bells of all its
 //! sessions are tied to one, for which it waits.
 //!
-//! Some connections can't stay with a worker: one that is behind, since its client doesn't read, one whose stream is of
-//! another worker's session now, and one that has ended, whose peer may keep who closes it waiting. They leave it, and
-//! whoever starts threads takes them with [`Workers::next_leaver`] and gives each to a thread of its own, which calls
-//! `serve` again.
+//! A worker waits for nobody's room. Where a peer doesn't take what it is told, the worker looks again after a while whether
+//! it does, and meanwhile its stream waits: what is published is merged, queued or counted as lost for it, as its mode says.
+//!
+//! Some connections can't stay with a worker: one whose stream is of another worker's session now, and one that has ended,
+//! whose peer may keep who closes it waiting. They leave it, and whoever starts threads takes them with
+//! [`Workers::next_leaver`] and gives each to a thread of its own, which calls `serve` again.
 //!
 //! It starts no thread, opens no socket, and knows no protocol.
 #![tactic(auto)]

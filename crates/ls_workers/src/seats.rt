@@ -15,6 +15,14 @@ pub(crate) const MOST_TURNS: u32 = 64;
 /// How many ms a worker sleeps at most.
 const MOST_SLEEP: u64 = 1_000;
 
+/// How many ms at least and at most a worker lets pass before it looks again whether a peer has room.
+const LEAST_WAIT: u64 = 10;
+
+const MOST_WAIT: u64 = 100;
+
+/// How many ms a connection stays at its worker whose peer takes nothing.
+const MOST_BEHIND: u64 = 30_000;
+
 /// A connection at a worker.
 #[derive(Drop)]
 struct Seat<N: House, T: Talk> {
@@ -22,6 +30,9 @@ struct Seat<N: House, T: Talk> {
 
     /// The session of its stream when it came.
     session: Option<u64>,
+
+    /// The tick, in ms, since which its peer took nothing of what it has no room for. None where nothing is kept for it.
+    behind: Option<u64>,
 }
 
 /// What calls a connection at a worker. A worker looks through these, and goes to those connections alone that are called.
@@ -35,6 +46,9 @@ struct Call {
 
     /// The tick, in ms, at which it has a turn although no bell rang.
     due: u64,
+
+    /// Whether its peer had no room after the last turn: then no bell counts.
+    is_behind: bool,
 }
 
 /// What became of a connection by its turns.
@@ -45,6 +59,22 @@ enum Visited {
 
     /// It can't stay.
     Leaves,
+
+    /// Its peer took nothing for too long.
+    Lost,
+}
+
+/// Gives up a connection: its stream is lost, and it is closed.
+pub(crate) fn give_up<N: House, R: Wait, T: Talk + Wakes + Drop, K: Clock>(
+    rt: &R,
+    shared: &Shared<N>,
+    clock: &mut K,
+    socket: Socket<N, T>,
+) {
+    let now = clock.now();
+    let (report, talk) = socket.finish(rt, shared, now);
+    drop(report);
+    drop(talk);
 }
 
 /// How often the bell of a seat was rung.
@@ -66,27 +96,71 @@ impl Call {
             bell,
             rings: 0,
             due: 0,
+            is_behind: false,
         })
     }
 
     /// Whether there may be something to do: its tick has come, or its bell was rung, which counts only where some bell of
-    /// the worker was.
+    /// the worker was, and its peer had room.
     fn comes(&self, now: u64, is_rung: bool) -> bool {
-        now >= self.due || is_rung && rings_of(&self.bell) != self.rings
+        now >= self.due || is_rung && !self.is_behind && rings_of(&self.bell) != self.rings
     }
 }
 
 impl<N: House, T: Talk + Wakes + Drop> Seat<N, T> {
-    /// Whether it can stay: it hasn't ended, it isn't behind, and its stream is of no other session.
-    fn stays(&self) -> bool {
-        let is_same = match self.socket.session() {
+    /// Whether its stream is of no other session than when it came.
+    fn is_same(&self) -> bool {
+        match self.socket.session() {
             Some(session) => self.session == Some(session),
             None => true,
-        };
-        is_same && !self.socket.talk().is_behind()
+        }
     }
 
-    /// Has turns, until it rests; for how many ms.
+    /// What becomes of it after a turn that let it rest so many ms. Where its peer had no room for what the turn told, it
+    /// looks again soon.
+    fn rest(&mut self, now: u64, ms: u64) -> Visited {
+        if !self.is_same() {
+            return Visited::Leaves;
+        }
+        if !self.socket.talk().is_behind() {
+            return Visited::Rests { ms };
+        }
+        self.behind = Some(self.behind.unwrap_or(now));
+        let ms = ms.min(LEAST_WAIT);
+        Visited::Rests { ms }
+    }
+
+    /// Writes what its peer had no room for, at a tick before `until`. None where the connection may have a turn: its peer has
+    /// room for all of that, or is gone, which the turn finds.
+    fn wait_for_room(&mut self, now: u64, until: u64) -> Option<Visited> {
+        let talk = self.socket.talk();
+        if !talk.is_behind() {
+            self.behind = None;
+            return None;
+        }
+        let taken = talk.catch_up()?;
+        if !talk.is_behind() {
+            self.behind = None;
+            return None;
+        }
+        let since = if taken > 0 {
+            now
+        } else {
+            self.behind.unwrap_or(now)
+        };
+        self.behind = Some(since);
+        if now >= until {
+            return None;
+        }
+        let waited = now.saturating_sub(since);
+        if waited >= MOST_BEHIND {
+            return Some(Visited::Lost);
+        }
+        let ms = (waited / 4).clamp(LEAST_WAIT, MOST_WAIT);
+        Some(Visited::Rests { ms })
+    }
+
+    /// Has turns at a tick, until it rests; for how many ms. While its peer has no room it has none.
     fn visit<R: Wait, K: Clock, G: Gate>(
         &mut self,
         rt: &R,
@@ -94,30 +168,24 @@ impl<N: House, T: Talk + Wakes + Drop> Seat<N, T> {
         shared: &Shared<N>,
         clock: &mut K,
         gate: &G,
+        now: u64,
         until: u64,
         into: &mut LineBuf,
     ) -> Visited {
         for _ in 0..MOST_TURNS {
+            if let Some(visited) = self.wait_for_room(now, until) {
+                return visited;
+            }
             match self
                 .socket
                 .turn(rt, alloc, shared, clock, gate, until, into)
             {
                 Step::Goes => {}
-                Step::Rests { ms } => {
-                    return if self.stays() {
-                        Visited::Rests { ms }
-                    } else {
-                        Visited::Leaves
-                    };
-                }
+                Step::Rests { ms } => return self.rest(now, ms),
                 Step::Ended(_) => return Visited::Leaves,
             }
         }
-        if self.stays() {
-            Visited::Rests { ms: 0 }
-        } else {
-            Visited::Leaves
-        }
+        self.rest(now, 0)
     }
 }
 
@@ -151,7 +219,11 @@ impl<N: House, T: Talk + Wakes + Drop> Seats<N, T> {
             return Err(socket);
         };
         let session = socket.session();
-        self.seats.push_reserved(Seat { socket, session });
+        self.seats.push_reserved(Seat {
+            socket,
+            session,
+            behind: None,
+        });
         self.calls.push_reserved(call);
         Ok(())
     }
@@ -187,29 +259,43 @@ impl<N: House, T: Talk + Wakes + Drop> Seats<N, T> {
             let Some(seat) = self.seats.get_mut(at) else {
                 break;
             };
-            if let Visited::Rests { ms } = seat.visit(rt, alloc, shared, clock, gate, until, into) {
-                call.due = now.saturating_add(ms);
-                soonest = soonest.min(call.due);
-                at += 1;
-            } else if !self.let_leave(alloc, at, leavers) {
-                at += 1;
+            let visited = seat.visit(rt, alloc, shared, clock, gate, now, until, into);
+            call.is_behind = seat.behind.is_some();
+            match visited {
+                Visited::Rests { ms } => {
+                    call.due = now.saturating_add(ms);
+                    soonest = soonest.min(call.due);
+                    at += 1;
+                }
+                Visited::Leaves => at += self.let_leave(at, leavers) as usize,
+                Visited::Lost => {
+                    if let Some(socket) = self.stand_up(at) {
+                        give_up(rt, shared, clock, socket);
+                    }
+                }
             }
         }
         soonest.saturating_sub(now)
     }
 
-    /// Has a connection leave. Where there is no memory for that it stays; should it be behind, its writes wait from now on.
-    fn let_leave(&mut self, alloc: Global, at: usize, leavers: &mut Vec<Socket<N, T>>) -> bool {
-        let Some(seat) = self.seats.get(at) else {
-            return false;
-        };
-        if leavers.reserve(1).is_err() || at >= self.calls.len() {
-            seat.socket.talk().wait_for_room(alloc, true);
-            return false;
+    /// Takes a connection out; the last one takes its place.
+    fn stand_up(&mut self, at: usize) -> Option<Socket<N, T>> {
+        if at >= self.seats.len() || at >= self.calls.len() {
+            return None;
         }
-        let Seat { socket, .. } = self.seats.swap_remove(at);
         drop(self.calls.swap_remove(at));
-        leavers.push_reserved(socket);
-        true
+        let Seat { socket, .. } = self.seats.swap_remove(at);
+        Some(socket)
+    }
+
+    /// Has a connection leave. Answers whether it stays, for want of memory.
+    fn let_leave(&mut self, at: usize, leavers: &mut Vec<Socket<N, T>>) -> bool {
+        if leavers.reserve(1).is_err() {
+            return true;
+        }
+        if let Some(socket) = self.stand_up(at) {
+            leavers.push_reserved(socket);
+        }
+        false
     }
 }

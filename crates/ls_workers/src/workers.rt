@@ -1,6 +1,6 @@
 //! Workers, and who comes to them and leaves them.
 
-use crate::seats::{MOST_TURNS, Seats};
+use crate::seats::{MOST_TURNS, Seats, give_up};
 use ls_bell::{Bell, CommonBell};
 use ls_conn_ws::{ConnEnd, LineBuf, Shared, Socket, Step};
 use ls_outside::{Clock, Gate};
@@ -67,19 +67,6 @@ fn idle_workers<N: House, T: Talk + Drop>(alloc: Global) -> Result<Vec<Worker<N,
     Ok(workers)
 }
 
-/// Gives up a connection: its stream is lost, and it is closed.
-fn give_up<N: House, R: Wait, T: Talk + Wakes + Drop, K: Clock>(
-    rt: &R,
-    shared: &Shared<N>,
-    clock: &mut K,
-    socket: Socket<N, T>,
-) {
-    let now = clock.now();
-    let (report, talk) = socket.finish(rt, shared, now);
-    drop(report);
-    drop(talk);
-}
-
 /// How often the bell of a connection's session was rung.
 fn rings_of<N: House, T: Talk + Wakes>(socket: &Socket<N, T>) -> u64 {
     match socket.bell() {
@@ -126,8 +113,11 @@ impl<N: House, T: Talk + Wakes + Drop> Workers<N, T> {
 
     /// Serves a connection, in the thread of the caller until it has a stream, and then by the worker of its session, whose
     /// thread the caller's becomes if it has none: then it returns when that worker's connections are gone. A connection
-    /// that is behind is served by the caller's thread to its end, and so is one for which there is no memory at a worker.
-    /// One that has ended is closed.
+    /// that comes with something its peer had no room for is served by the caller's thread to its end, and so is one for
+    /// which there is no memory at a worker. One that has ended is closed.
+    ///
+    /// At a worker, a connection whose peer has no room for what it was told has no turns until it has. Where it takes
+    /// nothing for 30,000 ms, it is given up.
     ///
     /// Each connection has its turns until the tick `until`, in ms, or a later one.
     pub fn serve<R: Wait, K: Clock, G: Gate>(

@@ -245,4 +245,8 @@ impl<C: Pipe + Wakes + Drop> Wakes for WsWire<C> {
     fn is_behind(&self) -> bool {
         self.pipe().is_behind()
     }
+
+    fn catch_up(&self) -> Option<usize> {
+        self.pipe().catch_up()
+    }
 }

@@ -1,5 +1,0 @@
-use Rattle.ls_conn_ws_tests.proofs.workers.left.Given as goal
-
--- the server of the register that was just made, and of the config
-abbrev pub ghosts-leaves : goal.ghosts-leaves
-ghosts-leaves g a = record { deed = record { register = a.blank.register; set = a.config.set; config = a.config.items } }
