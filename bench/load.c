@@ -9,8 +9,9 @@
  * it lost; -1 is no feed. UNREAD more streams, of the same items, have small buffers and aren't read, so they may be
  * lost. SLOW more have small buffers, too, and are read SLOW_BYTES a second each.
  *
- * It prints `ready` when all streams are subscribed, and waits for a line. Then the feed publishes for so many seconds,
- * and all streams must come to the last update of their items. It prints what was counted, a name and a number on each
+ * It prints `ready` when all streams are subscribed, and waits for a line. Where some are read slowly, the feed then
+ * publishes for FILLING seconds of which nothing is counted, and it prints `filled` and waits for a line. Then the feed
+ * publishes for so many seconds, and all streams must come to the last update of their items. It prints what was counted, a name and a number on each
  * line, then `done`, and waits for another line before it closes the streams.
  *
  * Each client decodes each line. It ends the program with status 1 where a seq doesn't rise, in RAW one is left out
@@ -20,7 +21,8 @@
 
 enum {
     UNREAD_ROOM = 4096, /* of the socket of a stream that isn't read, or slowly */
-    SLOW_BYTES = 1024   /* that a stream which is read slowly is read in a second */
+    SLOW_BYTES = 1024,  /* that a stream which is read slowly is read in a second */
+    FILLING = 20        /* seconds after which what the system keeps of these streams is full */
 };
 
 static int port, feed_port, unread, slow;
@@ -198,7 +200,7 @@ static void *feed_for_seconds(void *unused) {
     (void)unused;
     f.fd = connected(feed_port, 0);
     send_all(f.fd, "feed 1\n", 7);
-    uint64_t began = now(), ends = began + (uint64_t)(seconds * (double)SECOND);
+    uint64_t began = now(), ends = began + (uint64_t)((filling + seconds) * (double)SECOND);
     for (uint64_t turn = 1; now() < ends; turn++) {
         if (rate > 0) {
             sleep_until(began + turn * SECOND / (uint64_t)rate);
@@ -244,6 +246,7 @@ int main(int count, char **words) {
     unread = atoi(words[9]);
     slow = atoi(words[10]);
     held_by_reads = strcmp(words[11], "read") == 0;
+    filling = slow > 0 ? FILLING : 0;
     head_wanted = ws ? "HTTP/1.1 101 " : "HTTP/1.1 200 ";
     int many = streams + unread + slow;
     make_streams(unread + slow);

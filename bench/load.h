@@ -63,11 +63,14 @@ struct published {
 static int streams, items, rate;
 static bool raw;
 static double seconds;
+static double filling; /* how many seconds the feed publishes before anything is counted */
 static const char *head_wanted; /* what a stream's head begins with */
 static struct stream **all;
 static uint64_t *published; /* the last seq of each item; the feed's thread writes it */
 static _Atomic bool feed_over;
-static uint64_t total_published, lines, probes, lost;
+static _Atomic uint64_t total_published;
+static uint64_t published_before; /* anything was counted */
+static uint64_t lines, probes, lost;
 static uint64_t left_out; /* updates that a later one came in place of */
 static uint32_t *latencies;
 static sem_t room; /* updates that may be published, as far as what is read holds the feed back */
@@ -338,7 +341,8 @@ static bool all_came(void) {
     return true;
 }
 
-static void hear_for(int poll_fd, uint64_t until_idle) {
+/* Hears the streams: until a time, or until the feed is over and all of them have come to its last updates. */
+static void hear_for(int poll_fd, bool by_time, uint64_t until) {
     struct epoll_event events[MOST_EVENTS];
     uint64_t last = now();
     for (;;) {
@@ -348,9 +352,9 @@ static void hear_for(int poll_fd, uint64_t until_idle) {
         uint64_t at = now();
         if (ready > 0)
             last = at;
-        if (rate < 0 ? at >= until_idle : atomic_load(&feed_over) && all_came())
+        if (by_time ? at >= until : atomic_load(&feed_over) && all_came())
             return;
-        if (rate >= 0 && at - last > PATIENCE)
+        if (!by_time && at - last > PATIENCE)
             fail("nothing came for %llu s, and the streams haven't the last state", PATIENCE / SECOND);
     }
 }
@@ -398,7 +402,7 @@ static void make_streams(int more) {
 
 static void report(double took, double used) {
     printf("seconds %.3f\npublished %llu\nlines %llu\nprobes %llu\nlost %llu\nleft_out %llu\n", took,
-           (unsigned long long)total_published, (unsigned long long)lines, (unsigned long long)probes,
+           (unsigned long long)(total_published - published_before), (unsigned long long)lines, (unsigned long long)probes,
            (unsigned long long)lost, (unsigned long long)left_out);
     printf("median %llu\nmost_of_99 %llu\ngreatest %llu\nown_time %.2f\ndone\n", (unsigned long long)percentile(0.5),
            (unsigned long long)percentile(0.99), (unsigned long long)greatest(), used);
@@ -412,7 +416,15 @@ static pthread_t begun(void *(*thread)(void *)) {
     return it;
 }
 
-/* Runs the feed, and the other thread where there is one, while it hears the streams that are open. */
+/* Has counts begin anew. */
+static void forget(void) {
+    published_before = total_published;
+    lines = probes = lost = left_out = 0;
+    memset(latencies, 0, (MOST_MICROS + 1) * sizeof *latencies);
+}
+
+/* Runs the feed, and the other thread where there is one, while it hears the streams that are open. Where it fills first, it
+ * then prints `filled` and waits for a line. */
 static void run(void *(*feed)(void *), void *(*beside)(void *)) {
     int poll_fd = epoll_create1(0);
     for (int i = 0; i < streams; i++) {
@@ -429,7 +441,16 @@ static void run(void *(*feed)(void *), void *(*beside)(void *)) {
         begun(beside);
     if (rate >= 0)
         feeds = begun(feed);
-    hear_for(poll_fd, began + (uint64_t)(seconds * (double)SECOND));
+    if (filling > 0) {
+        hear_for(poll_fd, true, began + (uint64_t)(filling * (double)SECOND));
+        puts("filled");
+        fflush(stdout);
+        wait_for_line();
+        forget();
+        used = processor_time();
+        began = now();
+    }
+    hear_for(poll_fd, rate < 0, began + (uint64_t)(seconds * (double)SECOND));
     double took = (double)(now() - began) / (double)SECOND;
     used = processor_time() - used;
     if (rate >= 0)
