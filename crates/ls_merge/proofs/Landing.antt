@@ -1,7 +1,7 @@
 -- What a buffer of size 1 is after the events of several numbers, taken at once.
 use Rattle.std.proofs.Common.{◌≡◌, ℕ, ◌+◌, ◌-◌, ◌<◌, ◌≤◌, ◌||◌, List, [], ◌∷◌, ◌++◌, length, take, drop, zero, replicate, refl, sym, ◌∙◌, ap, arith}
 use Rattle.std.proofs.Common.{Bool, true, false, All, get_or, slice_get, subst, suc, cond, Option, Some, None}
-use Rattle.std.proofs.lemmas.List.{length-replicate, length-drop, get_or-drop, take_all}
+use Rattle.std.proofs.lemmas.List.{length-replicate, length-drop, drop-drop, get_or-drop, take_all}
 use Rattle.std.proofs.lemmas.List.Elements.{All-head, All-tail, All-get_or}
 use Rattle.std.proofs.lemmas.Bool.{ltb-false}
 use Rattle.ls_value.specs.Values.{applied, kept_or_taken}
@@ -20,7 +20,7 @@ use Rattle.ls_event.proofs.Cuts.{touched_cells_length}
 use Rattle.ls_merge.specs.Merge.{Merge, StandsMerge, event_cells, merge_after, stepped, due, is_over, with_event}
 use Rattle.ls_merge.specs.Merge.{within_size}
 use Rattle.ls_merge.specs.Stands.{merge_stands_next}
-use Rattle.ls_merge.specs.Runs.{both, over, said_but_last, merge_run, IsRun}
+use Rattle.ls_merge.specs.Runs.{both, over, says_each, said_but_last, merge_run, IsRun}
 use Rattle.ls_merge.proofs.Sound.{after_row_length}
 
 -- a row and flags after two events are those after what both say together
@@ -96,6 +96,43 @@ said_length fields (x ∷ y ∷ ys) all =
     let rest : length (said_but_last fields (y ∷ ys)) ≡ fields =
     said_length fields (y ∷ ys) (All-tail (λ z. HasFields fields z.event) x (y ∷ ys) all) in
     over_length (event_cells fields x.event) (said_but_last fields (y ∷ ys)) (rest ∙ sym one) ∙ one
+
+-- where a value of each field is said, what was said before adds nothing
+over_each : (cs ds : List Cell) → length cs ≡ length ds → says_each ds ≡ true → over cs ds ≡ ds
+over_each [] [] as_many each = refl
+over_each [] (d ∷ ds) as_many each = absurd (omega (arith, as_many))
+over_each (c ∷ cs) [] as_many each = absurd (omega (arith, as_many))
+over_each (c ∷ cs) (cell.Same ∷ ds) as_many each = absurd (let x : false ≡ true = each in cc)
+over_each (c ∷ cs) (cell.Null ∷ ds) as_many each =
+    ap (λ xs. cell.Null ∷ xs) (over_each cs ds (omega (arith, as_many)) each)
+over_each (c ∷ cs) (cell.Text t ∷ ds) as_many each =
+    ap (λ xs. cell.Text t ∷ xs) (over_each cs ds (omega (arith, as_many)) each)
+
+-- nor do the events before those that say a value of each field
+pub said_settled : (fields : ℕ) (xs : List Stored) (i : ℕ) → i < length xs → All (λ y. HasFields fields y.event) xs
+    → says_each (said_but_last fields (drop i xs)) ≡ true → said_but_last fields (drop i xs) ≡ said_but_last fields xs
+said_settled fields xs zero low all each = refl
+said_settled fields [] (suc i) low all each = absurd (omega (arith, low))
+said_settled fields (x ∷ []) (suc i) low all each = absurd (omega (arith, low))
+said_settled fields (x ∷ y ∷ ys) (suc i) low all each =
+    let one : length (event_cells fields x.event) ≡ fields =
+    event_cells_length fields x.event (All-head (λ z. HasFields fields z.event) x (y ∷ ys) all) in
+    let after : All (λ z. HasFields fields z.event) (y ∷ ys) = All-tail (λ z. HasFields fields z.event) x (y ∷ ys) all in
+    let rest : said_but_last fields (drop i (y ∷ ys)) ≡ said_but_last fields (y ∷ ys) =
+    said_settled fields (y ∷ ys) i (omega (arith, low)) after each in
+    rest ∙ sym (over_each (event_cells fields x.event) (said_but_last fields (y ∷ ys))
+    (one ∙ sym (said_length fields (y ∷ ys) after)) (ap says_each (sym rest) ∙ each))
+
+-- nor do those between an index and them
+pub said_reaches : (fields from at : ℕ) (xs : List Stored) → from ≤ at → at < length xs
+    → All (λ y. HasFields fields y.event) (drop from xs) → says_each (said_but_last fields (drop at xs)) ≡ true
+    → said_but_last fields (drop at xs) ≡ said_but_last fields (drop from xs)
+said_reaches fields from at xs after low all each =
+    let there : drop (at - from) (drop from xs) ≡ drop at xs =
+    drop-drop (at - from) from xs ∙ ap (λ k. drop k xs) {x = from + (at - from)} {y = at} (omega (arith, after)) in
+    ap (said_but_last fields) (sym there)
+    ∙ said_settled fields (drop from xs) (at - from) (omega (arith, length-drop from xs, after, low)) all
+    (ap (λ ys. says_each (said_but_last fields ys)) there ∙ each)
 
 -- what the last event says
 abbrev pub said_last : ℕ → List Stored → List Cell

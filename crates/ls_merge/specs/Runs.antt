@@ -1,5 +1,5 @@
 -- The events of several numbers, which a buffer of size 1 takes at once.
-use Rattle.std.specs.Prelude.{ℕ, List, [], ◌∷◌, replicate, if◌then◌else◌}
+use Rattle.std.specs.Prelude.{ℕ, Bool, true, List, [], ◌∷◌, ◌&&◌, replicate, if◌then◌else◌}
 use Rattle.ls_value.specs.declared.row.Cell.{Cell}
 use Rattle.ls_value.specs.declared.row.Cell.TheVariants as cell
 use Rattle.ls_event.specs.declared.event.Entry.{Entry}
@@ -17,6 +17,11 @@ abbrev pub over : List Cell → List Cell → List Cell
 over [] after = []
 over (c ∷ before) [] = c ∷ before
 over (c ∷ before) (d ∷ after) = both c d ∷ over before after
+
+-- cells say a value of each field
+abbrev pub says_each : List Cell → Bool
+says_each [] = true
+says_each (c ∷ cs) = says c && says_each cs
 
 -- what events say together, without the last one
 abbrev pub said_but_last : ℕ → List Stored → List Cell

@@ -3,7 +3,7 @@ ghost use Rattle.std.specs.Prelude.{◌≡◌, ◌<◌, IfOk, OnOk, length, drop
 ghost use Rattle.ls_value.specs.declared.row.Cell.{Cell as FieldCell};
 ghost use Rattle.ls_event.specs.History.{HasFields};
 ghost use Rattle.ls_merge.specs.Merge.{event_cells};
-ghost use Rattle.ls_merge.specs.Runs.{both, over, said_but_last};
+ghost use Rattle.ls_merge.specs.Runs.{both, over, says_each, said_but_last};
 
 use crate::cells::null_cells;
 use ls_event::{Event, Stored};
@@ -60,7 +60,20 @@ fn under_event(alloc: Global, said: &mut Vec<Cell>, event: &Event) -> Result<(),
     }
 }
 
-/// What the events from an index on say together, without the last one. A field's text is copied once.
+/// Whether cells say a value of each field.
+fn says_each(said: &[Cell]) -> bool
+    ensures { result ≡ says_each said.now }
+{
+    for i in 0..said.len() {
+        if matches!(said[i], Cell::Same) {
+            return false;
+        }
+    }
+    true
+}
+
+/// What the events from an index on say together, without the last one. A field's text is copied once, and no event is
+/// looked at once a later one has said a value of each field.
 pub fn said_but_last(
     alloc: Global,
     events: &VecDeque<Stored>,
@@ -74,7 +87,7 @@ pub fn said_but_last(
 {
     let mut said = same_cells(alloc, fields)?;
     let mut at = events.len() - 1;
-    while at > from {
+    while at > from && !says_each(said.as_slice()) {
         at -= 1;
         under_event(alloc, &mut said, &events[at].event)?;
     }

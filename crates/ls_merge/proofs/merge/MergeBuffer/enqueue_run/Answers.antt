@@ -1,4 +1,4 @@
-use Rattle.std.proofs.Common.{◌≡◌, ℕ, ◌+◌, ◌-◌, ◌<◌, ◌∙◌, List, ◌++◌, ◌∷◌, [], All, ap, arith, length, drop, sym, subst, take, refl}
+use Rattle.std.proofs.Common.{◌≡◌, ℕ, ◌+◌, ◌-◌, ◌∙◌, List, ◌++◌, ◌∷◌, [], All, ap, arith, length, drop, sym, subst, take, refl}
 use Rattle.std.proofs.lemmas.List.Elements.{All-push}
 use Rattle.ls_value.specs.Values.{applied}
 use Rattle.ls_value.specs.declared.row.Cell.{Cell}
